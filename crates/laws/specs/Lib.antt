@@ -3,6 +3,7 @@ pub mod Lists
 pub mod Fold
 pub mod Numbers
 pub mod Stores
+pub mod Answers
 pub mod Keys
 pub mod Count
 pub mod Keyed
