@@ -4,6 +4,7 @@ pub mod Fold
 pub mod Numbers
 pub mod Stores
 pub mod Answers
+pub mod Chop
 pub mod Keys
 pub mod Count
 pub mod Keyed

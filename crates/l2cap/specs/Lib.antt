@@ -1,0 +1,3 @@
+pub mod Pdus
+pub mod Signals
+pub mod Channels

@@ -1,0 +1,81 @@
+-- Sessions and links for each handle, and the pieces of information with the stretch that each belongs to.
+use Prim.Native.Nat.{ℕ, zero, suc, _+_}
+use mathlib.Core.Bool.{Bool, cond, _&&_}
+use mathlib.Core.List.{List, [], _∷_, map}
+use lib.ListN.{length}
+use lib.Dec.{ltb, eqb}
+use Rattle.laws.specs.Keys.{Key}
+use Rattle.laws.specs.Keyed.{Machine, run}
+use Rattle.l2cap.specs.Pdus.{Pdu}
+use Rattle.l2cap.specs.Signals.{Signal, signals}
+use Rattle.l2cap.specs.Channels.{isTried, asksSession}
+use Rattle.rfcomm.specs.Frames.{Uih, Frame, sabm, uih, other, frameOf}
+
+-- what a PDU is once it is judged
+pub data Kind : Type 0 where
+  -- a PSM 3 request: one more session
+  asks : Kind
+  -- SABM on a DLCI: on DLCI 0 one more session, else one more link
+  opens : ℕ → Kind
+  -- UIH with information on a DLCI that is not 0
+  carries : ℕ → List ℕ → Kind
+  passed : Kind
+
+-- DLCI 0 and empty information are passed over
+unfoldable pub uihKind : Uih → Kind
+uihKind u = cond (ltb 0 (u .dlci) && ltb 0 (length (u .information))) (carries (u .dlci) (u .information)) passed
+
+unfoldable pub frameKind : Frame → Kind
+frameKind (sabm e) = opens e
+frameKind (uih u) = uihKind u
+frameKind other = passed
+
+unfoldable pub kindOf : List Signal → Pdu → Kind
+kindOf ss p = cond (asksSession p) asks (cond (isTried ss p) (frameKind (frameOf (p .payload))) passed)
+
+pub record Judged : Type 0 where
+  pub pdu : Pdu
+  pub kind : Kind
+
+-- channels are judged by the signals of the whole file
+unfoldable pub judged : List Pdu → List Judged
+judged ps = map (λ p. record { pdu = p; kind = kindOf (signals ps) p }) ps
+
+-- sessions of a handle, and links of that handle for each DLCI
+pub record Counts : Type 0 where
+  pub sessions : ℕ
+  pub links : ℕ → ℕ
+
+unfoldable pub counted : Counts → Kind → Counts
+counted c asks = record { sessions = suc (c .sessions); links = c .links }
+counted c (opens zero) = record { sessions = suc (c .sessions); links = c .links }
+counted c (opens (suc e)) = record { sessions = c .sessions; links = λ j. cond (eqb j (suc e)) (suc (c .links j)) (c .links j) }
+counted c (carries e i) = c
+counted c passed = c
+
+pub record Piece : Type 0 where
+  pub dlci : ℕ
+  -- the stretch (link, CID, session, link count) and the direction
+  pub key : Key
+  pub rx : ℕ
+  pub time : ℕ
+  pub bytes : List ℕ
+
+unfoldable pub pieceOf : Counts → Pdu → ℕ → List ℕ → Piece
+pieceOf c p e i = record { dlci = e; key = p .link ∷ p .cid ∷ c .sessions ∷ c .links e ∷ p .rx ∷ []; rx = p .rx; time = p .time; bytes = i }
+
+unfoldable pub brought : Counts → Pdu → Kind → List Piece
+brought c p asks = []
+brought c p (opens e) = []
+brought c p (carries e i) = pieceOf c p e i ∷ []
+brought c p passed = []
+
+abbrev pub counting : Machine Judged Piece
+counting = record { S = Counts; key = λ j. j .pdu .link ∷ []; next = λ c j. counted c (j .kind); out = λ c j. brought c (j .pdu) (j .kind) }
+
+abbrev pub noCounts : Key → Counts
+noCounts k = record { sessions = 0; links = λ e. 0 }
+
+-- the pieces of every DLCI, in order
+unfoldable pub pieces : List Judged → List Piece
+pieces js = run counting noCounts js
