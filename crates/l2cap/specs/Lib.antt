@@ -1,3 +1,2 @@
 pub mod Pdus
-pub mod Signals
-pub mod Channels
+pub mod PduTable

@@ -1,1 +1,1 @@
-// L2CAP: PDUs put together from fragments, and what signalling says of channels.
+// L2CAP: PDUs put together from fragments.

@@ -1,2 +1,3 @@
 pub mod Frames
 pub mod Pieces
+pub mod PieceTable

@@ -7,8 +7,8 @@ use lib.Dec.{ltb, eqb}
 use Rattle.laws.specs.Keys.{Key}
 use Rattle.laws.specs.Keyed.{Machine, run}
 use Rattle.l2cap.specs.Pdus.{Pdu}
-use Rattle.l2cap.specs.Signals.{Signal, signals}
-use Rattle.l2cap.specs.Channels.{isTried, asksSession}
+use Rattle.channels.specs.Signals.{Signal, signals}
+use Rattle.channels.specs.Channels.{isTried, asksSession}
 use Rattle.rfcomm.specs.Frames.{Uih, Frame, sabm, uih, other, frameOf}
 
 -- what a PDU is once it is judged

@@ -259,10 +259,11 @@ sum-update w b k (suc n) i y z room h =
     split≡ i n
     (λ m. rw (m, sum-agree (putRow w (b + 4 * n) k y z) w b n (same-below w b n k y z (omega arith)), row-second w (b + 4 * n) k y z (omega arith)) (omega arith))
     (λ m. rw (row-outside w (b + 4 * i) k y z (b + 4 * n + 3) (inr (less m))) (omega (arith, sum-update w b k n i y z (omega arith) (below m)))) where
-  below : (i ≡ n → ⊥) → i < n
-  below m = lt-of i n h m
-  less : (i ≡ n → ⊥) → b + 4 * i + 4 ≤ b + 4 * n + 3
-  less m = omega (arith, below m)
+      below : (i ≡ n → ⊥) → i < n
+      below m = lt-of i n h m
+
+      less : (i ≡ n → ⊥) → b + 4 * i + 4 ≤ b + 4 * n + 3
+      less m = omega (arith, below m)
 
 module _ (w : List ℕ) (b n k y z : ℕ) (fits : 4 * (b + 4 * n) + 16 ≤ length w) where
   pub store-old : (i : ℕ) (f : Row) → f ≡ findIn w b k n → f ≡ At i → (u : List ℕ) → u ≡ putRow w (b + 4 * i) k y z → Stored w b n k y z u n

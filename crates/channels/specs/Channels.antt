@@ -6,8 +6,8 @@ use lib.ListN.{length}
 use lib.Dec.{leb, eqb}
 use Rattle.laws.specs.Keys.{Key, eqK}
 use Rattle.laws.specs.Numbers.{le16}
 use Rattle.l2cap.specs.Pdus.{Pdu}
-use Rattle.l2cap.specs.Signals.{Signal, request, response, triple, code, body, commands}
+use Rattle.channels.specs.Signals.{Signal, request, response, triple, code, body, commands}
 
 unfoldable pub any : {A : Type 0} → (A → Bool) → List A → Bool
 any f [] = false

@@ -1,0 +1,1 @@
+// Signalling: the channels that requests and responses name and admit, and which PDUs are tried.
