@@ -1,3 +1,4 @@
 pub mod Words
 pub mod Front
 pub mod Copies
+pub mod Fields
