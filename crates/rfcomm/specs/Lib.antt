@@ -1,3 +1,4 @@
 pub mod Frames
 pub mod Pieces
 pub mod PieceTable
+pub mod Reading
