@@ -2,3 +2,5 @@ pub mod Frames
 pub mod Pieces
 pub mod PieceTable
 pub mod Reading
+pub mod CountTable
+pub mod PieceRows

@@ -6,6 +6,16 @@ ghost use lib.Dec.{eqb};
 ghost use lib.ListN.{length};
 ghost use Rattle.rfcomm.specs.Frames.{isSabm, isUih};
 ghost use Rattle.rfcomm.specs.Reading.{UihPre, FrameIs, LengthIs};
+ghost use Rattle.rfcomm.specs.CountTable.{valueOf, UpPre};
+ghost use Rattle.rfcomm.specs.PieceRows.{stretchOf, bytesOf, rowOf, PutPre};
+ghost use Rattle.table.specs.Table.{lookup, Stored};
+ghost use Rattle.words.specs.Rows.{putWords};
+use table::find;
+use table::store;
+use table::Row;
+use words::get32;
+use words::put32;
+use words::put64;
 use words::wide;
 
 // A UIH frame in a payload: its DLCI, where its information starts, and its length.
@@ -120,4 +130,79 @@ pub fn read_frame(p: &[u8]) -> Frame
         return read_uih(p);
     }
     Frame::Other
+}
+
+// How often a key was counted.
+fn count_of(w: &[u8], base: usize, rows: usize, key: u64) -> u32
+    requires { ⌜ 4 * (base + 4 * rows) ≤ length (now w) ⌝ }
+    ensures { λ r. ⌜ r ≡ valueOf (lookup (now (w .entry)) base rows key) ⌝ }
+{
+    let x = find(w, base, rows, key);
+    match x {
+        Row::At(i) => get32(w, base + 4 * i + 2),
+        Row::Nothing => 0,
+    }
+}
+
+// Counts a key once more, and returns the count of rows.
+fn count_up(w: &mut [u8], base: usize, rows: usize, key: u64) -> usize
+    requires { ⌜ UpPre (now w) base rows key ⌝ }
+    ensures { λ r. ⌜ Stored (now (w .entry)) base rows key (valueOf (lookup (now (w .entry)) base rows key) + 1) 0 (now (w .exit)) r ⌝ }
+{
+    let n = count_of(w, base, rows, key);
+    store(w, base, rows, key, n + 1, 0)
+}
+
+// A piece: its row's numbers but the time.
+pub struct Part {
+    pub dlci: u32,
+    // 2 * link + direction
+    pub way: u32,
+    pub cid: u32,
+    pub sessions: u32,
+    pub links: u32,
+    pub start: u32,
+    pub len: u32,
+    // 1 if the information lies in work
+    pub joined: u32,
+}
+
+// Two 16-bit numbers in a word.
+fn pair(lo: u32, hi: u32) -> u32
+    requires { ⌜ (lo < 65536) × (hi < 65536) ⌝ }
+    ensures { λ r. ⌜ r ≡ lo + 65536 * hi ⌝ }
+{
+    lo + 65536 * hi
+}
+
+// Writes the first words of a piece's row: DLCI, stretch and direction.
+fn put_stretch(w: &mut [u8], at: usize, p: Part)
+    requires { ⌜ PutPre (now w) at p ⌝ }
+    ensures { λ _. ⌜ now (w .exit) ≡ putWords (now (w .entry)) at (stretchOf p) ⌝ }
+{
+    let counts = pair(p.sessions, p.links);
+    put32(w, at, p.dlci);
+    put32(w, at + 1, p.way);
+    put32(w, at + 2, p.cid);
+    put32(w, at + 3, counts);
+}
+
+// Writes the other words of a piece's row, from word at on: its information and time.
+fn put_bytes(w: &mut [u8], at: usize, start: u32, size: u32, time: u64)
+    requires { ⌜ 4 * at + 16 ≤ length (now w) ⌝ }
+    ensures { λ _. ⌜ now (w .exit) ≡ putWords (now (w .entry)) at (bytesOf start size time) ⌝ }
+{
+    put32(w, at, start);
+    put32(w, at + 1, size);
+    put64(w, at + 2, time);
+}
+
+// Writes the row of a piece at word at.
+fn put_piece(w: &mut [u8], at: usize, p: Part, time: u64)
+    requires { ⌜ PutPre (now w) at p ⌝ }
+    ensures { λ _. ⌜ now (w .exit) ≡ putWords (now (w .entry)) at (rowOf p time) ⌝ }
+{
+    put_stretch(w, at, p);
+    let size = pair(p.len, p.joined);
+    put_bytes(w, at + 4, p.start, size, time);
 }
