@@ -1,0 +1,5 @@
+pub mod Counting
+pub mod Unescaping
+pub mod Places
+pub mod Judging
+pub mod Filling
