@@ -3,3 +3,4 @@ pub mod Unescaping
 pub mod Places
 pub mod Judging
 pub mod Filling
+pub mod Escapes

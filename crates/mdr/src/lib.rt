@@ -609,3 +609,137 @@ pub enum Packed {
     TooLong,
     OutShort(usize),
 }
+
+fn head_of(kind: u8, seq: u8, n: usize) -> [u8; 6]
+    ensures { λ r. ⌜ r ≡ headOf kind seq n ⌝ }
+{
+    [
+        kind,
+        seq,
+        (n / 256 / 256 / 256 % 256) as u8,
+        (n / 256 / 256 % 256) as u8,
+        (n / 256 % 256) as u8,
+        (n % 256) as u8,
+    ]
+}
+
+// Stores a byte at a place, escaped if it must be, and returns the place after it.
+fn put(out: &mut [u8], at: usize, b: u8) -> usize
+    requires { ⌜ at + length (escapeByte b) ≤ length (now out) ⌝ }
+    ensures { λ r. ⌜ Writes (now (out .entry)) at (escapeByte b) r (now (out .exit)) ⌝ }
+{
+    if is_within(b, 0x3C, 0x3E) {
+        out[at] = 0x3D;
+        out[at + 1] = b - 16;
+        return at + 2;
+    }
+    out[at] = b;
+    at + 1
+}
+
+fn escape_few(part: &[u8], out: &mut [u8], from: usize) -> usize
+    requires { ⌜ from + length (escape (now part)) ≤ length (now out) ⌝ }
+    ensures { λ r. ⌜ Writes (now (out .entry)) from (escape (now (part .entry))) r (now (out .exit)) ⌝ }
+{
+    let mut at: usize = from;
+    let mut i: usize = 0;
+    while i < part.len() {
+        at = put(out, at, part[i]);
+        i += 1;
+    }
+    at
+}
+
+fn escape_block(part: &[u8], out: &mut [u8], at: usize) -> usize
+    requires { ⌜ length (now part) ≡ 16 ⌝ }
+    requires { ⌜ at + length (escape (now part)) ≤ length (now out) ⌝ }
+    ensures { λ r. ⌜ Writes (now (out .entry)) at (escape (now (part .entry))) r (now (out .exit)) ⌝ }
+{
+    let t = tally_few(part, 0x3C, 0x3E);
+    if t.hits == 0 {
+        return copy_block(part, out, at);
+    }
+    escape_few(part, out, at)
+}
+
+// Stores the escaped form at a place, and returns the place after it.
+fn escape_at(src: &[u8], out: &mut [u8], from: usize) -> usize
+    requires { ⌜ from + length (escape (now src)) ≤ length (now out) ⌝ }
+    ensures { λ r. ⌜ Writes (now (out .entry)) from (escape (now (src .entry))) r (now (out .exit)) ⌝ }
+{
+    let n = src.len();
+    let mut at: usize = from;
+    let mut i: usize = 0;
+    while 16 <= n - i {
+        let j = i + 16;
+        at = escape_block(&src[i..j], out, at);
+        i = j;
+    }
+    escape_few(&src[i..n], out, at)
+}
+
+fn write_escaped(src: &[u8], bare: bool, out: &mut [u8], at: usize) -> usize
+    requires { ⌜ Bare 0x3C 0x3E (now src) bare ⌝ }
+    requires { ⌜ at + length (escape (now src)) ≤ length (now out) ⌝ }
+    ensures { λ r. ⌜ Writes (now (out .entry)) at (escape (now (src .entry))) r (now (out .exit)) ⌝ }
+{
+    if bare {
+        return copy(src, out, at);
+    }
+    escape_at(src, out, at)
+}
+
+fn put_byte(out: &mut [u8], at: usize, b: u8) -> usize
+    requires { ⌜ at < length (now out) ⌝ }
+    ensures { λ r. ⌜ Writes (now (out .entry)) at (b ∷ []) r (now (out .exit)) ⌝ }
+{
+    out[at] = b;
+    at + 1
+}
+
+fn start_frame(head: &[u8; 6], out: &mut [u8]) -> usize
+    requires { ⌜ 1 + length (escape (now head)) ≤ length (now out) ⌝ }
+    ensures { λ r. ⌜ Writes (now (out .entry)) 0 (0x3E ∷ escape (now (head .entry))) r (now (out .exit)) ⌝ }
+{
+    let at = put_byte(out, 0, 0x3E);
+    escape_few(head, out, at)
+}
+
+fn end_frame(sum: u8, out: &mut [u8], from: usize) -> usize
+    requires { ⌜ from + length (escapeByte sum ++ (0x3C ∷ [])) ≤ length (now out) ⌝ }
+    ensures { λ r. ⌜ Writes (now (out .entry)) from (escapeByte sum ++ (0x3C ∷ [])) r (now (out .exit)) ⌝ }
+{
+    let at = put(out, from, sum);
+    put_byte(out, at, 0x3C)
+}
+
+fn write_frame(head: &[u8; 6], payload: &[u8], bare: bool, sum: u8, out: &mut [u8]) -> usize
+    requires { ⌜ Bare 0x3C 0x3E (now payload) bare ⌝ }
+    requires { ⌜ length (framed (now head) (now payload) sum) ≤ length (now out) ⌝ }
+    ensures { λ r. ⌜ Writes (now (out .entry)) 0 (framed (now (head .entry)) (now (payload .entry)) sum) r (now (out .exit)) ⌝ }
+{
+    let a = start_frame(head, out);
+    let b = write_escaped(payload, bare, out, a);
+    end_frame(sum, out, b)
+}
+
+// Writes a frame to the front of out.
+pub fn pack(kind: u8, seq: u8, payload: &[u8], out: &mut [u8]) -> Packed
+    ensures { λ r. ⌜ Meets (packOf kind seq (now (payload .entry))) (now (out .entry)) (toldPacked r) (now (out .exit)) ⌝ }
+{
+    let n = payload.len();
+    if 32760 < n {
+        return Packed::TooLong;
+    }
+    let head = head_of(kind, seq, n);
+    let h = tally_few(&head, 0x3C, 0x3E);
+    let t = tally(payload, 0x3C, 0x3E);
+    let sum = std::num::wrapping_add_u8(h.sum, t.sum);
+    let more = one_within(sum, 0x3C, 0x3E) as usize;
+    let needed = 9 + n + h.hits + t.hits + more;
+    if out.len() < needed {
+        return Packed::OutShort(needed);
+    }
+    write_frame(&head, payload, t.hits == 0, sum, out);
+    Packed::Wrote(needed)
+}
