@@ -15,7 +15,7 @@ use Rattle.laws.specs.Lists.{flat}
 use Rattle.laws.specs.Stores.{Writes}
 use Rattle.names.specs.Commands.{Entry, t1, t2, nameIn}
 use Rattle.names.specs.Names.{typeName}
-use Rattle.names.specs.Run.{codesOf, namesOf, codes, commands, others, allNames, letters, starts, lens, startsFrom, nameAt, inside, PlaceIs}
+use Rattle.names.specs.Run.{codesOf, namesOf, allCodes, commands, others, allNames, allLetters, allStarts, allLens, startsFrom, nameAt, inside, PlaceIs, Tables}
 use Rattle.names.specs.declared.Place.{Place}
 
 -- ---- the letters from a start on, as many as the length, are the name
@@ -30,8 +30,8 @@ count : length allNames ≡ 246
 unfolding allNames commands others typeName t1 t2
 count = refl
 
-spells : (i : ℕ) → i < 246 → take (getD lens i 0) (drop (getD starts i 0) letters) ≡ nameAt i
-unfolding lens starts letters nameAt
+spells : (i : ℕ) → i < 246 → take (getD allLens i 0) (drop (getD allStarts i 0) allLetters) ≡ nameAt i
+unfolding allLens allStarts allLetters nameAt
 spells i h = spells-from allNames [] i (omega (arith, count))
 
 -- ---- and they stand within the run: the test, computed once, and what it says of each
@@ -43,41 +43,51 @@ inside-at n (s ∷ ss) (l ∷ ls) zero e h = splitB (leb (s + l) n) (λ q. leb-t
 inside-at n (s ∷ ss) (l ∷ ls) (suc i) e h =
     splitB (leb (s + l) n) (λ q. inside-at n ss ls i (rw q at e) (omega arith)) (λ q. no-way e (rw q))
 
-all-inside : inside 4406 starts lens ≡ true
-unfolding starts lens allNames commands others typeName t1 t2
+all-inside : inside 4406 allStarts allLens ≡ true
+unfolding allStarts allLens allNames commands others typeName t1 t2
 all-inside = refl
 
-starts-count : length starts ≡ 246
-unfolding starts allNames commands others typeName t1 t2
+starts-count : length allStarts ≡ 246
+unfolding allStarts allNames commands others typeName t1 t2
 starts-count = refl
 
-letters-count : length letters ≡ 4406
-unfolding letters allNames commands others typeName t1 t2
+letters-count : length allLetters ≡ 4406
+unfolding allLetters allNames commands others typeName t1 t2
 letters-count = refl
 
 -- ---- a place as the code has it
 
-pub place-is : (i start size : ℕ) → i < 246 → (ss ls : List ℕ) → ss ≡ starts → ls ≡ lens → (start ≡ getD ss i 0) × (start < 65536) → (size ≡ getD ls i 0) × (size < 256) → PlaceIs i (record { start = start; end = start + size })
-place-is i start size h ss ls p q r s =
-    let e : start + size - start ≡ getD lens i 0 = rw (← q, ← s .0) (omega arith) in
-    let f : start ≡ getD starts i 0 = rw p at (r .0) in
+pub place-is : (i start size : ℕ) → i < 246 → (ss ls : List ℕ) → (ss ≡ allStarts) × (ls ≡ allLens) → (start ≡ getD ss i 0) × (start < 65536) → (size ≡ getD ls i 0) × (size < 256) → PlaceIs i (record { start = start; end = start + size })
+place-is i start size h ss ls t r s =
+    let e : start + size - start ≡ getD allLens i 0 = rw (← t .1, ← s .0) (omega arith) in
+    let f : start ≡ getD allStarts i 0 = rw (t .0) at (r .0) in
     record {
       order = omega arith;
-      within = omega (arith, inside-at 4406 starts lens i all-inside (omega (arith, starts-count)));
+      within = omega (arith, inside-at 4406 allStarts allLens i all-inside (omega (arith, starts-count)));
       spells = rw (e, f) (spells i h);
     }
 
 module _ (i : ℕ) (p : Place) (is : PlaceIs i p) where
   pub place-long : p .end - p .start ≡ length (nameAt i)
   place-long =
-      sym (length-take-le (p .end - p .start) (drop (p .start) letters) (omega (arith, is .within, length-drop (p .start) letters, letters-count)))
+      sym (length-take-le (p .end - p .start) (drop (p .start) allLetters) (omega (arith, is .within, length-drop (p .start) allLetters, letters-count)))
       ∙ ap length (is .spells)
 
-  pub part-long : (l : List ℕ) → l ≡ letters → length (take (p .end - p .start) (drop (p .start) l)) ≡ length (nameAt i)
+  pub part-long : (l : List ℕ) → l ≡ allLetters → length (take (p .end - p .start) (drop (p .start) l)) ≡ length (nameAt i)
   part-long l q = rw (q, is .spells)
 
-  pub name-written : (d : List ℕ) (at r : ℕ) (e l : List ℕ) → l ≡ letters → Writes d at (take (p .end - p .start) (drop (p .start) l)) r e → Writes d at (nameAt i) r e
+  pub name-written : (d : List ℕ) (at r : ℕ) (e l : List ℕ) → l ≡ allLetters → Writes d at (take (p .end - p .start) (drop (p .start) l)) r e → Writes d at (nameAt i) r e
   name-written d at r e l q w = rw (is .spells) at (rw q at w)
 
-  pub name-same : (t : Bool) (n l : List ℕ) → l ≡ letters → t ≡ eqK (take (p .end - p .start) (drop (p .start) l)) n → t ≡ eqK (nameAt i) n
-  name-same t n l q w = rw (is .spells) at (rw q at w)
+  pub name-same : (t : Bool) (n l ss ls : List ℕ) → Tables l ss ls → t ≡ eqK (take (p .end - p .start) (drop (p .start) l)) n → t ≡ eqK (nameAt i) n
+  name-same t n l ss ls q w = rw (is .spells) at (rw (q .letters) at w)
+
+pub all-long : (l ss ls : List ℕ) → Tables l ss ls → length l ≡ 4406
+all-long l ss ls t = rw (t .letters) letters-count
+
+pub starts-long : (l : List ℕ) → l ≡ allStarts → length l ≡ 246
+starts-long l e = rw e starts-count
+
+pub lens-long : (l : List ℕ) → l ≡ allLens → length l ≡ 246
+unfolding allLens
+lens-long l e = rw (e, length-map allNames length) count

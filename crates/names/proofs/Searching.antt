@@ -6,7 +6,7 @@ use Prim.Native.Nat.{ℕ, zero, suc, _+_, _-_, _/_, _<_, _≤_}
 use native.Mathlib.Omega.{arith}
 use native.Mathlib.Numerals.{add-one}
 use lib.Dec.{ltb, eqb, lit<, lit≤}
-use lib.ListN.{length, getD, take, drop, length-append, length-map, List·getD-append}
+use lib.ListN.{length, getD, take, drop, length-append, List·getD-append, drop-of-length-le}
 use lib.Seq.{take-at, drop-at, getD-append-add, drop-cons}
 use borrow.Author.Tests.{ltb-true, eq-eqb, ne-eqb, lt-ltb, le-ltb}
 use Rattle.laws.specs.Choice.{splitB, split≡, split≤, no-way}
@@ -17,7 +17,7 @@ use Rattle.mdr.specs.Types.{kinds}
 use Rattle.names.specs.Text.{ascii}
 use Rattle.names.specs.Commands.{Entry, t1, t2, nameIn, hasName, isCommandName}
 use Rattle.names.specs.Names.{typeName, tableOf, commandName}
-use Rattle.names.specs.Run.{codesOf, namesOf, codes, commands, others, allNames, nameAt, Spot, rising, indexIn, spotIn, entriesOf}
+use Rattle.names.specs.Run.{codesOf, namesOf, allCodes, commands, others, allNames, nameAt, Spot, rising, indexIn, spotIn, entriesOf}
 use Rattle.names.specs.declared.Frame.{Frame}
 use Rattle.names.specs.declared.Table.{Table}
 
@@ -160,7 +160,7 @@ type-spot k h = record {
 
 -- ---- a table that stands in the run from a place on
 
-module _ (es : List Entry) (first : ℕ) (cs : take (length es) (drop first codes) ≡ codesOf es) (ns : (i : ℕ) → i < length es → nameAt (first + i) ≡ getD (namesOf es) i []) (fits : first + length es ≤ 229) where
+module _ (es : List Entry) (first : ℕ) (cs : take (length es) (drop first allCodes) ≡ codesOf es) (ns : (i : ℕ) → i < length es → nameAt (first + i) ≡ getD (namesOf es) i []) (fits : first + length es ≤ 229) where
   spot-in : (b : ℕ) → Spot (spotIn first (length es) b) (nameIn es b)
   unfolding spotIn
   spot-in b =
@@ -184,12 +184,12 @@ names2 : (i : ℕ) → i < 77 → nameAt (152 + i) ≡ getD (namesOf t2) i []
 unfolding commands
 names2 i h = command-at (152 + i) (omega arith) ∙ rw (← names1-count) (getD-append-add (namesOf t1) (namesOf t2) i [])
 
-codes1 : take 152 (drop 0 codes) ≡ codesOf t1
-unfolding codes t1 t2
+codes1 : take 152 (drop 0 allCodes) ≡ codesOf t1
+unfolding allCodes t1 t2
 codes1 = refl
 
-codes2 : take 77 (drop 152 codes) ≡ codesOf t2
-unfolding codes t1 t2
+codes2 : take 77 (drop 152 allCodes) ≡ codesOf t2
+unfolding allCodes t1 t2
 codes2 = refl
 
 module _ (b r : ℕ) where
@@ -201,30 +201,30 @@ module _ (b r : ℕ) where
   unfolding t2
   spot2 e = rw e (spot-in t2 152 codes2 names2 (lit≤ tt) b)
 
-pub rising1 : rising (take 152 (drop 0 codes)) ≡ true
-unfolding codes t1 t2
+pub rising1 : rising (take 152 (drop 0 allCodes)) ≡ true
+unfolding allCodes t1 t2
 rising1 = refl
 
-pub rising2 : rising (take 77 (drop 152 codes)) ≡ true
-unfolding codes t1 t2
+pub rising2 : rising (take 77 (drop 152 allCodes)) ≡ true
+unfolding allCodes t1 t2
 rising2 = refl
 
 -- ---- the part of the codes that the code looks at
 
-module _ (all : List ℕ) (first count : ℕ) (q : all ≡ codes) where
-  part : take (first + count - first) (drop first all) ≡ take count (drop first codes)
+module _ (all : List ℕ) (first count : ℕ) (q : all ≡ allCodes) where
+  part : take (first + count - first) (drop first all) ≡ take count (drop first allCodes)
   part = let e : first + count - first ≡ count = omega arith in rw (e, q)
 
-  pub part-rises : rising (take count (drop first codes)) ≡ true → rising (take (first + count - first) (drop first all)) ≡ true
+  pub part-rises : rising (take count (drop first allCodes)) ≡ true → rising (take (first + count - first) (drop first all)) ≡ true
   part-rises r = rw part r
 
   pub spot-found : (b i : ℕ) → i ≡ indexIn b (take (first + count - first) (drop first all)) → i < count → first + i ≡ spotIn first count b
   unfolding spotIn
-  spot-found b i e h = let f : i ≡ indexIn b (take count (drop first codes)) = rw part at e in rw (← f, lt-ltb i count h)
+  spot-found b i e h = let f : i ≡ indexIn b (take count (drop first allCodes)) = rw part at e in rw (← f, lt-ltb i count h)
 
   pub spot-none : (b i : ℕ) → i ≡ indexIn b (take (first + count - first) (drop first all)) → count ≤ i → 244 ≡ spotIn first count b
   unfolding spotIn
-  spot-none b i e h = let f : i ≡ indexIn b (take count (drop first codes)) = rw part at e in rw (← f, le-ltb i count h)
+  spot-none b i e h = let f : i ≡ indexIn b (take count (drop first allCodes)) = rw part at e in rw (← f, le-ltb i count h)
 
 -- ---- comparing: what is left is as equal as the whole
 
@@ -271,3 +271,46 @@ module _ (f : Frame) where
   pub command-some : (t : Table) (r : ℕ) → (f .size ≡ 0 → ⊥) → entriesOf t ≡ tableOf (f .kind) → Spot r (nameIn (entriesOf t) (f .first)) → Spot r (commandName f)
   unfolding commandName
   command-some t r h e s = rw (ne-eqb (f .size) 0 h) (rw e at s)
+
+pub command-same : (f : Frame) (i : ℕ) (t : Bool) (name : List ℕ) → Spot i (commandName f) → t ≡ eqK (nameAt i) name → t ≡ eqK (commandName f) name
+command-same f i t name s e = rw (s .is) at e
+
+-- ---- asking name by name: the tables' names from i on have it as the tables have it
+
+unfoldable pub anyOf : List (List ℕ) → List ℕ → Bool
+anyOf [] n = false
+anyOf (l ∷ ls) n = cond (eqK l n) true (anyOf ls n)
+
+any-append : (es : List Entry) (ls : List (List ℕ)) (n : List ℕ) → anyOf (namesOf es ++ ls) n ≡ cond (hasName es n) true (anyOf ls n)
+unfolding anyOf hasName
+any-append [] ls n = refl
+any-append (e ∷ es) ls n = splitB (eqK (e .name) n) (λ q. rw q) (λ q. rw q (any-append es ls n))
+
+any-names : (es : List Entry) (n : List ℕ) → anyOf (namesOf es) n ≡ hasName es n
+unfolding anyOf hasName
+any-names [] n = refl
+any-names (e ∷ es) n = rw (any-names es n)
+
+pub record Asking (name : List ℕ) (i : ℕ) : Type 0 where
+  pub within : i ≤ 229
+  pub same : anyOf (drop i commands) name ≡ isCommandName name
+
+pub asking-start : (name : List ℕ) → Asking name 0
+unfolding commands isCommandName
+asking-start name = record { within = omega arith; same = any-append t1 (namesOf t2) name ∙ rw (any-names t2 name) }
+
+module _ (name : List ℕ) (i : ℕ) (a : Asking name i) (t : Bool) (e : t ≡ eqK (nameAt i) name) (h : i < 229) where
+  here : drop i commands ≡ nameAt i ∷ drop (i + 1) commands
+  here = rw (add-one i, drop-cons commands i [] (omega (arith, commands-count)), command-at i h)
+
+  pub asking-yes : t ≡ true → true ≡ isCommandName name
+  unfolding anyOf
+  asking-yes q = rw (here, ← e, q) at (a .same)
+
+  pub asking-turn : t ≡ false → Asking name (i + 1)
+  unfolding anyOf
+  asking-turn q = record { within = omega arith; same = rw (here, ← e, q) at (a .same) }
+
+pub asking-end : (name : List ℕ) (i : ℕ) → Asking name i → 229 ≤ i → false ≡ isCommandName name
+unfolding anyOf
+asking-end name i a h = rw (drop-of-length-le commands (let g : length commands ≤ i = omega (arith, commands-count) in g)) at (a .same)

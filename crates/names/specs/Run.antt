@@ -21,8 +21,8 @@ abbrev pub namesOf : List Entry → List (List ℕ)
 namesOf es = map (λ (e : Entry). e .name) es
 
 -- the codes of table 1, then those of table 2
-unfoldable pub codes : List ℕ
-codes = codesOf t1 ++ codesOf t2
+unfoldable pub allCodes : List ℕ
+allCodes = codesOf t1 ++ codesOf t2
 
 -- the names of both tables
 unfoldable pub commands : List (List ℕ)
@@ -35,18 +35,18 @@ unfoldable pub allNames : List (List ℕ)
 allNames = commands ++ others
 
 -- one after another
-unfoldable pub letters : List ℕ
-letters = flat allNames
+unfoldable pub allLetters : List ℕ
+allLetters = flat allNames
 
 abbrev pub startsFrom : ℕ → List (List ℕ) → List ℕ
 startsFrom at [] = []
 startsFrom at (l ∷ ls) = at ∷ startsFrom (at + length l) ls
 
-unfoldable pub starts : List ℕ
-starts = startsFrom 0 allNames
+unfoldable pub allStarts : List ℕ
+allStarts = startsFrom 0 allNames
 
-unfoldable pub lens : List ℕ
-lens = map length allNames
+unfoldable pub allLens : List ℕ
+allLens = map length allNames
 
 -- the name with a number
 unfoldable pub nameAt : ℕ → List ℕ
@@ -61,7 +61,13 @@ pub record Spot (i : ℕ) (name : List ℕ) : Type 0 where
 pub record PlaceIs (i : ℕ) (p : Place) : Type 0 where
   pub order : p .start ≤ p .end
   pub within : p .end ≤ 4406
-  pub spells : take (p .end - p .start) (drop (p .start) letters) ≡ nameAt i
+  pub spells : take (p .end - p .start) (drop (p .start) allLetters) ≡ nameAt i
+
+-- the run of letters with its starts and lengths
+pub record Tables (l s n : List ℕ) : Type 0 where
+  pub letters : l ≡ allLetters
+  pub starts : s ≡ allStarts
+  pub lens : n ≡ allLens
 
 -- ---- tests that are computed over a whole table
 
@@ -84,7 +90,7 @@ indexIn b (x ∷ l) = cond (eqb x b) 0 (suc (indexIn b l))
 
 -- the number of a byte's name, where a table's codes and names stand from a place on; of UNKNOWN where the table lacks it
 unfoldable pub spotIn : ℕ → ℕ → ℕ → ℕ
-spotIn first count b = let i = indexIn b (take count (drop first codes)) in cond (ltb i count) (first + i) 244
+spotIn first count b = let i = indexIn b (take count (drop first allCodes)) in cond (ltb i count) (first + i) 244
 
 abbrev pub entriesOf : Table → List Entry
 entriesOf One = t1

@@ -6,8 +6,8 @@ ghost use Prim.Native.Nat.{_+_, _-_, _≤_, _<_};
 ghost use lib.ListN.{length, take, drop, replicate};
 ghost use Rattle.laws.specs.Keys.{eqK};
 ghost use Rattle.laws.specs.Stores.{Writes};
-ghost use Rattle.names.specs.Run.{letters, starts, lens, codes, nameAt, Spot, PlaceIs, rising, indexIn, spotIn, entriesOf};
-ghost use Rattle.names.specs.Commands.{nameIn};
+ghost use Rattle.names.specs.Run.{allLetters, allStarts, allLens, allCodes, nameAt, Spot, PlaceIs, Tables, rising, indexIn, spotIn, entriesOf};
+ghost use Rattle.names.specs.Commands.{nameIn, isCommandName};
 ghost use Rattle.names.specs.Names.{typeName, tableOf, commandName};
 ghost use Rattle.names.specs.Digits.{hexDigit, hex2, decimal, decimal6, DigitCount};
 
@@ -346,25 +346,25 @@ const CODES: [u8; 229] = *b"\
     \xF2\xF3\xF4\xF5\xF6\xF7\xF8\xF9\xFA\xFB\xFC\xFD\xFF";
 
 fn all_letters() -> [u8; 4406]
-    ensures { λ r. ⌜ r ≡ letters ⌝ }
+    ensures { λ r. ⌜ r ≡ allLetters ⌝ }
 {
     LETTERS
 }
 
 fn all_starts() -> [u16; 246]
-    ensures { λ r. ⌜ r ≡ starts ⌝ }
+    ensures { λ r. ⌜ r ≡ allStarts ⌝ }
 {
     STARTS
 }
 
 fn all_lens() -> [u8; 246]
-    ensures { λ r. ⌜ r ≡ lens ⌝ }
+    ensures { λ r. ⌜ r ≡ allLens ⌝ }
 {
     LENS
 }
 
 fn all_codes() -> [u8; 229]
-    ensures { λ r. ⌜ r ≡ codes ⌝ }
+    ensures { λ r. ⌜ r ≡ allCodes ⌝ }
 {
     CODES
 }
@@ -383,18 +383,26 @@ struct Place {
 }
 
 // Where the name with a number stands.
-fn place_of(i: usize) -> Place
+fn place_in(starts: &[u16], lens: &[u8], i: usize) -> Place
+    requires { ⌜ (now starts ≡ allStarts) × (now lens ≡ allLens) ⌝ }
     requires { ⌜ i < 246 ⌝ }
     ensures { λ r. ⌜ PlaceIs i r ⌝ }
 {
-    let starts = all_starts();
-    let lens = all_lens();
     let start = wide16(starts[i]);
     let size = words::wide(lens[i]);
     Place {
         start: start,
         end: start + size,
     }
+}
+
+fn place_of(i: usize) -> Place
+    requires { ⌜ i < 246 ⌝ }
+    ensures { λ r. ⌜ PlaceIs i r ⌝ }
+{
+    let starts = all_starts();
+    let lens = all_lens();
+    place_in(&starts, &lens, i)
 }
 
 fn name_len(i: usize) -> usize
@@ -434,15 +442,16 @@ fn same(a: &[u8], b: &[u8]) -> bool
     true
 }
 
-fn is_name(i: usize, name: &[u8]) -> bool
+// Whether the name with a number is this one.
+fn is_name(letters: &[u8], starts: &[u16], lens: &[u8], i: usize, name: &[u8]) -> bool
+    requires { ⌜ Tables (now letters) (now starts) (now lens) ⌝ }
     requires { ⌜ i < 246 ⌝ }
     ensures { λ r. ⌜ r ≡ eqK (nameAt i) (now (name .entry)) ⌝ }
 {
-    let p = place_of(i);
+    let p = place_in(starts, lens, i);
     let start = p.start;
     let end = p.end;
-    let all = all_letters();
-    same(&all[start..end], name)
+    same(&letters[start..end], name)
 }
 
 // ---- the number of a name
@@ -472,7 +481,7 @@ fn find(codes: &[u8], b: u8) -> usize
 
 fn find_in(first: usize, count: usize, b: u8) -> usize
     requires { ⌜ first + count ≤ 229 ⌝ }
-    requires { ⌜ rising (take count (drop first codes)) ≡ true ⌝ }
+    requires { ⌜ rising (take count (drop first allCodes)) ≡ true ⌝ }
     ensures { λ r. ⌜ r ≡ spotIn first count b ⌝ }
 {
     let all = all_codes();
@@ -522,6 +531,41 @@ fn command_name(f: Frame) -> usize
     }
     let table = table_of(f.kind);
     command_in(table, f.first)
+}
+
+// Whether the command of a frame has this name.
+pub fn is_command(f: Frame, name: &[u8]) -> bool
+    ensures { λ r. ⌜ r ≡ eqK (commandName f) (now (name .entry)) ⌝ }
+{
+    let i = command_name(f);
+    let letters = all_letters();
+    let starts = all_starts();
+    let lens = all_lens();
+    is_name(&letters, &starts, &lens, i, name)
+}
+
+fn any_name(letters: &[u8], starts: &[u16], lens: &[u8], name: &[u8]) -> bool
+    requires { ⌜ Tables (now letters) (now starts) (now lens) ⌝ }
+    ensures { λ r. ⌜ r ≡ isCommandName (now (name .entry)) ⌝ }
+{
+    let mut i = 0;
+    while i < 229 {
+        if is_name(letters, starts, lens, i, name) {
+            return true;
+        }
+        i += 1;
+    }
+    false
+}
+
+// Whether either table has this name.
+pub fn is_command_name(name: &[u8]) -> bool
+    ensures { λ r. ⌜ r ≡ isCommandName (now (name .entry)) ⌝ }
+{
+    let letters = all_letters();
+    let starts = all_starts();
+    let lens = all_lens();
+    any_name(&letters, &starts, &lens, name)
 }
 
 // The number of the name of a type.

@@ -1,4 +1,4 @@
-use Rattle.names.specs.Run.{codes}
+use Rattle.names.specs.Run.{allCodes}
 use Rattle.names.specs.Commands.{t1, t2}
 use mathlib.Core.Path.{refl}
 use borrow.Author.Needs.{needs}
@@ -10,7 +10,7 @@ use Rattle.names.proofs.all_codes.Lts as lts
 
 -- src/lib.rt:1016:1
 returns : tie.Need-returns
-unfolding codes t1 t2
+unfolding allCodes t1 t2
 returns c = refl
 
 pub all-codes-spec : {M : Type 1} → statement M

@@ -1,4 +1,4 @@
-use Rattle.names.specs.Run.{lens, allNames, commands, others}
+use Rattle.names.specs.Run.{allLens, allNames, commands, others}
 use Rattle.names.specs.Names.{typeName}
 use Rattle.names.specs.Commands.{t1, t2}
 use mathlib.Core.Path.{refl}
@@ -11,7 +11,7 @@ use Rattle.names.proofs.all_lens.Lts as lts
 
 -- src/lib.rt:1010:1
 returns : tie.Need-returns
-unfolding lens allNames commands others typeName t1 t2
+unfolding allLens allNames commands others typeName t1 t2
 returns c = refl
 
 pub all-lens-spec : {M : Type 1} → statement M

@@ -1,4 +1,4 @@
-use Rattle.names.specs.Run.{letters, allNames, commands, others}
+use Rattle.names.specs.Run.{allLetters, allNames, commands, others}
 use Rattle.names.specs.Names.{typeName}
 use Rattle.names.specs.Commands.{t1, t2}
 use mathlib.Core.Path.{refl}
@@ -11,7 +11,7 @@ use Rattle.names.proofs.all_letters.Lts as lts
 
 -- src/lib.rt:998:1
 returns : tie.Need-returns
-unfolding letters allNames commands others typeName t1 t2
+unfolding allLetters allNames commands others typeName t1 t2
 returns c = refl
 
 pub all-letters-spec : {M : Type 1} → statement M

@@ -1,4 +1,4 @@
-use Rattle.names.specs.Run.{starts, allNames, commands, others}
+use Rattle.names.specs.Run.{allStarts, allNames, commands, others}
 use Rattle.names.specs.Names.{typeName}
 use Rattle.names.specs.Commands.{t1, t2}
 use mathlib.Core.Path.{refl}
@@ -11,7 +11,7 @@ use Rattle.names.proofs.all_starts.Lts as lts
 
 -- src/lib.rt:1004:1
 returns : tie.Need-returns
-unfolding starts allNames commands others typeName t1 t2
+unfolding allStarts allNames commands others typeName t1 t2
 returns c = refl
 
 pub all-starts-spec : {M : Type 1} → statement M
