@@ -68,10 +68,13 @@ place-is i start size h ss ls t r s =
     }
 
 module _ (i : ℕ) (p : Place) (is : PlaceIs i p) where
-  pub place-long : p .end - p .start ≡ length (nameAt i)
-  place-long =
+  long : p .end - p .start ≡ length (nameAt i)
+  long =
       sym (length-take-le (p .end - p .start) (drop (p .start) allLetters) (omega (arith, is .within, length-drop (p .start) allLetters, letters-count)))
       ∙ ap length (is .spells)
+
+  pub place-long : (p .end - p .start ≡ length (nameAt i)) × (p .end - p .start ≤ 4406)
+  place-long = (long, omega (arith, is .within))
 
   pub part-long : (l : List ℕ) → l ≡ allLetters → length (take (p .end - p .start) (drop (p .start) l)) ≡ length (nameAt i)
   part-long l q = rw (q, is .spells)

@@ -3,3 +3,4 @@ pub mod Digits
 pub mod Commands
 pub mod Names
 pub mod Run
+pub mod Parts

@@ -1,7 +1,7 @@
 -- The name of a fixture: mdr-packet-<ms>-<counter>-<rx|tx>.type-<NAME>-<hex>.seq-<hex>.cmd-<NAME>-<hex>.bin
 use mathlib.Core.Bool.{Bool, cond}
 use mathlib.Core.List.{List, [], _∷_, _++_}
-use Prim.Native.Nat.{ℕ}
+use Prim.Native.Nat.{ℕ, _+_}
 use lib.Dec.{eqb}
 use lib.ListN.{length, getD}
 use Rattle.laws.specs.Answers.{Outcome, gives, refuses}
@@ -53,6 +53,10 @@ frameName ms counter rx f =
     ++ ascii ".seq-" ++ hex2 (f .seq)
     ++ ascii ".cmd-" ++ commandName f ++ ascii "-" ++ hex2 (f .first)
     ++ ascii ".bin"
+
+-- its length: the same both ways
+unfoldable pub nameLen : ℕ → ℕ → Frame → ℕ
+nameLen ms counter f = 43 + length (decimal ms) + length (decimal6 counter) + length (typeName (typeOf (f .kind))) + length (commandName f)
 
 -- the frame that unpacking gives: its first two values are type and sequence number
 abbrev pub frameOf : List ℕ → List ℕ → Frame

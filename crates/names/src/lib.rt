@@ -1,4 +1,5 @@
 // Names of fixtures: both command tables, the names of the types, digits.
+use items::Direction;
 use mdr::DataType;
 ghost use mathlib.Core.Path.{_≡_};
 ghost use mathlib.Core.Bool.{true};
@@ -8,7 +9,9 @@ ghost use Rattle.laws.specs.Keys.{eqK};
 ghost use Rattle.laws.specs.Stores.{Writes};
 ghost use Rattle.names.specs.Run.{allLetters, allStarts, allLens, allCodes, nameAt, Spot, PlaceIs, Tables, rising, indexIn, spotIn, entriesOf};
 ghost use Rattle.names.specs.Commands.{nameIn, isCommandName};
-ghost use Rattle.names.specs.Names.{typeName, tableOf, commandName};
+ghost use Rattle.names.specs.Names.{typeName, tableOf, commandName, wayName, frameName, nameLen};
+ghost use Rattle.names.specs.Parts.{headOf, headLen, partOf, partLen, typePart, typeLen, seqPart, commandPart, commandLen, NameLen};
+ghost use Rattle.items.specs.Items.{rxOf};
 ghost use Rattle.names.specs.Digits.{hexDigit, hex2, decimal, decimal6, DigitCount};
 
 // What a look at a frame tells: its type byte, its sequence number, its payload's length, and the payload's first byte,
@@ -407,7 +410,7 @@ fn place_of(i: usize) -> Place
 
 fn name_len(i: usize) -> usize
     requires { ⌜ i < 246 ⌝ }
-    ensures { λ r. ⌜ r ≡ length (nameAt i) ⌝ }
+    ensures { λ r. ⌜ (r ≡ length (nameAt i)) × (r ≤ 4406) ⌝ }
 {
     let p = place_of(i);
     p.end - p.start
@@ -672,4 +675,93 @@ fn put_counter(out: &mut [u8], at: usize, n: u32) -> usize
     let z = missing(decimal_len(n));
     let to = put_zeros(out, at, z);
     put_decimal(out, to, n)
+}
+
+// ---- the name of a frame
+
+fn put_way(out: &mut [u8], at: usize, direction: Direction) -> usize
+    requires { ⌜ at + 2 ≤ length (now out) ⌝ }
+    ensures { λ r. ⌜ Writes (now (out .entry)) at (wayName (rxOf direction)) r (now (out .exit)) ⌝ }
+{
+    match direction {
+        Direction::Rx => words::copy_to(b"rx", out, at),
+        Direction::Tx => words::copy_to(b"tx", out, at),
+    }
+}
+
+fn put_head(out: &mut [u8], at: usize, ms: u64, counter: u32, direction: Direction) -> usize
+    requires { ⌜ at + headLen ms counter ≤ length (now out) ⌝ }
+    ensures { λ r. ⌜ Writes (now (out .entry)) at (headOf ms counter (rxOf direction)) r (now (out .exit)) ⌝ }
+{
+    let a = words::copy_to(b"mdr-packet-", out, at);
+    let b = put_decimal(out, a, ms);
+    let c = words::copy_to(b"-", out, b);
+    let d = put_counter(out, c, counter);
+    let e = words::copy_to(b"-", out, d);
+    put_way(out, e, direction)
+}
+
+// A label, the name with a number, and a byte.
+fn put_part(out: &mut [u8], at: usize, label: &[u8], i: usize, b: u8) -> usize
+    requires { ⌜ i < 246 ⌝ }
+    requires { ⌜ at + partLen (now label) (nameAt i) ≤ length (now out) ⌝ }
+    ensures { λ r. ⌜ Writes (now (out .entry)) at (partOf (now (label .entry)) (nameAt i) b) r (now (out .exit)) ⌝ }
+{
+    let p = words::copy_to(label, out, at);
+    let q = put_name(out, p, i);
+    let r = words::copy_to(b"-", out, q);
+    put_hex(out, r, b)
+}
+
+fn put_type(out: &mut [u8], at: usize, kind: u8) -> usize
+    requires { ⌜ at + typeLen kind ≤ length (now out) ⌝ }
+    ensures { λ r. ⌜ Writes (now (out .entry)) at (typePart kind) r (now (out .exit)) ⌝ }
+{
+    let i = data_type_name(mdr::from_wire(kind));
+    put_part(out, at, b".type-", i, kind)
+}
+
+fn put_seq(out: &mut [u8], at: usize, seq: u8) -> usize
+    requires { ⌜ at + 7 ≤ length (now out) ⌝ }
+    ensures { λ r. ⌜ Writes (now (out .entry)) at (seqPart seq) r (now (out .exit)) ⌝ }
+{
+    let p = words::copy_to(b".seq-", out, at);
+    put_hex(out, p, seq)
+}
+
+fn put_command(out: &mut [u8], at: usize, f: Frame) -> usize
+    requires { ⌜ at + commandLen f ≤ length (now out) ⌝ }
+    ensures { λ r. ⌜ Writes (now (out .entry)) at (commandPart f) r (now (out .exit)) ⌝ }
+{
+    let i = command_name(f);
+    put_part(out, at, b".cmd-", i, f.first)
+}
+
+// Writes a frame's name at a place, and returns the place after it.
+pub fn put_frame_name(
+    out: &mut [u8],
+    at: usize,
+    ms: u64,
+    counter: u32,
+    direction: Direction,
+    f: Frame,
+) -> usize
+    requires { ⌜ at + nameLen ms counter f ≤ length (now out) ⌝ }
+    ensures { λ r. ⌜ Writes (now (out .entry)) at (frameName ms counter (rxOf direction) f) r (now (out .exit)) ⌝ }
+{
+    let a = put_head(out, at, ms, counter, direction);
+    let b = put_type(out, a, f.kind);
+    let c = put_seq(out, b, f.seq);
+    let d = put_command(out, c, f);
+    words::copy_to(b".bin", out, d)
+}
+
+// How long a frame's name is.
+pub fn frame_name_len(ms: u64, counter: u32, f: Frame) -> usize
+    ensures { λ r. ⌜ NameLen ms counter f r ⌝ }
+{
+    let i = data_type_name(mdr::from_wire(f.kind));
+    let j = command_name(f);
+    let k = decimal_len(counter as u64);
+    43 + decimal_len(ms) + missing(k) + k + name_len(i) + name_len(j)
 }
