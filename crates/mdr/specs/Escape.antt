@@ -5,13 +5,17 @@ use mathlib.Core.Bool.{Bool, true, false, cond}
 use lib.Dec.{leb, eqb}
 use Rattle.laws.specs.Answers.{Outcome, gives, refuses}
 
+-- a byte between two values
+unfoldable pub within : ℕ → ℕ → ℕ → Bool
+within lo hi b = cond (leb lo b) (leb b hi) false
+
 -- 3C, 3D, 3E
-unfoldable pub special : ℕ → Bool
-special b = cond (leb 0x3C b) (leb b 0x3E) false
+abbrev pub special : ℕ → Bool
+special b = within 0x3C 0x3E b
 
 -- 2C, 2D, 2E
-unfoldable pub escapee : ℕ → Bool
-escapee b = cond (leb 0x2C b) (leb b 0x2E) false
+abbrev pub escapee : ℕ → Bool
+escapee b = within 0x2C 0x2E b
 
 abbrev pub escapeByte : ℕ → List ℕ
 escapeByte b = cond (special b) (0x3D ∷ (b - 0x10) ∷ []) (b ∷ [])

@@ -5,7 +5,7 @@ use mathlib.Core.List.{List, [], _∷_}
 use Rattle.laws.specs.Numbers.{be32}
 use Rattle.laws.specs.Answers.{Outcome, gives, refuses}
 use Rattle.mdr.specs.Sum.{checksumOf}
-use Rattle.mdr.specs.Escape.{special, escapee, escape}
+use Rattle.mdr.specs.Escape.{within, escape}
 use Rattle.mdr.specs.Frame.{judged, unpackOf}
 
 pub examples :
@@ -17,10 +17,10 @@ pub examples :
     × (unpackOf (0x3E ∷ 0x3D ∷ 0x2C ∷ 0x00 ∷ 0x00 ∷ 0x00 ∷ 0x00 ∷ 0x00 ∷ 0x3C ∷ []) ≡ refuses 15 [])
     × (unpackOf (0x3E ∷ 0x01 ∷ 0x00 ∷ 0x00 ∷ 0x00 ∷ 0x00 ∷ 0x01 ∷ 0x02 ∷ 0x3C ∷ []) ≡ refuses 16 (1 ∷ 0 ∷ []))
     × (unpackOf (0x3E ∷ 0x01 ∷ 0x00 ∷ 0x00 ∷ 0x00 ∷ 0x00 ∷ 0x00 ∷ 0x02 ∷ 0x3C ∷ []) ≡ refuses 17 (2 ∷ 1 ∷ []))
-unfolding unpackOf judged escapee checksumOf be32
+unfolding unpackOf judged within checksumOf be32
 examples = (refl, refl, refl, refl, refl, refl, refl, refl)
 
 -- the three bytes that are escaped, between two that are not
 pub escapes : escape (0x3B ∷ 0x3C ∷ 0x3D ∷ 0x3E ∷ 0x3F ∷ []) ≡ 0x3B ∷ 0x3D ∷ 0x2C ∷ 0x3D ∷ 0x2D ∷ 0x3D ∷ 0x2E ∷ 0x3F ∷ []
-unfolding special
+unfolding within
 escapes = refl

@@ -13,7 +13,7 @@ use Rattle.laws.specs.Answers.{Outcome, gives, refuses, isGiven}
 use Rattle.mdr.specs.Sum.{checksumOf}
 use Rattle.mdr.specs.Escape.{escape, unescape}
 use Rattle.mdr.specs.Frame.{headOf, summedOf, bodyOf, packed, declaredOf, lastOf, computedOf, payloadOf, judged, bodied, unpackOf, unpacksOf}
-use Rattle.mdr.specs.Escaping.{Quiet, escape-quiet, specials, specials-most, escape-length, unescape-escape}
+use Rattle.mdr.specs.Escaping.{Quiet, escape-quiet, specials, count-most, escape-length, unescape-escape}
 
 -- ---- a body that is judged a frame, a wire that is judged by its body
 
@@ -80,7 +80,7 @@ module _ (t q : ℕ) (p : List ℕ) where
   packed-least = omega (arith, packed-length)
 
   pub packed-most : length (packed t q p) ≤ 2 + 2 * (7 + length p)
-  packed-most = omega (arith, packed-length, specials-most (bodyOf t q p), body-length t q p)
+  packed-most = omega (arith, packed-length, count-most 0x3C 0x3E (bodyOf t q p), body-length t q p)
 
   -- unpacking a packed frame gives the frame
   pub round-trip : length p < 4294967296 → unpackOf (packed t q p) ≡ gives (t ∷ q ∷ length p ∷ []) p
