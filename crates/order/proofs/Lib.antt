@@ -1,0 +1,3 @@
+pub mod Sorting
+pub mod Names
+pub mod Reading

@@ -1,0 +1,58 @@
+-- Merging sorted halves is sorting, for any test that is total and transitive.
+use mathlib.Core.Path.{_≡_, refl, sym, ap, _∙_}
+use mathlib.Core.Bool.{Bool, true, false, cond}
+use mathlib.Core.List.{List, [], _∷_, _++_, map}
+use Rattle.laws.specs.Choice.{splitB, no-way}
+use Rattle.order.specs.Sort.{insert, isort, merge}
+
+module _ {A : Type 0} (le : A → A → Bool) where
+  pub merge-nil : (a : List A) → merge le a [] ≡ a
+  unfolding merge
+  merge-nil [] = refl
+  merge-nil (x ∷ a) = refl
+
+  single : (x : A) (b : List A) → insert le x b ≡ merge le (x ∷ []) b
+  unfolding insert merge
+  single x [] = refl
+  single x (y ∷ b) = rw (single x b)
+
+  module _ (trans : (x y z : A) → le x y ≡ true → le y z ≡ true → le x z ≡ true) (total : (x y : A) → le x y ≡ false → le y x ≡ true) where
+    go : (x z : A) (a : List A) (y : A) (b : List A) (p q r : Bool) → le x z ≡ p → le z y ≡ q → le x y ≡ r
+        → insert le x (merge le a (y ∷ b)) ≡ merge le (insert le x a) (y ∷ b) → insert le x (merge le (z ∷ a) b) ≡ merge le (insert le x (z ∷ a)) b
+        → insert le x (merge le (z ∷ a) (y ∷ b)) ≡ merge le (insert le x (z ∷ a)) (y ∷ b)
+    unfolding insert merge
+    go x z a y b true true true e f g h k = simp (e, f, g)
+    go x z a y b true true false e f g h k = no-way (trans x z y e f) g
+    go x z a y b true false true e f g h k = simp (e, f, g)
+    go x z a y b true false false e f g h k = simp (e, f, g) (ap (λ (l : List A). y ∷ l) (simp e at k))
+    go x z a y b false true r e f g h k = simp (e, f) (ap (λ (l : List A). z ∷ l) h)
+    go x z a y b false false true e f g h k = no-way (trans x y z g (total z y f)) e
+    go x z a y b false false false e f g h k = simp (e, f, g) (ap (λ (l : List A). y ∷ l) (simp e at k))
+
+    merge-insert : (x : A) (a b : List A) → insert le x (merge le a b) ≡ merge le (insert le x a) b
+    unfolding insert merge
+    merge-insert x [] b = single x b
+    merge-insert x (z ∷ a) [] = ap (insert le x) (merge-nil (z ∷ a)) ∙ sym (merge-nil (insert le x (z ∷ a)))
+    merge-insert x (z ∷ a) (y ∷ b) = go x z a y b (le x z) (le z y) (le x y) refl refl refl (merge-insert x a (y ∷ b)) (merge-insert x (z ∷ a) b)
+
+    -- the sort of two parts is the merge of their sorts
+    pub isort-append : (a b : List A) → isort le (a ++ b) ≡ merge le (isort le a) (isort le b)
+    unfolding isort merge
+    isort-append [] b = refl
+    isort-append (x ∷ a) b = ap (insert le x) (isort-append a b) ∙ merge-insert x (isort le a) (isort le b)
+
+-- ---- sorting by what f makes of the elements is sorting what f makes of them
+
+module _ {A B : Type 0} (le : B → B → Bool) (f : A → B) where
+  abbrev pub by : A → A → Bool
+  by x y = le (f x) (f y)
+
+  map-insert : (x : A) (l : List A) → map f (insert by x l) ≡ insert le (f x) (map f l)
+  unfolding insert
+  map-insert x [] = refl
+  map-insert x (y ∷ l) = splitB (le (f x) (f y)) (λ e. rw e) (λ e. rw (e, map-insert x l))
+
+  pub map-isort : (l : List A) → map f (isort by l) ≡ isort le (map f l)
+  unfolding isort
+  map-isort [] = refl
+  map-isort (x ∷ l) = map-insert x (isort by l) ∙ ap (insert le (f x)) (map-isort l)
