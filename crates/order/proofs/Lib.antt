@@ -1,3 +1,4 @@
 pub mod Sorting
 pub mod Names
 pub mod Reading
+pub mod Places

@@ -41,6 +41,47 @@ module _ {A : Type 0} (le : A → A → Bool) where
     isort-append [] b = refl
     isort-append (x ∷ a) b = ap (insert le x) (isort-append a b) ∙ merge-insert x (isort le a) (isort le b)
 
+-- ---- a sorted list rises, so two of them that meet in order are merged as they stand
+
+pub data Rising {A : Type 0} (le : A → A → Bool) : List A → Type 0 where
+  rise-nil : Rising le []
+  rise-one : {x : A} → Rising le (x ∷ [])
+  rise-more : {x y : A} {l : List A} → le x y ≡ true → Rising le (y ∷ l) → Rising le (x ∷ y ∷ l)
+
+module _ {A : Type 0} (le : A → A → Bool) (trans : (x y z : A) → le x y ≡ true → le y z ≡ true → le x z ≡ true) (total : (x y : A) → le x y ≡ false → le y x ≡ true) where
+  rise-insert : (x : A) (l : List A) → Rising le l → Rising le (insert le x l)
+  unfolding insert
+  rise-insert x [] r = rise-one
+  rise-insert x (y ∷ []) r = splitB (le x y) (λ e. rw e (rise-more e r)) (λ e. rw e (rise-more (total x y e) rise-one))
+  rise-insert x (y ∷ z ∷ l) (rise-more q r) =
+      splitB (le x y)
+      (λ e. rw e (rise-more e (rise-more q r)))
+      (λ e. splitB (le x z)
+      (λ f. rw (e, f) (rise-more (total x y e) (rise-more f r)))
+      (λ f. rw (e, f) (rise-more q (rw f at (rise-insert x (z ∷ l) r)))))
+
+  rise-isort : (l : List A) → Rising le (isort le l)
+  unfolding isort
+  rise-isort [] = rise-nil
+  rise-isort (x ∷ l) = rise-insert x (isort le l) (rise-isort l)
+
+  first-last : (x : A) (k : List A) (a : A) → Rising le (x ∷ k ++ (a ∷ [])) → le x a ≡ true
+  first-last x [] a (rise-more q r) = q
+  first-last x (y ∷ k) a (rise-more q r) = trans x y a q (first-last y k a r)
+
+  rest : (x : A) (l : List A) → Rising le (x ∷ l) → Rising le l
+  rest x [] r = rise-nil
+  rest x (y ∷ l) (rise-more q r) = r
+
+  meet : (k : List A) (a y : A) (b : List A) → Rising le (k ++ (a ∷ [])) → le a y ≡ true → merge le (k ++ (a ∷ [])) (y ∷ b) ≡ (k ++ (a ∷ [])) ++ (y ∷ b)
+  unfolding merge
+  meet [] a y b r q = rw q
+  meet (x ∷ k) a y b r q = rw (trans x a y (first-last x k a r) q, meet k a y b (rest x (k ++ (a ∷ [])) r) q)
+
+  -- the last of the first part, a, does not come after the first of the second, y
+  pub merge-met : (l k : List A) (a y : A) (b : List A) → isort le l ≡ k ++ (a ∷ []) → le a y ≡ true → merge le (isort le l) (y ∷ b) ≡ isort le l ++ (y ∷ b)
+  merge-met l k a y b e q = rw e (meet k a y b (rw e at (rise-isort l)) q)
+
 -- ---- sorting by what f makes of the elements is sorting what f makes of them
 
 module _ {A B : Type 0} (le : B → B → Bool) (f : A → B) where

@@ -1,12 +1,15 @@
 // Fixture names in the order in which their frames crossed the link.
 ghost use mathlib.Core.Path.{_≡_};
-ghost use Prim.Native.Nat.{_+_, _*_, _≤_, _<_};
+ghost use Prim.Native.Nat.{_+_, _*_, _/_, _≤_, _<_};
 ghost use lib.ListN.{length, take, drop};
 ghost use Rattle.laws.specs.Keys.{eqK};
 ghost use Rattle.order.specs.Counter.{mark, toHyphen, digits, number, signed, within, counter, rank, leBytes, leName};
-ghost use Rattle.order.specs.Steps.{After};
+ghost use Rattle.order.specs.Steps.{After, nameAt, leftFirst, words, Copies, Merges, Sorts};
 use words::get_le32;
+use words::get32;
+use words::put32;
 use words::wide;
+use words::wide32;
 
 // Whether a name begins with `mdr-packet-`.
 fn is_marked(s: &[u8]) -> bool
@@ -134,4 +137,89 @@ fn name_le(a: &[u8], b: &[u8]) -> bool
         return p < q;
     }
     bytes_le(a, b)
+}
+
+// ---- places of names, as words in the output, sorted
+
+// The name at a place of a list, as much of it as is there.
+fn name_of<'a>(names: &'a [u8], place: u32) -> &'a [u8]
+    ensures { λ r. ⌜ now r ≡ nameAt (now (names .entry)) place ⌝ }
+{
+    let at = wide32(place);
+    let end = names.len();
+    let start = at + 6;
+    if end < start {
+        return &names[end..end];
+    }
+    let size = wide32(get_le32(names, at));
+    if end - start < size {
+        return &names[start..end];
+    }
+    &names[start..start + size]
+}
+
+// Whether the place a is next, before the word number k of those that end before the word number end.
+fn is_left(names: &[u8], out: &[u8], a: u32, k: usize, end: usize) -> bool
+    requires { ⌜ 4 * end ≤ length (now out) ⌝ }
+    ensures { λ r. ⌜ r ≡ leftFirst (now (names .entry)) (now (out .entry)) a k end ⌝ }
+{
+    if end <= k {
+        return true;
+    }
+    let b = get32(out, k);
+    name_le(name_of(names, a), name_of(names, b))
+}
+
+// Copies n words from lo on to the words from top on.
+fn copy_words(out: &mut [u8], lo: usize, n: usize, top: usize)
+    requires { ⌜ (lo + n ≤ top) × (4 * (top + n) ≤ length (now out)) ⌝ }
+    ensures { λ _. ⌜ Copies lo n top (now (out .entry)) (now (out .exit)) ⌝ }
+{
+    let mut i = 0;
+    while i < n {
+        let a = get32(out, lo + i);
+        put32(out, top + i, a);
+        i += 1;
+    }
+}
+
+// Merges the h words from top on and the m words behind h from lo on, to the words from lo on.
+fn merge_words(names: &[u8], out: &mut [u8], lo: usize, h: usize, m: usize, top: usize)
+    requires { ⌜ (lo + h + m ≤ top) × (4 * (top + h) ≤ length (now out)) ⌝ }
+    ensures { λ _. ⌜ Merges (now (names .entry)) lo h m top (now (out .entry)) (now (out .exit)) ⌝ }
+{
+    let mut i = 0;
+    let mut j = 0;
+    while i < h {
+        let a = get32(out, top + i);
+        if is_left(names, out, a, lo + h + j, lo + h + m) {
+            put32(out, lo + i + j, a);
+            i += 1;
+            continue;
+        }
+        let b = get32(out, lo + h + j);
+        put32(out, lo + i + j, b);
+        j += 1;
+    }
+}
+
+// Sorts the n words from lo on by the names at their places. The words from top on are free. Halves that meet in order
+// stay as they are, so a list that is in order takes n comparisons.
+fn sort(names: &[u8], out: &mut [u8], lo: usize, n: usize, top: usize)
+    requires { ⌜ (lo + n ≤ top) × (4 * (top + n / 2) ≤ length (now out)) ⌝ }
+    ensures { λ _. ⌜ Sorts (now (names .entry)) lo n top (now (out .entry)) (now (out .exit)) ⌝ }
+{
+    if n < 2 {
+        return;
+    }
+    let h = n / 2;
+    let m = n - h;
+    sort(names, out, lo, h, top);
+    sort(names, out, lo + h, m, top);
+    let a = get32(out, lo + h - 1);
+    if is_left(names, out, a, lo + h, lo + n) {
+        return;
+    }
+    copy_words(out, lo, h, top);
+    merge_words(names, out, lo, h, m, top);
 }
