@@ -66,7 +66,7 @@ words-put : (w : List ℕ) (p v i n : ℕ) → (p < i) ⊎ (i + n ≤ p) → wor
 words-put w p v i n h = words-same w (putWord w p v) i n (λ j a b. word-put-other w p v j (λ e. ⊎-elim (λ x. omega arith) (λ x. omega arith) h))
 
 -- the word after those that are there
-words-more : (w : List ℕ) (i n v : ℕ) → 4 * (i + n) + 4 ≤ length w → words (putWord w (i + n) v) i (n + 1) ≡ words w i n ++ (v ∷ [])
+pub words-more : (w : List ℕ) (i n v : ℕ) → 4 * (i + n) + 4 ≤ length w → words (putWord w (i + n) v) i (n + 1) ≡ words w i n ++ (v ∷ [])
 words-more w i n v h =
     words-snoc (putWord w (i + n) v) i n
     ∙ rw (words-put w (i + n) v i n (inr (omega arith)), word-put-same w (i + n) v h)

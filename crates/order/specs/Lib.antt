@@ -1,3 +1,4 @@
 pub mod Counter
 pub mod Sort
+pub mod Order
 pub mod Steps

@@ -2,12 +2,14 @@
 use mathlib.Core.Path.{_≡_}
 use mathlib.Core.Bool.{Bool, true, cond}
 use mathlib.Core.Logic.{_⊎_}
-use mathlib.Core.List.{List, [], _∷_}
+use mathlib.Core.List.{List, [], _∷_, map}
 use Prim.Native.Nat.{ℕ, zero, suc, _+_, _<_, _≤_}
 use lib.Dec.{leb}
 use lib.ListN.{length, take, drop}
 use Rattle.laws.specs.Numbers.{le32}
 use Rattle.words.specs.Words.{word}
+use Rattle.items.specs.Items.{nameTest, nameList}
+use Rattle.items.specs.Walks.{namesFrom, Good}
 use Rattle.order.specs.Counter.{afterHyphen, leName}
 use Rattle.order.specs.Sort.{isort, merge}
 
@@ -51,3 +53,20 @@ pub record Merges (l : List ℕ) (lo h m top : ℕ) (w u : List ℕ) : Type 0 wh
 pub record Sorts (l : List ℕ) (lo n top : ℕ) (w u : List ℕ) : Type 0 where
   pub sorted : words u lo n ≡ isort (leAt l) (words w lo n)
   pub kept : Kept lo (lo + n) top w u
+
+-- a list of n names that was checked, and an output of its length
+pub record Lent (l : List ℕ) (n : ℕ) (w : List ℕ) : Type 0 where
+  pub good : Good nameTest l n
+  pub long : length w ≡ length l
+
+-- the names at the places in the first n words
+unfoldable pub namesAt : List ℕ → ℕ → List ℕ → List (List ℕ)
+namesAt l n w = map (nameAt l) (words w 0 n)
+
+-- the places of all names of a list stand in the first n words
+pub record Placed (l : List ℕ) (n : ℕ) (w : List ℕ) : Type 0 where
+  pub places : namesAt l n w ≡ namesFrom l 0
+
+-- the names at the places in the first n words fill the output
+pub record Fills (l : List ℕ) (n : ℕ) (w : List ℕ) : Type 0 where
+  pub fills : length (nameList (namesAt l n w)) ≡ length w

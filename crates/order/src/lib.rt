@@ -4,10 +4,28 @@ ghost use Prim.Native.Nat.{_+_, _*_, _/_, _≤_, _<_};
 ghost use lib.ListN.{length, take, drop};
 ghost use Rattle.laws.specs.Keys.{eqK};
 ghost use Rattle.order.specs.Counter.{mark, toHyphen, digits, number, signed, within, counter, rank, leBytes, leName};
-ghost use Rattle.order.specs.Steps.{After, nameAt, leftFirst, words, Copies, Merges, Sorts};
+ghost use Rattle.order.specs.Steps.{After, nameAt, leftFirst, words, Copies, Merges, Sorts, Lent, namesAt, Placed, Fills};
+ghost use Rattle.order.specs.Sort.{isort};
+ghost use Rattle.order.specs.Order.{captureOrder, toldOrdered};
+ghost use Rattle.items.specs.Items.{nameList};
+ghost use Rattle.items.specs.Walks.{namesFrom};
+ghost use Rattle.laws.specs.Answers.{Meets};
 use words::get_le32;
 use words::get32;
 use words::put32;
+use items::Checked;
+use items::Listing;
+use items::check;
+use items::name_at;
+use items::put_item;
+
+// What ordering answers: the length of the list written; the offset at which the list of names is ill-formed; the length
+// that the output would need.
+pub enum Ordered {
+    Wrote(usize),
+    IllFormed(usize),
+    OutShort(usize),
+}
 use words::wide;
 use words::wide32;
 
@@ -222,4 +240,66 @@ fn sort(names: &[u8], out: &mut [u8], lo: usize, n: usize, top: usize)
     }
     copy_words(out, lo, h, top);
     merge_words(names, out, lo, h, m, top);
+}
+
+// ---- the list written
+
+// Puts the places of the names of a list into the first words.
+fn place_names(names: &[u8], out: &mut [u8], n: usize)
+    requires { ⌜ Lent (now names) n (now out) ⌝ }
+    ensures { λ _. ⌜ Placed (now (names .entry)) n (now (out .exit)) ⌝ }
+{
+    let mut at = 0;
+    let mut i = 0;
+    while at < names.len() {
+        let name = name_at(names, at);
+        put32(out, i, at as u32);
+        at = name.end;
+        i += 1;
+    }
+}
+
+// Writes the names at the places in the first n words as items, the last first. They fill the output, and an item is longer
+// than a word, so that no place is written over before it is read.
+fn write_names(names: &[u8], out: &mut [u8], n: usize)
+    requires { ⌜ Fills (now names) n (now out) ⌝ }
+    ensures { λ _. ⌜ now (out .exit) ≡ nameList (namesAt (now (names .entry)) n (now (out .entry))) ⌝ }
+{
+    let mut i = n;
+    let mut to = out.len();
+    while 0 < i {
+        i -= 1;
+        let place = get32(out, i);
+        let name = name_of(names, place);
+        to = to - 6 - name.len();
+        put_item(out, to, 3, name);
+    }
+}
+
+// The names of a checked list of n names, in order, in an output of its length. Half as many words again are free behind the
+// places, since an item takes 6 bytes or more.
+fn arrange(names: &[u8], out: &mut [u8], n: usize)
+    requires { ⌜ Lent (now names) n (now out) ⌝ }
+    ensures { λ _. ⌜ now (out .exit) ≡ nameList (isort leName (namesFrom (now (names .entry)) 0)) ⌝ }
+{
+    place_names(names, out, n);
+    sort(names, out, 0, n, n);
+    write_names(names, out, n);
+}
+
+// Writes a list of names in the order in which their frames crossed the link.
+pub fn capture_order(names: &[u8], out: &mut [u8]) -> Ordered
+    ensures { λ r. ⌜ Meets (captureOrder (now (names .entry))) (now (out .entry)) (toldOrdered r) (now (out .exit)) ⌝ }
+{
+    match check(names, Listing::Names) {
+        Checked::Ill(at) => Ordered::IllFormed(at),
+        Checked::Well(n) => {
+            let need = names.len();
+            if out.len() < need {
+                return Ordered::OutShort(need);
+            }
+            arrange(names, &mut out[..need], n);
+            Ordered::Wrote(need)
+        }
+    }
 }
