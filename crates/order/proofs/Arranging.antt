@@ -237,6 +237,9 @@ module _ (l : List ℕ) (n : ℕ) (w₀ w u : List ℕ) (t : Lent l n w₀) (p :
 
 -- ---- the call
 
+pub order-lent : (l : List ℕ) (r : Checked) (n : ℕ) (w : List ℕ) → r ≡ checkOf (readItems nameTest l) → r ≡ Well n → length w ≡ length l → Lent l n w
+order-lent l r n w e q h = record { good = checked-good nameTest l r n e q; long = h }
+
 module _ (l d : List ℕ) where
   pub order-ill : (r : Checked) (n : ℕ) → r ≡ checkOf (readItems nameTest l) → r ≡ Ill n → Meets (captureOrder l) d (toldOrdered (IllFormed n)) d
   unfolding captureOrder inOrder toldOrdered
@@ -245,9 +248,6 @@ module _ (l d : List ℕ) where
   order-gives : (n : ℕ) → Good nameTest l n → captureOrder l ≡ gives (length (listed l) ∷ []) (listed l)
   unfolding captureOrder inOrder
   order-gives n g = rw (names-in l n g)
-
-  pub order-lent : (r : Checked) (n : ℕ) (w : List ℕ) → r ≡ checkOf (readItems nameTest l) → r ≡ Well n → length w ≡ length l → Lent l n w
-  order-lent r n w e q h = record { good = checked-good nameTest l r n e q; long = h }
 
   module _ (r : Checked) (n : ℕ) (e : r ≡ checkOf (readItems nameTest l)) (q : r ≡ Well n) where
     pub order-short : length d < length l → Meets (captureOrder l) d (toldOrdered (OutShort (length l))) d

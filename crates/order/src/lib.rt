@@ -10,14 +10,14 @@ ghost use Rattle.order.specs.Order.{captureOrder, toldOrdered};
 ghost use Rattle.items.specs.Items.{nameList};
 ghost use Rattle.items.specs.Walks.{namesFrom};
 ghost use Rattle.laws.specs.Answers.{Meets};
-use words::get_le32;
-use words::get32;
-use words::put32;
 use items::Checked;
 use items::Listing;
 use items::check;
 use items::name_at;
 use items::put_item;
+use words::get_le32;
+use words::get32;
+use words::put32;
 
 // What ordering answers: the length of the list written; the offset at which the list of names is ill-formed; the length
 // that the output would need.
@@ -26,6 +26,7 @@ pub enum Ordered {
     IllFormed(usize),
     OutShort(usize),
 }
+
 use words::wide;
 use words::wide32;
 

@@ -1,3 +1,4 @@
+use Rattle.order.proofs.Arranging.{lent-room, arranged-fills, arranged}
 use native.Mathlib.Omega.{arith}
 use borrow.Author.Needs.{needs}
 use Rattle.order.proofs.arrange.Statement.{statement}
@@ -14,11 +15,11 @@ place-names-requires c κs = search needs
 
 -- src/lib.rt:286:5
 sort-requires : tie.Need-sort-requires
-sort-requires c κs = ?
+sort-requires c κs = (omega arith, omega (arith, lent-room _ _ _ (c .before .before .before .before .before .before .before .pre)))
 
 -- src/lib.rt:287:5
 write-names-requires : tie.Need-write-names-requires
-write-names-requires c κs = ?
+write-names-requires c κs = arranged-fills _ _ _ _ _ (c .before .before .before .before .before .before .before .before .before .before .before .pre) (c .before .before .before .before .before .before .before .place-names .ensures) (c .before .before .before .sort .ensures) (omega arith)
 
 -- src/lib.rt:281:1
 same-length : tie.Need-same-length
@@ -26,7 +27,7 @@ same-length c = search needs
 
 -- src/lib.rt:281:1
 returns : tie.Need-returns
-returns c = ?
+returns c = arranged _ _ _ _ _ (c .before .before .before .before .before .before .before .before .before .before .before .before .before .before .pre) (c .before .before .before .before .before .before .before .before .before .before .place-names .ensures) (c .before .before .before .before .before .before .sort .ensures) _ (c .before .before .write-names .ensures)
 
 pub arrange-spec : {M : Type 1} → statement M
 arrange-spec =

@@ -1,3 +1,6 @@
+use mathlib.Core.Path.{sym}
+use lib.Seq.{length-take-le}
+use Rattle.order.proofs.Arranging.{order-ill, order-lent, order-short, order-wrote}
 use native.Mathlib.Omega.{arith}
 use borrow.Author.Needs.{needs}
 use Rattle.order.proofs.capture_order.Statement.{statement}
@@ -21,7 +24,7 @@ enum-known-n c = search needs
 
 -- src/lib.rt:299:17
 returns : tie.Need-returns
-returns c = ?
+returns c = order-short _ _ _ _ (c .before .before .before .before .check .ensures) (c .before .before .n .given .1) (c .if1 .taken)
 
 -- src/lib.rt:301:28
 slice-relend-prefix-arrange : tie.Need-slice-relend-prefix-arrange
@@ -29,15 +32,15 @@ slice-relend-prefix-arrange c = search needs
 
 -- src/lib.rt:301:28
 slice-aggregate-arrange : tie.Need-slice-aggregate-arrange
-slice-aggregate-arrange c = ?
+slice-aggregate-arrange c = sym (length-take-le _ (c .before .before .before .before .before .before .before .before .args .out .now) (c .before .if1 .left))
 
 -- src/lib.rt:301:13
 arrange-requires : tie.Need-arrange-requires
-arrange-requires c κs = ?
+arrange-requires c κs = order-lent _ _ _ _ (c .before .before .before .before .before .check .ensures) (c .before .before .before .n .given .1) (length-take-le _ (c .before .before .before .before .before .before .before .before .args .out .now) (c .before .if1 .left))
 
 -- src/lib.rt:291:1
 returns-2 : tie.Need-returns-2
-returns-2 c = ?
+returns-2 c = order-ill _ _ _ _ (c .before .before .before .check .ensures) (c .before .at .given .1)
 
 -- src/lib.rt:291:1
 same-length : tie.Need-same-length
@@ -45,7 +48,7 @@ same-length c = search needs
 
 -- src/lib.rt:291:1
 returns-3 : tie.Need-returns-3
-returns-3 c = ?
+returns-3 c = order-wrote _ _ _ _ (c .before .before .before .before .before .before .before .before .check .ensures) (c .before .before .before .before .before .before .n .given .1) _ (omega arith) (c .before .before .arrange .ensures)
 
 pub capture-order-spec : {M : Type 1} → statement M
 capture-order-spec =
