@@ -13,9 +13,9 @@ use borrow.Author.Tests.{eq-eqb, ne-eqb, le-leb, lt-leb, lt-ltb, ltb-true, ltb-f
 use Rattle.laws.specs.Choice.{splitB, split≡, no-way}
 use Rattle.laws.specs.Keys.{eqK, eqK-true, eq-eqK, ne-eqK}
 use Rattle.laws.specs.Lists.{drop-step, drop-end}
-use Rattle.laws.specs.Numbers.{le32}
+use Rattle.laws.specs.Numbers.{le32, le64}
 use Rattle.order.specs.Counter.{Counter, uncounted, counted, mark, afterHyphen, toHyphen, isDigit, digits, number, signed, within, counter, rank, leBytes, leName}
-use Rattle.order.specs.Steps.{After}
+use Rattle.order.specs.Steps.{After, Comparing}
 
 -- ---- after a hyphen
 
@@ -181,11 +181,6 @@ module _ (s : List ℕ) (bytes : (k : ℕ) → getD s k 0 < 256) (long : 11 ≤ 
 
 -- ---- names compared
 
-pub record Comparing (a b : List ℕ) (i : ℕ) : Type 0 where
-  pub left : i ≤ length a
-  pub right : i ≤ length b
-  pub same : leBytes (drop i a) (drop i b) ≡ leBytes a b
-
 pub compare-start : (a b : List ℕ) → Comparing a b 0
 compare-start a b = record { left = omega arith; right = omega arith; same = refl }
 
@@ -205,6 +200,35 @@ module _ (a b : List ℕ) (i : ℕ) (c : Comparing a b i) where
   pub compare-end : length a ≤ i → true ≡ leBytes a b
   unfolding leBytes
   compare-end h = rw (drop-end a i h) at (c .same)
+
+-- eight bytes at once
+low32 : (a x b y : ℕ) → a < 4294967296 → b < 4294967296 → a + 4294967296 * x ≡ b + 4294967296 * y → (a ≡ b) × (x ≡ y)
+low32 a x b y p q e = (omega arith, omega arith)
+
+word-small : (s : List ℕ) (i : ℕ) → ((k : ℕ) → getD s k 0 < 256) → le32 s i < 4294967296
+unfolding le32
+word-small s i bytes = omega (arith, bytes i, bytes (i + 1), bytes (i + 2), bytes (i + 3))
+
+module _ (a b : List ℕ) (bytes : (k : ℕ) → getD a k 0 < 256) (bytes′ : (k : ℕ) → getD b k 0 < 256) where
+  compare-four : (i : ℕ) → Comparing a b i → i + 4 ≤ length a → i + 4 ≤ length b → le32 a i ≡ le32 b i → Comparing a b (i + 4)
+  unfolding le32
+  compare-four i c h k e =
+      let s = bytes-of a i (getD b i 0) (getD b (i + 1) 0) (getD b (i + 2) 0) (getD b (i + 3) 0) bytes (bytes′ i) (bytes′ (i + 1)) (bytes′ (i + 2)) (omega arith) in
+      let n2 : i + 1 + 1 ≡ i + 2 = omega arith in
+      let n3 : i + 2 + 1 ≡ i + 3 = omega arith in
+      let n4 : i + 3 + 1 ≡ i + 4 = omega arith in
+      let c1 = compare-turn a b i c (omega arith) (omega arith) (s .b0) in
+      let c2 : Comparing a b (i + 2) = rw n2 at (compare-turn a b (i + 1) c1 (omega arith) (omega arith) (s .b1)) in
+      let c3 : Comparing a b (i + 3) = rw n3 at (compare-turn a b (i + 2) c2 (omega arith) (omega arith) (s .b2)) in
+      rw n4 at (compare-turn a b (i + 3) c3 (omega arith) (omega arith) (s .b3))
+
+  pub compare-eight : (i x y : ℕ) → Comparing a b i → i + 8 ≤ length a → i + 8 ≤ length b → x ≡ le64 a i → y ≡ le64 b i → x ≡ y → Comparing a b (i + 8)
+  unfolding le64
+  compare-eight i x y c h k e f g =
+      let q = low32 (le32 a i) (le32 a (i + 4)) (le32 b i) (le32 b (i + 4)) (word-small a i bytes) (word-small b i bytes′) (sym e ∙ g ∙ f) in
+      let n : i + 4 + 4 ≡ i + 8 = omega arith in
+      let d = compare-four i c (omega arith) (omega arith) (q .0) in
+      rw n at (compare-four (i + 4) d (omega arith) (omega arith) (q .1))
 
 module _ (a b : List ℕ) (p q : ℕ) (e : p ≡ rank (counter a)) (f : q ≡ rank (counter b)) where
   pub name-ranks : p ≢ q → ltb p q ≡ leName a b

@@ -10,13 +10,19 @@ use Rattle.laws.specs.Numbers.{le32}
 use Rattle.words.specs.Words.{word}
 use Rattle.items.specs.Items.{nameTest, nameList}
 use Rattle.items.specs.Walks.{namesFrom, Good}
-use Rattle.order.specs.Counter.{afterHyphen, leName}
+use Rattle.order.specs.Counter.{afterHyphen, leBytes, leName}
 use Rattle.order.specs.Sort.{isort, merge}
 
 -- r is the place after the first hyphen from a place on, or the end
 pub record After (s : List ℕ) (start r : ℕ) : Type 0 where
   pub within : r ≤ length s
   pub same : drop r s ≡ afterHyphen (drop start s)
+
+-- the first i bytes of two lists decide nothing
+pub record Comparing (a b : List ℕ) (i : ℕ) : Type 0 where
+  pub left : i ≤ length a
+  pub right : i ≤ length b
+  pub same : leBytes (drop i a) (drop i b) ≡ leBytes a b
 
 -- the name at a place of a list, as much of it as is there
 unfoldable pub nameAt : List ℕ → ℕ → List ℕ

@@ -4,7 +4,7 @@ ghost use Prim.Native.Nat.{_+_, _*_, _/_, _≤_, _<_};
 ghost use lib.ListN.{length, take, drop};
 ghost use Rattle.laws.specs.Keys.{eqK};
 ghost use Rattle.order.specs.Counter.{mark, toHyphen, digits, number, signed, within, counter, rank, leBytes, leName};
-ghost use Rattle.order.specs.Steps.{After, nameAt, leftFirst, words, Copies, Merges, Sorts, Lent, namesAt, Placed, Fills};
+ghost use Rattle.order.specs.Steps.{After, Comparing, nameAt, leftFirst, words, Copies, Merges, Sorts, Lent, namesAt, Placed, Fills};
 ghost use Rattle.order.specs.Sort.{isort};
 ghost use Rattle.order.specs.Order.{captureOrder, toldOrdered};
 ghost use Rattle.items.specs.Items.{nameList};
@@ -16,6 +16,7 @@ use items::check;
 use items::name_at;
 use items::put_item;
 use words::get_le32;
+use words::get_le64;
 use words::get32;
 use words::put32;
 
@@ -127,11 +128,28 @@ fn rank_of(name: &[u8]) -> usize
     0
 }
 
+// How many bytes two slices have in common at the front, by eights.
+fn common(a: &[u8], b: &[u8]) -> usize
+    ensures { λ r. ⌜ Comparing (now (a .entry)) (now (b .entry)) r ⌝ }
+{
+    let mut i = 0;
+    while i + 8 <= a.len() {
+        if b.len() < i + 8 {
+            return i;
+        }
+        if get_le64(a, i) != get_le64(b, i) {
+            return i;
+        }
+        i += 8;
+    }
+    i
+}
+
 // Whether a comes before b by bytes, or equals it.
 fn bytes_le(a: &[u8], b: &[u8]) -> bool
     ensures { λ r. ⌜ r ≡ leBytes (now (a .entry)) (now (b .entry)) ⌝ }
 {
-    let mut i = 0;
+    let mut i = common(a, b);
     while i < a.len() {
         if b.len() <= i {
             return false;
