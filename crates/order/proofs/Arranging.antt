@@ -1,21 +1,19 @@
 -- Laws of placing the names, and of writing them in order.
 use mathlib.Core.Path.{_≡_, refl, sym, ap, _∙_}
-use mathlib.Core.Logic.{_⊎_, inl, inr, ⊎-elim}
-use mathlib.Core.Bool.{Bool, true, false}
 use mathlib.Core.List.{List, [], _∷_, _++_, map, append-assoc, append-nil}
-use Prim.Native.Nat.{ℕ, zero, suc, _+_, _-_, _*_, _/_, _<_, _≤_}
-use native.Mathlib.Nat.{add-zero, zero-add}
+use Prim.Native.Nat.{ℕ, zero, suc, _+_, _-_, _*_, _<_, _≤_}
+use native.Mathlib.Nat.{zero-add}
 use native.Mathlib.Omega.{arith}
 use lib.ListN.{length, take, drop, length-append, length-drop, length-map}
-use lib.Seq.{sets, sets-eq, length-sets, drop-at, drop-length, length-take-le}
+use lib.Seq.{sets, sets-eq, drop-at, drop-length, length-take-le}
 use Rattle.laws.specs.Choice.{splitB, split≤}
-use Rattle.laws.specs.Lists.{flat, flat-append}
+use Rattle.laws.specs.Lists.{flat-append}
 use Rattle.laws.specs.Numbers.{le32}
 use Rattle.laws.specs.Stores.{Writes, writes-long}
-use Rattle.laws.specs.Answers.{Outcome, gives, refuses, Meets, meets-refused, meets-short, meets-wrote}
+use Rattle.laws.specs.Answers.{gives, Meets, meets-refused, meets-short, meets-wrote}
 use Rattle.words.specs.Words.{word, putWord, length-put}
-use Rattle.words.specs.Front.{Front, front-sets, front-word}
-use Rattle.items.specs.Items.{item, Item, endAt, Listed, wellFormed, illFormed, nameItem, nameList, nameTest, namesIn, readItems}
+use Rattle.words.specs.Front.{front-sets, front-word}
+use Rattle.items.specs.Items.{item, Item, endAt, nameItem, nameList, nameTest, readItems}
 use Rattle.items.specs.Writing.{length-item, length-name}
 use Rattle.items.specs.Walks.{itemsFrom, namesFrom, Walks, Good, items-few, names-in, names-ill, names-end, NameIs, name-is, checkOf, checked-good, checked-ill}
 use Rattle.items.specs.declared.NamePart.{NamePart}
@@ -27,7 +25,7 @@ use Rattle.order.specs.Sort.{insert, isort}
 use Rattle.order.specs.Order.{inOrder, captureOrder, toldOrdered}
 use Rattle.order.specs.Steps.{nameAt, leAt, words, Sorts, Lent, namesAt, Placed, Fills}
 use Rattle.order.proofs.Sorting.{map-isort}
-use Rattle.order.proofs.Places.{words-same, words-append, words-snoc, words-more}
+use Rattle.order.proofs.Places.{words-same, words-snoc, words-more}
 
 map-append : {A B : Type 0} (f : A → B) (a b : List A) → map f (a ++ b) ≡ map f a ++ map f b
 map-append f [] b = refl

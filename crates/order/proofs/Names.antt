@@ -1,12 +1,12 @@
 -- The order of names is total and transitive.
-use mathlib.Core.Path.{_≡_, refl, sym, ap, _∙_}
+use mathlib.Core.Path.{_≡_, refl, sym, _∙_}
 use mathlib.Core.Bool.{Bool, true, false, cond}
 use mathlib.Core.List.{List, [], _∷_}
 use Prim.Native.Nat.{ℕ, _<_, _≤_}
 use native.Mathlib.Omega.{arith}
 use lib.Dec.{ltb, eqb}
 use borrow.Author.Tests.{eq-eqb, ne-eqb, lt-ltb, ltb-true, ltb-false}
-use Rattle.laws.specs.Choice.{splitB, split≡, no-way}
+use Rattle.laws.specs.Choice.{split≡, no-way}
 use Rattle.order.specs.Counter.{counter, rank, leBytes, leName}
 
 -- by a number first, then by what t says

@@ -1,20 +1,19 @@
 -- Laws of the functions that read a name's counter and compare names.
 use mathlib.Core.Path.{_≡_, refl, sym, ap, _∙_}
 use mathlib.Core.Logic.{_≢_}
-use mathlib.Core.Bool.{Bool, true, false, cond}
+use mathlib.Core.Bool.{Bool, true, false}
 use mathlib.Core.List.{List, [], _∷_}
 use Prim.Native.Nat.{ℕ, suc, _+_, _-_, _*_, _<_, _≤_}
 use native.Mathlib.Omega.{arith}
-use native.Mathlib.Numerals.{add-one}
-use lib.Dec.{leb, ltb, eqb}
+use lib.Dec.{ltb, eqb}
 use lib.ListN.{length, getD, take, drop, length-take}
-use lib.Seq.{drop-cons, getD-take, length-take-le}
-use borrow.Author.Tests.{eq-eqb, ne-eqb, le-leb, lt-leb, lt-ltb, ltb-true, ltb-false}
-use Rattle.laws.specs.Choice.{splitB, split≡, no-way}
+use lib.Seq.{drop-cons, getD-take}
+use borrow.Author.Tests.{eq-eqb, ne-eqb, le-leb, lt-leb}
+use Rattle.laws.specs.Choice.{splitB, split≡}
 use Rattle.laws.specs.Keys.{eqK, eqK-true, eq-eqK, ne-eqK}
 use Rattle.laws.specs.Lists.{drop-step, drop-end}
 use Rattle.laws.specs.Numbers.{le32, le64}
-use Rattle.order.specs.Counter.{Counter, uncounted, counted, mark, afterHyphen, toHyphen, isDigit, digits, number, signed, within, counter, rank, leBytes, leName}
+use Rattle.order.specs.Counter.{uncounted, mark, afterHyphen, toHyphen, isDigit, digits, number, signed, within, counter, rank, leBytes, leName}
 use Rattle.order.specs.Steps.{After, Comparing}
 
 -- ---- after a hyphen

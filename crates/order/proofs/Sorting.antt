@@ -1,6 +1,6 @@
 -- Merging sorted halves is sorting, for any test that is total and transitive.
 use mathlib.Core.Path.{_≡_, refl, sym, ap, _∙_}
-use mathlib.Core.Bool.{Bool, true, false, cond}
+use mathlib.Core.Bool.{Bool, true, false}
 use mathlib.Core.List.{List, [], _∷_, _++_, map}
 use Rattle.laws.specs.Choice.{splitB, no-way}
 use Rattle.order.specs.Sort.{insert, isort, merge}

@@ -1,10 +1,10 @@
 // Fixture names in the order in which their frames crossed the link.
 ghost use mathlib.Core.Path.{_≡_};
-ghost use Prim.Native.Nat.{_+_, _*_, _/_, _≤_, _<_};
+ghost use Prim.Native.Nat.{_+_, _*_, _/_, _≤_};
 ghost use lib.ListN.{length, take, drop};
 ghost use Rattle.laws.specs.Keys.{eqK};
 ghost use Rattle.order.specs.Counter.{mark, toHyphen, digits, number, signed, within, counter, rank, leBytes, leName};
-ghost use Rattle.order.specs.Steps.{After, Comparing, nameAt, leftFirst, words, Copies, Merges, Sorts, Lent, namesAt, Placed, Fills};
+ghost use Rattle.order.specs.Steps.{After, Comparing, nameAt, leftFirst, Copies, Merges, Sorts, Lent, namesAt, Placed, Fills};
 ghost use Rattle.order.specs.Sort.{isort};
 ghost use Rattle.order.specs.Order.{captureOrder, toldOrdered};
 ghost use Rattle.items.specs.Items.{nameList};
@@ -19,6 +19,8 @@ use words::get_le32;
 use words::get_le64;
 use words::get32;
 use words::put32;
+use words::wide;
+use words::wide32;
 
 // What ordering answers: the length of the list written; the offset at which the list of names is ill-formed; the length
 // that the output would need.
@@ -28,8 +30,7 @@ pub enum Ordered {
     OutShort(usize),
 }
 
-use words::wide;
-use words::wide32;
+// ---- the counter of a name
 
 // Whether a name begins with `mdr-packet-`.
 fn is_marked(s: &[u8]) -> bool
@@ -127,6 +128,8 @@ fn rank_of(name: &[u8]) -> usize
     }
     0
 }
+
+// ---- the order of names
 
 // How many bytes two slices have in common at the front, by eights.
 fn common(a: &[u8], b: &[u8]) -> usize

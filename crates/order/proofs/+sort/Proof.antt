@@ -1,8 +1,6 @@
-use Prim.Native.Nat.{_/_, _-_}
 use Rattle.order.proofs.Places.{sorts-few, sorts-met, sorts-halves}
-use borrow.Author.Needs.{needs}
 use native.Mathlib.Omega.{arith}
-use Prim.Native.Nat.{ℕ, _<_}
+use Prim.Native.Nat.{ℕ, _<_, _/_, _-_}
 use borrow.Fn.Kinds.{In}
 use borrow.Fn.PlainCycle.{Measures, is, falls, and}
 use Rattle.order.proofs.sort.Reads as sort
@@ -24,7 +22,6 @@ sort-at t = and 2 sort-kinds.ps (is 2 sort-kinds.ps μ-sort t) sort.Pre
 abbrev sort-below : ℕ → In 2 sort-kinds.ps
 sort-below t = and 2 sort-kinds.ps (falls 2 sort-kinds.ps _<_ μ-sort t) sort.Pre
 
--- src/lib.rt:213:9
 sort-returns : (t : ℕ) → sort-lts.Need-returns (
   sort-below t,
   sort.Post,
@@ -39,7 +36,6 @@ sort-returns : (t : ℕ) → sort-lts.Need-returns (
 ) (sort-at t) sort.Post
 sort-returns t c = search sorts-few
 
--- src/lib.rt:216:13
 sort-sub-m : (t : ℕ) → sort-lts.Need-sub-m (
   sort-below t,
   sort.Post,
@@ -54,7 +50,6 @@ sort-sub-m : (t : ℕ) → sort-lts.Need-sub-m (
 ) (sort-at t) sort.Post
 sort-sub-m t c = omega arith
 
--- src/lib.rt:217:5
 sort-sort-requires : (t : ℕ) → sort-lts.Need-sort-requires (
   sort-below t,
   sort.Post,
@@ -69,7 +64,6 @@ sort-sort-requires : (t : ℕ) → sort-lts.Need-sort-requires (
 ) (sort-at t) sort.Post
 sort-sort-requires t c κs = (omega arith, (omega arith, omega arith))
 
--- src/lib.rt:218:22
 sort-add-sort : (t : ℕ) → sort-lts.Need-add-sort (
   sort-below t,
   sort.Post,
@@ -84,7 +78,6 @@ sort-add-sort : (t : ℕ) → sort-lts.Need-add-sort (
 ) (sort-at t) sort.Post
 sort-add-sort t c = omega arith
 
--- src/lib.rt:218:5
 sort-sort-requires-2 : (t : ℕ) → sort-lts.Need-sort-requires-2 (
   sort-below t,
   sort.Post,
@@ -99,7 +92,6 @@ sort-sort-requires-2 : (t : ℕ) → sort-lts.Need-sort-requires-2 (
 ) (sort-at t) sort.Post
 sort-sort-requires-2 t c κs = (omega arith, (omega arith, omega arith))
 
--- src/lib.rt:219:24
 sort-add-get32 : (t : ℕ) → sort-lts.Need-add-get32 (
   sort-below t,
   sort.Post,
@@ -114,7 +106,6 @@ sort-add-get32 : (t : ℕ) → sort-lts.Need-add-get32 (
 ) (sort-at t) sort.Post
 sort-add-get32 t c = omega arith
 
--- src/lib.rt:219:24
 sort-sub-get32 : (t : ℕ) → sort-lts.Need-sub-get32 (
   sort-below t,
   sort.Post,
@@ -129,7 +120,6 @@ sort-sub-get32 : (t : ℕ) → sort-lts.Need-sub-get32 (
 ) (sort-at t) sort.Post
 sort-sub-get32 t c = omega arith
 
--- src/lib.rt:219:9
 sort-get32-requires : (t : ℕ) → sort-lts.Need-get32-requires (
   sort-below t,
   sort.Post,
@@ -144,7 +134,6 @@ sort-get32-requires : (t : ℕ) → sort-lts.Need-get32-requires (
 ) (sort-at t) sort.Post
 sort-get32-requires t c κs = omega arith
 
--- src/lib.rt:220:31
 sort-add-is-left : (t : ℕ) → sort-lts.Need-add-is-left (
   sort-below t,
   sort.Post,
@@ -159,7 +148,6 @@ sort-add-is-left : (t : ℕ) → sort-lts.Need-add-is-left (
 ) (sort-at t) sort.Post
 sort-add-is-left t c = omega arith
 
--- src/lib.rt:220:39
 sort-add-is-left-2 : (t : ℕ) → sort-lts.Need-add-is-left-2 (
   sort-below t,
   sort.Post,
@@ -174,7 +162,6 @@ sort-add-is-left-2 : (t : ℕ) → sort-lts.Need-add-is-left-2 (
 ) (sort-at t) sort.Post
 sort-add-is-left-2 t c = omega arith
 
--- src/lib.rt:220:8
 sort-is-left-requires : (t : ℕ) → sort-lts.Need-is-left-requires (
   sort-below t,
   sort.Post,
@@ -189,7 +176,6 @@ sort-is-left-requires : (t : ℕ) → sort-lts.Need-is-left-requires (
 ) (sort-at t) sort.Post
 sort-is-left-requires t c κs = omega arith
 
--- src/lib.rt:221:9
 sort-same-length : (t : ℕ) → sort-lts.Need-same-length (
   sort-below t,
   sort.Post,
@@ -204,7 +190,6 @@ sort-same-length : (t : ℕ) → sort-lts.Need-same-length (
 ) (sort-at t) sort.Post
 sort-same-length t c = omega arith
 
--- src/lib.rt:221:9
 sort-returns-2 : (t : ℕ) → sort-lts.Need-returns-2 (
   sort-below t,
   sort.Post,
@@ -221,7 +206,6 @@ sort-returns-2 t c =
     let a = c .before .before .before .before .before .before .before .before .before .before .before .before .before .before .before .before .args in
     sorts-met (a .names .now) (a .lo) (a .n) (a .n / 2) (a .n - a .n / 2) (a .top) (a .out .now) _ _ (omega arith) (c .before .before .before .before .before .before .before .before .before .before .before .before .before .before .before .before .pre .1 .0) (c .before .before .before .before .before .before .before .before .before .before .before .sort .ensures) (c .before .before .before .before .before .before .before .sort2 .ensures) (c .before .before .before .get32 .result) (c .before .is-left .result) (omega arith) (omega arith) (c .before .before .before .get32 .ensures) (c .before .is-left .ensures) (c .if2 .taken)
 
--- src/lib.rt:223:5
 sort-copy-words-requires : (t : ℕ) → sort-lts.Need-copy-words-requires (
   sort-below t,
   sort.Post,
@@ -236,7 +220,6 @@ sort-copy-words-requires : (t : ℕ) → sort-lts.Need-copy-words-requires (
 ) (sort-at t) sort.Post
 sort-copy-words-requires t c κs = (omega arith, omega arith)
 
--- src/lib.rt:224:5
 sort-merge-words-requires : (t : ℕ) → sort-lts.Need-merge-words-requires (
   sort-below t,
   sort.Post,
@@ -251,7 +234,6 @@ sort-merge-words-requires : (t : ℕ) → sort-lts.Need-merge-words-requires (
 ) (sort-at t) sort.Post
 sort-merge-words-requires t c κs = (omega arith, omega arith)
 
--- src/lib.rt:208:1
 sort-same-length-2 : (t : ℕ) → sort-lts.Need-same-length-2 (
   sort-below t,
   sort.Post,
@@ -266,7 +248,6 @@ sort-same-length-2 : (t : ℕ) → sort-lts.Need-same-length-2 (
 ) (sort-at t) sort.Post
 sort-same-length-2 t c = omega arith
 
--- src/lib.rt:208:1
 sort-returns-3 : (t : ℕ) → sort-lts.Need-returns-3 (
   sort-below t,
   sort.Post,

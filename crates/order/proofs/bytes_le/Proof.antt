@@ -3,12 +3,8 @@ use Prim.Native.Nat.{_-_}
 use Rattle.order.specs.Steps.{Comparing}
 use Rattle.order.proofs.Reading.{compare-turn, compare-found, compare-longer, compare-end}
 use borrow.Author.Needs.{needs}
-use native.Mathlib.Omega.{arith}
 use Rattle.order.proofs.bytes_le.Statement.{statement}
 use Rattle.order.proofs.bytes_le.Tie as tie
-use Rattle.order.proofs.bytes_le.Reads as reads
-use Rattle.order.proofs.bytes_le.Lts as lts
-use Rattle.order.proofs.common.Reads as common-reads
 
 abbrev Inv-loop : tie.InvT-loop
 Inv-loop a b i₀ i = Comparing a b i
@@ -16,43 +12,33 @@ Inv-loop a b i₀ i = Comparing a b i
 abbrev μ-loop : tie.MeasureT-loop
 μ-loop a b i₀ i = length a - i
 
--- src/lib.rt:152:9
 common-requires : tie.Need-common-requires Inv-loop μ-loop
 common-requires c κs = search needs
 
--- src/lib.rt:153:5
 loop-holds : tie.Need-loop-holds Inv-loop μ-loop
 loop-holds c = search needs
 
--- src/lib.rt:155:13
 returns : tie.Need-returns Inv-loop μ-loop
 returns c = search compare-longer
 
--- src/lib.rt:157:17
 shared-slice-read-x : tie.Need-shared-slice-read-x Inv-loop μ-loop
 shared-slice-read-x c = search needs
 
--- src/lib.rt:158:17
 shared-slice-read-y : tie.Need-shared-slice-read-y Inv-loop μ-loop
 shared-slice-read-y c = search needs
 
--- src/lib.rt:160:13
 returns-2 : tie.Need-returns-2 Inv-loop μ-loop
 returns-2 c = search compare-found
 
--- src/lib.rt:162:9
 add-i : tie.Need-add-i Inv-loop μ-loop
 add-i c = search needs
 
--- src/lib.rt:153:5
 loop-less : tie.Need-loop-less Inv-loop μ-loop
 loop-less c = search needs
 
--- src/lib.rt:153:5
 loop-again : tie.Need-loop-again Inv-loop μ-loop
 loop-again c = search compare-turn
 
--- src/lib.rt:149:1
 returns-3 : tie.Need-returns-3 Inv-loop μ-loop
 returns-3 c = search compare-end
 

@@ -2,12 +2,8 @@ use lib.ListN.{length}
 use Prim.Native.Nat.{_-_}
 use Rattle.order.proofs.Reading.{Reading, read-start, read-digit, read-over, read-hyphen, read-low, read-high, read-end}
 use borrow.Author.Needs.{needs}
-use native.Mathlib.Omega.{arith}
 use Rattle.order.proofs.read_digits.Statement.{statement}
 use Rattle.order.proofs.read_digits.Tie as tie
-use Rattle.order.proofs.read_digits.Reads as reads
-use Rattle.order.proofs.read_digits.Lts as lts
-use Rattle.words.proofs.wide.Reads as wide-reads
 
 abbrev Inv-loop : tie.InvT-loop
 Inv-loop s start v₀ i₀ v i = Reading s start v i
@@ -15,63 +11,48 @@ Inv-loop s start v₀ i₀ v i = Reading s start v i
 abbrev μ-loop : tie.MeasureT-loop
 μ-loop s start v₀ i₀ v i = length s - i
 
--- src/lib.rt:52:5
 loop-holds : tie.Need-loop-holds Inv-loop μ-loop
 loop-holds c = search read-start
 
--- src/lib.rt:53:22
 shared-slice-read-wide : tie.Need-shared-slice-read-wide Inv-loop μ-loop
 shared-slice-read-wide c = search needs
 
--- src/lib.rt:53:13
 wide-requires : tie.Need-wide-requires Inv-loop μ-loop
 wide-requires c κs = search needs
 
--- src/lib.rt:55:20
 add-result : tie.Need-add-result Inv-loop μ-loop
 add-result c = search needs
 
--- src/lib.rt:55:13
 returns : tie.Need-returns Inv-loop μ-loop
 returns c = search read-hyphen
 
--- src/lib.rt:58:13
 returns-2 : tie.Need-returns-2 Inv-loop μ-loop
 returns-2 c = search read-low
 
--- src/lib.rt:61:13
 returns-3 : tie.Need-returns-3 Inv-loop μ-loop
 returns-3 c = search read-high
 
--- src/lib.rt:63:13
 mul-v : tie.Need-mul-v Inv-loop μ-loop
 mul-v c = search needs
 
--- src/lib.rt:63:13
 add-v : tie.Need-add-v Inv-loop μ-loop
 add-v c = search needs
 
--- src/lib.rt:65:13
 returns-4 : tie.Need-returns-4 Inv-loop μ-loop
 returns-4 c = search read-over
 
--- src/lib.rt:67:9
 add-i : tie.Need-add-i Inv-loop μ-loop
 add-i c = search needs
 
--- src/lib.rt:52:5
 loop-less : tie.Need-loop-less Inv-loop μ-loop
 loop-less c = search needs
 
--- src/lib.rt:52:5
 loop-again : tie.Need-loop-again Inv-loop μ-loop
 loop-again c = search read-digit
 
--- src/lib.rt:69:5
 add-result-2 : tie.Need-add-result-2 Inv-loop μ-loop
 add-result-2 c = search needs
 
--- src/lib.rt:46:1
 returns-5 : tie.Need-returns-5 Inv-loop μ-loop
 returns-5 c = search read-end
 

@@ -3,11 +3,6 @@ use borrow.Author.Needs.{needs}
 use native.Mathlib.Omega.{arith}
 use Rattle.order.proofs.write_names.Statement.{statement}
 use Rattle.order.proofs.write_names.Tie as tie
-use Rattle.order.proofs.write_names.Reads as reads
-use Rattle.order.proofs.write_names.Lts as lts
-use Rattle.items.proofs.put_item.Reads as put-item-reads
-use Rattle.order.proofs.name_of.Reads as name-of-reads
-use Rattle.words.proofs.get32.Reads as get32-reads
 
 abbrev Inv-loop : tie.InvT-loop
 Inv-loop names out₀ n i₀ to₀ out i to = Writing names n out₀ out i to
@@ -15,47 +10,36 @@ Inv-loop names out₀ n i₀ to₀ out i to = Writing names n out₀ out i to
 abbrev μ-loop : tie.MeasureT-loop
 μ-loop names out₀ n i₀ to₀ out i to = i
 
--- src/lib.rt:270:5
 loop-holds : tie.Need-loop-holds Inv-loop μ-loop
 loop-holds c = search writing-start
 
--- src/lib.rt:271:9
 sub-i : tie.Need-sub-i Inv-loop μ-loop
 sub-i c = search needs
 
--- src/lib.rt:272:13
 get32-requires : tie.Need-get32-requires Inv-loop μ-loop
 get32-requires c κs = omega (arith, writing-room _ _ _ _ _ _ (c .before .before .loop .inv))
 
--- src/lib.rt:273:13
 name-of-requires : tie.Need-name-of-requires Inv-loop μ-loop
 name-of-requires c κs = search needs
 
--- src/lib.rt:274:14
 sub-to : tie.Need-sub-to Inv-loop μ-loop
 sub-to c = omega (arith, writing-left _ _ _ _ _ _ (c .before .before .before .before .loop .inv) _ _ (c .before .before .before .loop-test .taken) (c .before .get32 .ensures) (c .name-of .ensures))
 
--- src/lib.rt:274:14
 sub-to-2 : tie.Need-sub-to-2 Inv-loop μ-loop
 sub-to-2 c = omega (arith, writing-left _ _ _ _ _ _ (c .before .before .before .before .loop .inv) _ _ (c .before .before .before .loop-test .taken) (c .before .get32 .ensures) (c .name-of .ensures))
 
--- src/lib.rt:275:9
 put-item-requires : tie.Need-put-item-requires Inv-loop μ-loop
 put-item-requires c κs = omega (arith, c .before .before .before .before .before .loop .inv .room, writing-left _ _ _ _ _ _ (c .before .before .before .before .before .loop .inv) _ _ (c .before .before .before .before .loop-test .taken) (c .before .before .get32 .ensures) (c .before .name-of .ensures))
 
--- src/lib.rt:270:5
 loop-less : tie.Need-loop-less Inv-loop μ-loop
 loop-less c = search needs
 
--- src/lib.rt:270:5
 loop-again : tie.Need-loop-again Inv-loop μ-loop
 loop-again c = search writing-turn
 
--- src/lib.rt:264:1
 same-length : tie.Need-same-length Inv-loop μ-loop
 same-length c = c .before .loop .inv .long
 
--- src/lib.rt:264:1
 returns : tie.Need-returns Inv-loop μ-loop
 returns c = search writing-end
 
