@@ -1,3 +1,5 @@
 pub mod Walking
 pub mod Opens
 pub mod Rows
+pub mod Finishing
+pub mod Stepping

@@ -1,3 +1,4 @@
+use Rattle.l2cap.proofs.Finishing.{single-put, finish-file, finish-work}
 use native.Mathlib.Omega.{arith}
 use borrow.Author.Needs.{needs}
 use Rattle.l2cap.proofs.finish.Statement.{statement}
@@ -73,7 +74,7 @@ sub-put-pdu c = search needs
 
 -- src/lib.rt:212:9
 put-pdu-requires : tie.Need-put-pdu-requires
-put-pdu-requires c κs = ?
+put-pdu-requires c κs = single-put _ _ _ _ _ _ _ _ (c .before .before .before .before .before .before .before .before .before .before .before .before .before .pre) _ _ (c .before .before .before .before .if1 .taken) (c .before .before .get322 .ensures) (c .before .wide32 .ensures)
 
 -- src/lib.rt:213:9
 same-length : tie.Need-same-length
@@ -81,7 +82,7 @@ same-length c = search needs
 
 -- src/lib.rt:213:9
 returns : tie.Need-returns
-returns c = ?
+returns c = search finish-file
 
 -- src/lib.rt:215:38
 add-gather : tie.Need-add-gather
@@ -117,7 +118,7 @@ same-length-2 c = search needs
 
 -- src/lib.rt:203:1
 returns-2 : tie.Need-returns-2
-returns-2 c = ?
+returns-2 c = search finish-work
 
 pub finish-spec : {M : Type 1} → statement M
 finish-spec =

@@ -1,3 +1,4 @@
+use Rattle.laws.specs.Numbers.{le16}
 use native.Mathlib.Omega.{arith}
 use borrow.Author.Needs.{needs}
 use Rattle.l2cap.proofs.half.Statement.{statement}
@@ -25,7 +26,8 @@ pair-requires c κs = search needs
 
 -- src/lib.rt:72:1
 returns : tie.Need-returns
-returns c = ?
+unfolding le16
+returns c = search needs
 
 pub half-spec : {M : Type 1} → statement M
 half-spec =
