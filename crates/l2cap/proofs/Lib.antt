@@ -3,3 +3,4 @@ pub mod Opens
 pub mod Rows
 pub mod Finishing
 pub mod Stepping
+pub mod Running

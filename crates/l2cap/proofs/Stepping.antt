@@ -120,12 +120,12 @@ module _
     go k a g e =
         split≡ (word w (6 * i)) k
         (λ z.
-          let q = vs a g (rw (eq-eqb (word w (6 * i)) k z) at e) in
-          let l : a ≤ i = q .0 in
-          (omega arith, rw (since-front n f u w k a (i + 1) (omega arith) (omega arith) fr, ← z) (q .1)))
+        let q = vs a g (rw (eq-eqb (word w (6 * i)) k z) at e) in
+        let l : a ≤ i = q .0 in
+        (omega arith, rw (since-front n f u w k a (i + 1) (omega arith) (omega arith) fr, ← z) (q .1)))
         (λ z.
-          let q = s .sound k a g (rw (ne-eqb (word w (6 * i)) k z) at e) in
-          (omega (arith, q .0), rw (since-other k a z (q .0)) (q .1)))
+        let q = s .sound k a g (rw (ne-eqb (word w (6 * i)) k z) at e) in
+        (omega (arith, q .0), rw (since-other k a z (q .0)) (q .1)))
 
 -- a row stored says so
 stored-open :

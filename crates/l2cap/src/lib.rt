@@ -9,15 +9,15 @@ ghost use Rattle.l2cap.specs.Pdus.{pdus};
 ghost use Rattle.l2cap.specs.PduTable.{pduAt, Reassembled};
 ghost use Rattle.l2cap.specs.PduFrames.{Lent};
 ghost use Rattle.l2cap.specs.Steps.{pieceOf, since, brought, Walk, Paste, Gather, Need, openAt, grown, nextAt, Small, Arrive, putPdu, PutPdu, Finish, Finished, Ready, Step, Stepped};
-use words::wide32;
+use table::Row;
+use table::find;
+use table::store;
+use words::copy_to;
 use words::get32;
 use words::get64;
 use words::put32;
 use words::put64;
-use words::copy_to;
-use table::find;
-use table::store;
-use table::Row;
+use words::wide32;
 
 // What is open under a key: nothing, or the PDU that a packet began, and its bytes so far.
 pub enum Open {
@@ -73,7 +73,10 @@ fn half(file: &[u8], w: &[u8], first: usize, upto: usize, key: u32, at: usize) -
     requires { ⌜ (Walk (now file) (now w) first upto) × (at < 4) ⌝ }
     ensures { λ r. ⌜ (r ≡ le16 (since (now (file .entry)) (now (w .entry)) key first upto) at) × (r < 65536) ⌝ }
 {
-    pair(byte_of(file, w, first, upto, key, at), byte_of(file, w, first, upto, key, at + 1))
+    pair(
+        byte_of(file, w, first, upto, key, at),
+        byte_of(file, w, first, upto, key, at + 1),
+    )
 }
 
 // How many bytes make the PDU complete. With fewer than 4 its length is not there, and no packet is walked for it.
@@ -116,7 +119,15 @@ fn paste(file: &[u8], w: &mut [u8], i: usize, key: u32, left: usize, to: usize) 
 }
 
 // Joins what the key has from the packets first .. upto - 1, need bytes of it at most, and returns the place after them.
-fn gather(file: &[u8], w: &mut [u8], first: usize, upto: usize, key: u32, need: usize, to: usize) -> usize
+fn gather(
+    file: &[u8],
+    w: &mut [u8],
+    first: usize,
+    upto: usize,
+    key: u32,
+    need: usize,
+    to: usize,
+) -> usize
     requires { ⌜ Gather (now file) (now w) first upto need to ⌝ }
     ensures { λ r. ⌜ Writes (now (w .entry)) to (take need (since (now (file .entry)) (now (w .entry)) key first upto)) r (now (w .exit)) ⌝ }
 {
@@ -187,7 +198,16 @@ fn arrive(w: &[u8], opens: usize, live: usize, i: usize) -> Open
 }
 
 // Writes a PDU's row at word at.
-fn put_pdu(w: &mut [u8], at: usize, key: u32, cid: u32, joined: u32, start: usize, len: usize, time: u64)
+fn put_pdu(
+    w: &mut [u8],
+    at: usize,
+    key: u32,
+    cid: u32,
+    joined: u32,
+    start: usize,
+    len: usize,
+    time: u64,
+)
     requires { ⌜ PutPdu (now w) at start len ⌝ }
     ensures { λ _. ⌜ now (w .exit) ≡ putPdu (now (w .entry)) at key cid joined start len time ⌝ }
 {
@@ -200,7 +220,16 @@ fn put_pdu(w: &mut [u8], at: usize, key: u32, cid: u32, joined: u32, start: usiz
 }
 
 // Packet i completes the PDU that packet first began: its row, and its bytes at top if they have to be joined. Returns their end.
-fn finish(file: &[u8], w: &mut [u8], base: usize, made: usize, top: usize, i: usize, first: usize, need: usize) -> usize
+fn finish(
+    file: &[u8],
+    w: &mut [u8],
+    base: usize,
+    made: usize,
+    top: usize,
+    i: usize,
+    first: usize,
+    need: usize,
+) -> usize
     requires { ⌜ Finish (now file) (now w) base made top i first need ⌝ }
     ensures { λ r. ⌜ Finished (now (file .entry)) (now (w .entry)) base made top i first need (now (w .exit)) r ⌝ }
 {
