@@ -1,7 +1,7 @@
 -- Laws on the table of packets: one packet at a time, and what a write behind it leaves.
-use mathlib.Core.Path.{_≡_, refl, sym, ap, _∙_}
+use mathlib.Core.Path.{_≡_, refl}
 use mathlib.Core.List.{List, [], _∷_, _++_}
-use Prim.Native.Nat.{ℕ, zero, suc, _+_, _-_, _*_, _/_, _%_, _<_, _≤_}
+use Prim.Native.Nat.{ℕ, zero, suc, _+_, _-_, _*_, _%_, _<_, _≤_}
 use native.Mathlib.Nat.{add-zero}
 use native.Mathlib.Omega.{arith}
 use native.Mathlib.Numerals.{add-one}
@@ -11,7 +11,7 @@ use Rattle.laws.specs.Lists.{All, all-nil, all-cons}
 use Rattle.words.specs.Words.{word, long}
 use Rattle.words.specs.Front.{Front, front-word}
 use Rattle.btsnoop.specs.Packets.{Packet}
-use Rattle.btsnoop.specs.PacketTable.{packetAt, packetsFrom, dataOf, Fits, Tabled}
+use Rattle.btsnoop.specs.PacketTable.{packetAt, packetsFrom, dataOf, Tabled}
 
 pub front-long : (n : ℕ) (u w : List ℕ) (j : ℕ) → 4 * j + 8 ≤ n → Front n u w → long u j ≡ long w j
 unfolding long

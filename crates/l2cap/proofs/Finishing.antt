@@ -1,12 +1,12 @@
 -- A PDU is complete: its row, and its bytes if they have to be joined.
 use mathlib.Core.Path.{_≡_, refl, sym, ap, _∙_}
-use mathlib.Core.Bool.{Bool, true, false, cond}
+use mathlib.Core.Bool.{cond}
 use mathlib.Core.List.{List, [], _∷_, _++_, append-assoc}
 use mathlib.Core.Logic.{inl, inr}
-use Prim.Native.Nat.{ℕ, zero, suc, _+_, _-_, _*_, _/_, _%_, _<_, _≤_}
+use Prim.Native.Nat.{ℕ, suc, _+_, _-_, _*_, _/_, _%_, _<_, _≤_}
 use native.Mathlib.Omega.{arith}
 use lib.ListN.{length, getD, set, take, drop, length-drop}
-use lib.Seq.{sets, drop-drop, length-take-le, length-sets, sets-eq, take-append-le, drop-append-le, drop-at, getD-set-other}
+use lib.Seq.{sets, drop-drop, length-take-le, sets-eq, take-append-le, drop-append-le, drop-at, getD-set-other}
 use lib.Dec.{eqb}
 use Rattle.laws.specs.Choice.{split≤}
 use Rattle.laws.specs.Numbers.{le16}

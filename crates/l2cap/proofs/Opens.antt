@@ -1,13 +1,13 @@
 -- What is open: the row of a key, and what a fragment makes of it.
-use mathlib.Core.Path.{_≡_, refl, sym, ap, _∙_}
+use mathlib.Core.Path.{_≡_, refl, sym, _∙_}
 use mathlib.Core.Bool.{Bool, true, false, cond}
-use Prim.Native.Nat.{ℕ, zero, suc, _+_, _-_, _*_, _<_, _≤_}
+use Prim.Native.Nat.{ℕ, zero, suc, _+_, _-_, _*_, _≤_}
 use mathlib.Core.List.{List}
 use native.Mathlib.Omega.{arith}
 use lib.Dec.{eqb}
 use borrow.Author.Tests.{eq-eqb, ne-eqb}
 use Rattle.words.specs.Words.{word}
-use Rattle.table.specs.Table.{Slot, none as no-row, some as row, findIn, lookup, lookup-found, lookup-nothing, second, second-le, sumOf}
+use Rattle.table.specs.Table.{Slot, none as no-row, some as row, findIn, lookup, lookup-found, lookup-nothing, second, second-le}
 use Rattle.table.specs.declared.Row.{Row}
 use Rattle.table.specs.declared.Row.the-variants.{At, Nothing}
 use Rattle.l2cap.specs.Steps.{asOpen, openAt, longer, grown, nextAt, Small, Arrive}

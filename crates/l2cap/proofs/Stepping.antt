@@ -1,11 +1,11 @@
 -- A step: what the open rows stand for before and after one packet.
 use mathlib.Core.Path.{_≡_, refl, sym, ap, _∙_, fun-ext}
 use mathlib.Core.Bool.{Bool, true, false, cond}
-use mathlib.Core.List.{List, [], _∷_, _++_, append-nil}
+use mathlib.Core.List.{List, _++_, append-nil}
 use mathlib.Core.Option.{Option, none, some}
-use Prim.Native.Nat.{ℕ, zero, suc, _+_, _-_, _*_, _/_, _%_, _<_, _≤_}
+use Prim.Native.Nat.{ℕ, _+_, _-_, _*_, _<_, _≤_}
 use native.Mathlib.Omega.{arith}
-use lib.ListN.{length, take, drop, length-drop, length-append}
+use lib.ListN.{length, drop, length-drop, length-append}
 use lib.Seq.{length-take-le}
 use lib.Dec.{eqb, leb}
 use borrow.Author.Tests.{eq-eqb, ne-eqb, le-leb, lt-leb}
@@ -13,14 +13,14 @@ use Rattle.laws.specs.Choice.{split≡}
 use Rattle.laws.specs.Numbers.{le16}
 use Rattle.words.specs.Words.{word}
 use Rattle.words.specs.Front.{Front, front-then, front-word, front-less, front-refl}
-use Rattle.table.specs.Table.{Slot, none as no-row, some as row, lookup, upd, second, sumOf, Stored, Agree, lookup-agree, sum-agree, second-le}
-use Rattle.btsnoop.specs.PacketTable.{packetAt, dataOf, Tabled}
+use Rattle.table.specs.Table.{some as row, lookup, upd, second, sumOf, Stored, Agree, lookup-agree, sum-agree, second-le}
+use Rattle.btsnoop.specs.PacketTable.{packetAt, dataOf}
 use Rattle.btsnoop.specs.PacketFrames.{data-next, data-front}
 use Rattle.l2cap.specs.Pdus.{joined, isComplete, stillOpen, completed}
 use Rattle.l2cap.specs.PduTable.{pdusFrom, paysOf}
-use Rattle.l2cap.specs.PduFrames.{Placed, placed-agree, pdus-agree, pays-agree}
+use Rattle.l2cap.specs.PduFrames.{placed-agree, pdus-agree, pays-agree}
 use Rattle.l2cap.specs.Rekeyed.{putBy}
-use Rattle.l2cap.specs.Steps.{numberOf, pieceOf, since, Walk, Need, asOpen, openAt, longer, grown, nextAt, Arrive, Finish, Finished, heldOf, mapOf, Sound, Ready, Step, after, Stepped}
+use Rattle.l2cap.specs.Steps.{since, Walk, Need, asOpen, openAt, longer, grown, nextAt, Arrive, Finish, Finished, heldOf, mapOf, Sound, Step, after, Stepped}
 use Rattle.l2cap.specs.declared.Open.{Open}
 use Rattle.l2cap.specs.declared.Open.the-variants.{Closed, From}
 use Rattle.l2cap.specs.declared.Tables.{Tables}
@@ -147,10 +147,11 @@ module _ (f w : List ℕ) (q : ℕ) (t : Tables) (i : ℕ) (p : Step f w q t i) 
     sums = omega (arith, p .tabled .total, p .tabled .small, p .ready .few, data-next w i);
   }
 
-  -- rows written behind the packets and the payloads, for any record of the row
-  module _ (u : List ℕ) (c : ℕ) (fr : Front (4 * q) u w) where
-    data-same : dataOf u (i + 1) ≡ dataOf w (i + 1)
-    data-same = data-front (4 * q) u w (i + 1) (omega (arith, p .tabled .total, p .ready .quarter)) fr
+  low : 24 * i + 24 ≤ 4 * q
+  low = omega (arith, p .tabled .total, p .ready .quarter)
+
+  data-same : (u : List ℕ) → Front (4 * q) u w → dataOf u (i + 1) ≡ dataOf w (i + 1)
+  data-same u fr = data-front (4 * q) u w (i + 1) (omega (arith, low)) fr
 
   -- a continuation of nothing
   pub step-skip : nextAt w (3 * q) (t .live) i ≡ Closed → Stepped f w q t i w t
@@ -162,7 +163,6 @@ module _ (f w : List ℕ) (q : ℕ) (t : Tables) (i : ℕ) (p : Step f w q t i) 
       let says : (j : ℕ) → openAt w (3 * q) (t .live) j ≡ cond (eqb k j) Closed (openAt w (3 * q) (t .live) j) =
       (λ j. split≡ k j (λ z. rw (eq-eqb k j z) (ap (openAt w (3 * q) (t .live)) (sym z) ∙ no)) (λ z. rw (ne-eqb k j z))) in
       let vs : (a g : ℕ) → Closed ≡ From a g → (a ≤ i) × (g ≡ length (since f w k a (i + 1))) = (λ a g x. never x) in
-      let low : 24 * i + 24 ≤ 4 * q = omega (arith, p .tabled .total, p .ready .quarter) in
       record {
         ready = record {
           quarter = p .ready .quarter;
@@ -230,7 +230,6 @@ module _ (f w : List ℕ) (q : ℕ) (t : Tables) (i : ℕ) (p : Step f w q t i) 
         (λ a g z. let m : first ≡ a = cc in let n : got ≡ g = cc in rw (← m, ← n) s) in
         let says : (j : ℕ) → openAt u (3 * q) c j ≡ cond (eqb (word w (6 * i)) j) (From first got) (openAt w (3 * q) (t .live) j) =
         (λ j. stored-open w w u (3 * q) (t .live) (word w (6 * i)) x y c (λ z. refl) so j ∙ rw va) in
-        let low : 24 * i + 24 ≤ 4 * q = omega (arith, p .tabled .total, p .ready .quarter) in
         let fro : Front (8 * q) u w = front-less (8 * q) (4 * (3 * q)) u w (omega arith) (so .front) in
         let frn : Front (4 * q) u w = front-less (4 * q) (8 * q) u w (omega arith) fro in
         let frt : Front (t .top) u w = front-less (t .top) (8 * q) u w (omega (arith, p .ready .ends, step-small, p .tabled .total, p .ready .quarter)) fro in
@@ -243,7 +242,7 @@ module _ (f w : List ℕ) (q : ℕ) (t : Tables) (i : ℕ) (p : Step f w q t i) 
             made = omega (arith, p .ready .made);
             bump = p .ready .bump;
             ends = rw py (p .ready .ends);
-            few = rw (py, data-same u c frn) (omega (arith, so .sum, step-got));
+            few = rw (py, data-same u frn) (omega (arith, so .sum, step-got));
             sound = next-sound f u w (3 * q) (t .live) c i (4 * q) (From first got) (p .ready .sound) frn low says vs;
             placed = placed-agree f u w (2 * q) (t .made) (t .top) (t .top) (omega arith) ag (p .ready .placed);
           };
@@ -271,7 +270,6 @@ module _ (f w : List ℕ) (q : ℕ) (t : Tables) (i : ℕ) (p : Step f w q t i) 
         let vs : (a g : ℕ) → Closed ≡ From a g → (a ≤ i) × (g ≡ length (since f w (word w (6 * i)) a (i + 1))) = (λ a g z. never z) in
         let says : (j : ℕ) → openAt u (3 * q) c j ≡ cond (eqb (word w (6 * i)) j) Closed (openAt w (3 * q) (t .live) j) =
         (λ j. stored-open v w u (3 * q) (t .live) (word w (6 * i)) 0 0 c lk so j ∙ rw (as-zero 0 0 refl)) in
-        let low : 24 * i + 24 ≤ 4 * q = omega (arith, p .tabled .total, p .ready .quarter) in
         let fro : Front (8 * q) u v = front-less (8 * q) (4 * (3 * q)) u v (omega arith) (so .front) in
         let frn : Front (4 * q) u w = front-then (4 * q) u v w (front-less (4 * q) (8 * q) u v (omega arith) fro) (front-less (4 * q) (t .top) v w (p .ready .bump) (fin .front)) in
         let frt : Front top u v = front-less top (8 * q) u v (omega (arith, fin .most, p .ready .ends, step-small, p .tabled .total, p .ready .quarter)) fro in
@@ -285,7 +283,7 @@ module _ (f w : List ℕ) (q : ℕ) (t : Tables) (i : ℕ) (p : Step f w q t i) 
             made = omega (arith, p .ready .made);
             bump = omega (arith, p .ready .bump, fin .least);
             ends = rw py (omega (arith, fin .most, fin .pays, p .ready .ends));
-            few = rw (py, data-same u c frn) (omega (arith, sumk, fin .pays, step-got));
+            few = rw (py, data-same u frn) (omega (arith, sumk, fin .pays, step-got));
             sound = next-sound f u w (3 * q) (t .live) c i (4 * q) Closed (p .ready .sound) frn low says vs;
             placed = placed-agree f u v (2 * q) (t .made + 1) top top (omega arith) ag (fin .placed);
           };

@@ -1,23 +1,19 @@
 -- The packets are walked again: what they bring to a key, a byte of it, and the bytes joined.
 use mathlib.Core.Path.{_≡_, refl, sym, ap, _∙_}
-use mathlib.Core.Bool.{Bool, true, false, cond}
 use mathlib.Core.List.{List, [], _∷_, _++_, append-assoc, append-nil}
-use Prim.Native.Nat.{ℕ, zero, suc, _+_, _-_, _*_, _/_, _%_, _<_, _≤_, min}
+use Prim.Native.Nat.{ℕ, zero, suc, _+_, _-_, _*_, _<_, _≤_, min}
 use native.Mathlib.Omega.{arith}
-use native.Mathlib.Numerals.{add-one}
 use lib.ListN.{length, getD, take, drop, length-take, length-drop, List·getD-append}
-use lib.Seq.{sets, length-take-le, take-all, take-nil, take-take, getD-append-add, getD-take, getD-drop}
-use lib.Dec.{eqb}
+use lib.Seq.{length-take-le, take-all, take-nil, take-take, getD-append-add, getD-take, getD-drop}
 use borrow.Author.Tests.{eq-eqb, ne-eqb}
 use Rattle.laws.specs.Choice.{split≡, split≤}
 use Rattle.laws.specs.Stores.{Writes, Emitting, emit-start, emit-turn, emit-end}
-use Rattle.laws.specs.Numbers.{le16}
 use Rattle.words.specs.Words.{word}
 use Rattle.words.specs.Front.{Front, front-then, front-sets, front-refl}
 use Rattle.btsnoop.specs.Packets.{Packet}
-use Rattle.btsnoop.specs.PacketTable.{packetAt, packetsFrom, Tabled}
+use Rattle.btsnoop.specs.PacketTable.{packetAt, packetsFrom}
 use Rattle.btsnoop.specs.PacketFrames.{packets-next, packets-none, packets-snoc, packet-front, packets-front, tabled-less, tabled-front}
-use Rattle.l2cap.specs.Steps.{numberOf, pieceOf, gathered, since, brought, Walk, Paste, Gather, Need}
+use Rattle.l2cap.specs.Steps.{numberOf, pieceOf, gathered, since, brought, Walk, Paste, Gather}
 
 -- ---- one packet
 
@@ -133,14 +129,6 @@ module _ (f w : List ℕ) (key first upto at : ℕ) (pre : Walk f w first upto) 
 
     pub seek-end : upto ≤ i → 0 ≡ getD (since f w key first upto) at 0
     seek-end h = sym (rw (since-stop f w key i upto h)) ∙ s .same
-
--- ---- how many bytes are needed
-
-pub need-few : (B : List ℕ) (got : ℕ) → got < 4 → Need B got 4
-need-few B got h = record { enough = λ l. absurd (omega arith); short = λ l. omega arith }
-
-pub need-is : (B : List ℕ) (got x y r : ℕ) → x ≡ le16 B 0 → y ≡ x → r ≡ 4 + y → Need B got r
-need-is B got x y r p q e = record { enough = λ l. omega arith; short = λ l. omega arith }
 
 -- ---- one packet's bytes stored
 

@@ -1,6 +1,6 @@
 -- A keyed machine runs the same under another spelling of its keys, if the tests of both say the same of every two inputs.
-use mathlib.Core.Path.{_≡_, refl, sym, ap, _∙_}
-use mathlib.Core.Bool.{Bool, true, false, cond}
+use mathlib.Core.Path.{_≡_, refl}
+use mathlib.Core.Bool.{Bool, cond}
 use mathlib.Core.List.{List, [], _∷_, _++_}
 use Rattle.laws.specs.Lists.{All, all-nil, all-cons}
 use Rattle.laws.specs.Keys.{Key, eqK}

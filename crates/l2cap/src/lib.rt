@@ -8,7 +8,7 @@ ghost use Rattle.btsnoop.specs.PacketTable.{packetAt, packetsFrom, Tabled};
 ghost use Rattle.l2cap.specs.Pdus.{pdus};
 ghost use Rattle.l2cap.specs.PduTable.{pduAt, Reassembled};
 ghost use Rattle.l2cap.specs.PduFrames.{Lent};
-ghost use Rattle.l2cap.specs.Steps.{pieceOf, since, brought, Walk, Paste, Gather, Need, openAt, grown, nextAt, Small, Arrive, putPdu, PutPdu, Finish, Finished, Ready, Step, Stepped};
+ghost use Rattle.l2cap.specs.Steps.{pieceOf, since, brought, Walk, Paste, Gather, Need, openAt, grown, nextAt, Small, Arrive, putPdu, PutPdu, Finish, Finished, Step, Stepped};
 use table::Row;
 use table::find;
 use table::store;
@@ -20,7 +20,7 @@ use words::put64;
 use words::wide32;
 
 // What is open under a key: nothing, or the PDU that a packet began, and its bytes so far.
-pub enum Open {
+enum Open {
     Closed,
     From(usize, usize),
 }

@@ -1,5 +1,4 @@
 use Rattle.l2cap.proofs.Opens.{arrive-small, arrive-is}
-use native.Mathlib.Omega.{arith}
 use borrow.Author.Needs.{needs}
 use Rattle.l2cap.proofs.arrive.Statement.{statement}
 use Rattle.l2cap.proofs.arrive.Tie as tie

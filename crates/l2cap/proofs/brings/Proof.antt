@@ -1,5 +1,4 @@
 use Rattle.l2cap.proofs.Walking.{brings-own, brings-none}
-use native.Mathlib.Omega.{arith}
 use borrow.Author.Needs.{needs}
 use Rattle.l2cap.proofs.brings.Statement.{statement}
 use Rattle.l2cap.proofs.brings.Tie as tie

@@ -1,5 +1,4 @@
 use Rattle.l2cap.proofs.Finishing.{single-put, finish-file, finish-work}
-use native.Mathlib.Omega.{arith}
 use borrow.Author.Needs.{needs}
 use Rattle.l2cap.proofs.finish.Statement.{statement}
 use Rattle.l2cap.proofs.finish.Tie as tie

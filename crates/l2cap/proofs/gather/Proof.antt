@@ -1,8 +1,6 @@
 use Rattle.l2cap.proofs.Walking.{Gathering, gather-start, gather-paste, gather-turn, gather-end}
-use mathlib.Core.Path.{_≡_}
-use Prim.Native.Nat.{_+_, _-_}
+use Prim.Native.Nat.{_-_}
 use borrow.Author.Needs.{needs}
-use native.Mathlib.Omega.{arith}
 use Rattle.l2cap.proofs.gather.Statement.{statement}
 use Rattle.l2cap.proofs.gather.Tie as tie
 use Rattle.l2cap.proofs.gather.Reads as reads

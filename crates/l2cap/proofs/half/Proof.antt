@@ -1,5 +1,4 @@
 use Rattle.laws.specs.Numbers.{le16}
-use native.Mathlib.Omega.{arith}
 use borrow.Author.Needs.{needs}
 use Rattle.l2cap.proofs.half.Statement.{statement}
 use Rattle.l2cap.proofs.half.Tie as tie

@@ -1,5 +1,4 @@
 use Rattle.l2cap.proofs.Walking.{paste-part, paste-room, paste-is}
-use native.Mathlib.Omega.{arith}
 use borrow.Author.Needs.{needs}
 use Rattle.l2cap.proofs.paste.Statement.{statement}
 use Rattle.l2cap.proofs.paste.Tie as tie

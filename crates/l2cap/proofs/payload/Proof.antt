@@ -1,6 +1,6 @@
 use Rattle.l2cap.specs.PduFrames.{lent-work, lent-file}
 use Rattle.l2cap.proofs.Rows.{got-work, got-file}
-use mathlib.Core.Path.{_≡_, sym, _∙_}
+use mathlib.Core.Path.{sym, _∙_}
 use native.Mathlib.Omega.{arith}
 use borrow.Author.Needs.{needs}
 use Rattle.l2cap.proofs.payload.Statement.{statement}

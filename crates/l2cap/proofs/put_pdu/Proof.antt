@@ -1,5 +1,4 @@
 use Rattle.l2cap.proofs.Rows.{row-is}
-use native.Mathlib.Omega.{arith}
 use borrow.Author.Needs.{needs}
 use Rattle.l2cap.proofs.put_pdu.Statement.{statement}
 use Rattle.l2cap.proofs.put_pdu.Tie as tie

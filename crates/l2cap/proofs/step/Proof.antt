@@ -1,5 +1,5 @@
 use Rattle.l2cap.proofs.Stepping.{step-arrive, step-skip, step-walk, step-finish, step-narrow, step-hold, step-full}
-use mathlib.Core.Path.{_≡_, sym, _∙_}
+use mathlib.Core.Path.{sym, _∙_}
 use native.Mathlib.Omega.{arith}
 use borrow.Author.Needs.{needs}
 use Rattle.l2cap.proofs.step.Statement.{statement}
