@@ -1,3 +1,4 @@
 pub mod Signals
 pub mod Channels
 pub mod ChannelTable
+pub mod Reading
