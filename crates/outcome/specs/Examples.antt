@@ -1,0 +1,43 @@
+-- The worked example, and its cut by one byte, by computation.
+use Prim.Native.Nat.{ℕ, _+_, _-_, _*_, _/_, _%_}
+use mathlib.Core.Path.{_≡_, refl}
+use mathlib.Core.List.{List, [], _∷_, _++_}
+use mathlib.Core.Option.{Option, none, some}
+use lib.ListN.{length, take, drop}
+use Rattle.laws.specs.Answers.{Outcome, gives, refuses}
+use Rattle.laws.specs.Chop.{chop, chopFrom}
+use Rattle.laws.specs.Keys.{eqK}
+use Rattle.laws.specs.Keyed.{run, after}
+use Rattle.laws.specs.Count.{count, nub, mem}
+use Rattle.laws.specs.Numbers.{le16, le32, le64, be32, be64}
+use Rattle.items.specs.Items.{Span, item, spanList}
+use Rattle.mdr.specs.Frame.{unpacks}
+use Rattle.btsnoop.specs.Header.{isBtsnoop, datalink, isDatalink}
+use Rattle.btsnoop.specs.Records.{recordSize, isWhole, recordsIn, records, tailOffset}
+use Rattle.btsnoop.specs.Packets.{milliseconds, fragment, hciPacket, monitorPacket, packetOf, packets}
+use Rattle.l2cap.specs.Pdus.{joined, isComplete, stillOpen, pduOf, completed, pdus}
+use Rattle.channels.specs.Signals.{commandSize, isCommand, commands, body, signalOf, signalsIn, pduSignals, signals}
+use Rattle.channels.specs.Channels.{any, names, named, asksFor, admits, admittedAfter, admitted, isTried, asksRfcomm, asksSession}
+use Rattle.rfcomm.specs.Frames.{isSabm, isUih, shortLength, infoLength, infoStart, creditOf, frameOf}
+use Rattle.rfcomm.specs.Pieces.{uihKind, frameKind, kindOf, judged, counted, pieceOf, brought, pieces}
+use Rattle.spans.specs.Scan.{seek, spansN, restN, spansOf, restOf, capped}
+use Rattle.spans.specs.Spans.{spans, unfinished, onDlci}
+use Rattle.outcome.specs.Import.{Tail, strict, tolerant, onChannel, first, hasFrame, chosen, Found, found, missing, listed, filePieces, read, endsWell, outcome, given, fits, workSuffices, imported}
+
+abbrev pub sample : List ℕ
+sample =
+    0x62 ∷ 0x74 ∷ 0x73 ∷ 0x6E ∷ 0x6F ∷ 0x6F ∷ 0x70 ∷ 0x00 ∷ 0x00 ∷ 0x00 ∷ 0x00 ∷ 0x01 ∷ 0x00 ∷ 0x00 ∷ 0x03 ∷ 0xEA ∷
+    0x00 ∷ 0x00 ∷ 0x00 ∷ 0x16 ∷ 0x00 ∷ 0x00 ∷ 0x00 ∷ 0x16 ∷ 0x00 ∷ 0x00 ∷ 0x00 ∷ 0x01 ∷ 0x00 ∷ 0x00 ∷ 0x00 ∷ 0x00 ∷
+    0x00 ∷ 0xDC ∷ 0xDD ∷ 0xB3 ∷ 0x0F ∷ 0x2F ∷ 0x80 ∷ 0x00 ∷
+    0x02 ∷ 0x40 ∷ 0x20 ∷ 0x11 ∷ 0x00 ∷ 0x0D ∷ 0x00 ∷ 0x41 ∷ 0x00 ∷ 0x49 ∷ 0xEF ∷ 0x13 ∷
+    0x3E ∷ 0x01 ∷ 0x00 ∷ 0x00 ∷ 0x00 ∷ 0x00 ∷ 0x00 ∷ 0x01 ∷ 0x3C ∷ 0x00 ∷ []
+
+abbrev frame : List ℕ
+frame = 0x3E ∷ 0x01 ∷ 0x00 ∷ 0x00 ∷ 0x00 ∷ 0x00 ∷ 0x00 ∷ 0x01 ∷ 0x3C ∷ []
+
+pub example :
+    (outcome sample none strict ≡ found 18 (record { rx = 1; time = 0; wire = frame } ∷ []) 0 62) ×
+    (outcome (take 61 sample) none strict ≡ missing 5 (16 ∷ [])) ×
+    (outcome (take 61 sample) none tolerant ≡ missing 6 [])
+unfolding outcome isBtsnoop datalink isDatalink endsWell read tailOffset records recordsIn chop chopFrom isWhole recordSize be32 be64 le16 eqK filePieces packets packetOf milliseconds fragment hciPacket monitorPacket pdus run after joined isComplete stillOpen pduOf completed commandSize isCommand commands body signalOf signalsIn pduSignals signals any names named asksFor admits admittedAfter admitted isTried asksRfcomm asksSession isSabm isUih shortLength infoLength infoStart creditOf frameOf uihKind frameKind kindOf judged counted pieceOf brought pieces seek spansN restN spansOf restOf capped spans unfinished onDlci count nub mem onChannel first hasFrame chosen listed unpacks
+example = (refl, refl, refl)

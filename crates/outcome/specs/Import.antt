@@ -1,0 +1,88 @@
+-- Import: the DLCI chosen, its spans, how many buffers are unfinished, and the tail offset; or a refusal.
+use Prim.Native.Nat.{ℕ, _*_, _/_}
+use mathlib.Core.Path.{_≡_}
+use mathlib.Core.Bool.{Bool, true, false, cond, _&&_}
+use mathlib.Core.List.{List, [], _∷_, map}
+use mathlib.Core.Option.{Option, none, some}
+use lib.ListN.{length}
+use lib.Dec.{leb, ltb, eqb}
+use Rattle.laws.specs.Answers.{Answer, Outcome, gives, refuses, Meets}
+use Rattle.items.specs.Items.{Span, spanList}
+use Rattle.mdr.specs.Frame.{unpacksOf}
+use Rattle.btsnoop.specs.Header.{isBtsnoop, datalink, isDatalink}
+use Rattle.btsnoop.specs.Records.{records, tailOffset}
+use Rattle.btsnoop.specs.Packets.{packetOf, packets}
+use Rattle.l2cap.specs.Pdus.{pdus}
+use Rattle.channels.specs.Channels.{any}
+use Rattle.rfcomm.specs.Pieces.{Piece, judged, pieces}
+use Rattle.spans.specs.Spans.{spans, unfinished, onDlci}
+
+pub data Tail : Type 0 where
+  strict tolerant : Tail
+
+-- a given channel is the DLCI divided by 2
+unfoldable pub onChannel : Option ℕ → ℕ → Bool
+onChannel none d = true
+onChannel (some c) d = eqb (d / 2) c
+
+unfoldable pub first : (ℕ → Bool) → List ℕ → Option ℕ
+first f [] = none
+first f (e ∷ es) = cond (f e) (some e) (first f es)
+
+-- a span of the DLCI unpacks
+unfoldable pub hasFrame : List Piece → ℕ → Bool
+hasFrame ps d = any (λ s. unpacksOf (s .wire)) (spans (onDlci d ps))
+
+-- the first DLCI seen, on the channel, that has a span which unpacks
+unfoldable pub chosen : Option ℕ → List Piece → Option ℕ
+chosen channel ps = first (λ d. onChannel channel d && hasFrame ps d) (map (λ p. p .dlci) ps)
+
+pub data Found : Type 0 where
+  -- DLCI, spans, unfinished, tail offset
+  found : ℕ → List Span → ℕ → ℕ → Found
+  missing : ℕ → List ℕ → Found
+
+-- 6 where no DLCI is chosen
+unfoldable pub listed : List Piece → ℕ → Option ℕ → Found
+listed ps tail none = missing 6 []
+listed ps tail (some d) = found d (spans (onDlci d ps)) (unfinished (onDlci d ps)) tail
+
+-- the pieces that a file's whole records bring
+unfoldable pub filePieces : List ℕ → List Piece
+filePieces f = pieces (judged (pdus (packets (packetOf (datalink f)) (records f))))
+
+unfoldable pub read : List ℕ → Option ℕ → Found
+read f channel = listed (filePieces f) (tailOffset f) (chosen channel (filePieces f))
+
+-- 5, strict only: a record passes the end
+unfoldable pub endsWell : Tail → List ℕ → Bool
+endsWell strict f = eqb (tailOffset f) (length f)
+endsWell tolerant f = true
+
+-- 3, 4, 5, 6
+unfoldable pub outcome : List ℕ → Option ℕ → Tail → Found
+outcome f channel tail =
+    cond (isBtsnoop f)
+    (cond (isDatalink (datalink f))
+    (cond (endsWell tail f) (read f channel) (missing 5 (tailOffset f ∷ [])))
+    (missing 4 (datalink f ∷ [])))
+    (missing 3 [])
+
+unfoldable pub given : Found → Outcome
+given (found d ss u tail) = gives (d ∷ length ss ∷ u ∷ tail ∷ length (spanList ss) ∷ []) (spanList ss)
+given (missing n vs) = refuses n vs
+
+-- 1: over 1,048,576 bytes
+unfoldable pub fits : List ℕ → Bool
+fits f = leb (length f) 1048576
+
+-- 2: work under 8 times the file length
+unfoldable pub workSuffices : List ℕ → ℕ → Bool
+workSuffices f work = leb (8 * length f) work
+
+-- 1 to 6; 7 is checked last, as for every call that writes
+unfoldable pub imported : List ℕ → ℕ → Option ℕ → Tail → Outcome
+imported f work channel tail =
+    cond (fits f)
+    (cond (workSuffices f work) (given (outcome f channel tail)) (refuses 2 []))
+    (refuses 1 [])
