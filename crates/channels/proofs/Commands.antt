@@ -11,44 +11,17 @@ use borrow.Author.Tests.{leb-true, leb-false, le-leb, lt-leb, eq-eqb, ne-eqb}
 use Rattle.laws.specs.Choice.{splitB, split≤, no-way}
 use Rattle.laws.specs.Chop.{chop-eq}
 use Rattle.laws.specs.Numbers.{le16}
+use Rattle.words.specs.Fields.{fieldOf, field-value, field-none}
+use Rattle.words.specs.declared.Field.{Field}
+use Rattle.words.specs.declared.Field.the-variants.{Value, Missing}
+use Rattle.items.specs.Items.{rxOf}
+use Rattle.items.specs.declared.Direction.{Direction}
+use Rattle.items.specs.declared.Direction.the-variants.{Rx, Tx}
 use Rattle.channels.specs.Signals.{commandSize, isCommand, commands, code, body, triple, opposite, Signal, request, response, signalOf, signalsIn}
 use Rattle.channels.specs.Channels.{any, asksRfcomm}
-use Rattle.channels.specs.Reading.{rxOf, fieldAt, commandBytes, tripleOf, told}
-use Rattle.channels.specs.declared.Direction.{Direction}
-use Rattle.channels.specs.declared.Direction.the-variants.{Rx, Tx}
-use Rattle.channels.specs.declared.Field.{Field}
-use Rattle.channels.specs.declared.Field.the-variants.{Value, Missing}
+use Rattle.channels.specs.Reading.{commandBytes, tripleOf, told}
 use Rattle.channels.specs.declared.Triple.{Triple}
 use Rattle.channels.specs.declared.Signal.the-variants.{Request, Response, Other}
-
--- ---- fields
-
-pub field-short : (s : List ℕ) (at : ℕ) → length s < at + 2 → Missing ≡ fieldAt s at
-unfolding fieldAt
-field-short s at h = rw (lt-leb (at + 2) (length s) h)
-
-pub field-reads : (s : List ℕ) (at x : ℕ) → x ≡ le16 s at → at + 2 ≤ length s → Value x ≡ fieldAt s at
-unfolding fieldAt
-field-reads s at x e h = rw (le-leb (at + 2) (length s) h, e)
-
-pub record There (s : List ℕ) (at x : ℕ) : Type 0 where
-  pub fits : at + 2 ≤ length s
-  pub reads : x ≡ le16 s at
-
-module _ (s : List ℕ) (at : ℕ) (f : Field) (p : f ≡ fieldAt s at) where
-  pub field-there : (x : ℕ) → f ≡ Value x → There s at x
-  unfolding fieldAt
-  field-there x q =
-      split≤ (at + 2) (length s)
-      (λ h. let e : Value x ≡ Value (le16 s at) = sym q ∙ p ∙ rw (le-leb (at + 2) (length s) h) in record { fits = h; reads = cc })
-      (λ h. let e : Value x ≡ Missing = sym q ∙ p ∙ rw (lt-leb (at + 2) (length s) h) in let z : _≡_ {A = ℕ} 0 1 = cc in absurd (omega arith))
-
-  pub field-missing : f ≡ Missing → length s < at + 2
-  unfolding fieldAt
-  field-missing q =
-      split≤ (at + 2) (length s)
-      (λ h. let e : Missing ≡ Value (le16 s at) = sym q ∙ p ∙ rw (le-leb (at + 2) (length s) h) in let z : _≡_ {A = ℕ} 0 1 = cc in absurd (omega arith))
-      (λ h. h)
 
 -- ---- the body of a command
 
@@ -67,17 +40,17 @@ body-whole c h = rw (le-leb (commandSize c) (length c) h)
 pub body-short : (c : List ℕ) → length c < 4 → body c ≡ []
 body-short c h = body-passes c (omega (arith, size-is c))
 
-module _ (c : List ℕ) (f : Field) (p : f ≡ fieldAt c 2) where
+module _ (c : List ℕ) (f : Field) (p : f ≡ fieldOf c 2) where
   pub body-missing : f ≡ Missing → take (0 - 0) (drop 0 c) ≡ body c
-  body-missing q = sym (body-short c (field-missing c 2 f p q))
+  body-missing q = sym (body-short c (field-none c 2 f p q))
 
   module _ (x n : ℕ) (q : f ≡ Value x) (e : n ≡ x) where
     pub body-past : length c < 4 + n → take (0 - 0) (drop 0 c) ≡ body c
-    body-past h = sym (body-passes c (omega (arith, size-is c, field-there c 2 f p x q .reads)))
+    body-past h = sym (body-passes c (omega (arith, size-is c, field-value c 2 x f p q .1)))
 
     pub body-there : 4 + n ≤ length c → take (4 + n - 4) (drop 4 c) ≡ body c
     body-there h =
-        let r : x ≡ le16 c 2 = field-there c 2 f p x q .reads in
+        let r : x ≡ le16 c 2 = field-value c 2 x f p q .1 in
         let z : 4 + n - 4 ≡ le16 c 2 = omega arith in
         rw z (sym (body-whole c (omega (arith, size-is c))))
 
@@ -104,77 +77,77 @@ rx-one Rx = omega arith
 rx-one Tx = omega arith
 
 module _ (c b : List ℕ) (e : b ≡ body c) where
-  pub some-command : (f : Field) → f ≡ fieldAt b 0 → (x : ℕ) → f ≡ Value x → 0 < length c
+  pub some-command : (f : Field) → f ≡ fieldOf b 0 → (x : ℕ) → f ≡ Value x → 0 < length c
   some-command f p x q =
-      let h : 0 + 2 ≤ length b = field-there b 0 f p x q .fits in
+      let h : 0 + 2 ≤ length b = field-value b 0 x f p q .0 in
       let g : length b ≡ length (body c) = ap length e in
       omega (arith, body-room c (omega arith))
 
-  module _ (f : Field) (p : f ≡ fieldAt b 0) where
+  module _ (f : Field) (p : f ≡ fieldOf b 0) where
     pub asks-missing : f ≡ Missing → false ≡ asksRfcomm c
     unfolding asksRfcomm
-    asks-missing q = rw (← e, lt-leb 2 (length b) (field-missing b 0 f p q), and-false (eqb (code c) 2))
+    asks-missing q = rw (← e, lt-leb 2 (length b) (field-none b 0 f p q), and-false (eqb (code c) 2))
 
     pub asks-other : (x : ℕ) → f ≡ Value x → (x ≡ 3 → ⊥) → false ≡ asksRfcomm c
     unfolding asksRfcomm
-    asks-other x q n = rw (← e, ← (field-there b 0 f p x q .reads), ne-eqb x 3 n, and-false (leb 2 (length b)), and-false (eqb (code c) 2))
+    asks-other x q n = rw (← e, ← (field-value b 0 x f p q .1), ne-eqb x 3 n, and-false (leb 2 (length b)), and-false (eqb (code c) 2))
 
     pub asks-request : (x : ℕ) → f ≡ Value x → x ≡ 3 → eqb (getD c 0 0) 2 ≡ asksRfcomm c
     unfolding asksRfcomm
-    asks-request x q n = rw (← e, ← (field-there b 0 f p x q .reads), eq-eqb x 3 n, le-leb 2 (length b) (field-there b 0 f p x q .fits), and-true (eqb (code c) 2))
+    asks-request x q n = rw (← e, ← (field-value b 0 x f p q .1), eq-eqb x 3 n, le-leb 2 (length b) (field-value b 0 x f p q .0), and-true (eqb (code c) 2))
 
   module _ (link rx : ℕ) where
     says-short : length b < 4 → [] ≡ signalOf link rx c
     unfolding signalOf
     says-short h = rw (← e, lt-leb 4 (length b) h)
 
-    pub says-missing : (f : Field) → f ≡ fieldAt b 0 → f ≡ Missing → told Other ≡ signalOf link rx c
+    pub says-missing : (f : Field) → f ≡ fieldOf b 0 → f ≡ Missing → told Other ≡ signalOf link rx c
     unfolding told
-    says-missing f p q = says-short (omega (arith, field-missing b 0 f p q))
+    says-missing f p q = says-short (omega (arith, field-none b 0 f p q))
 
-    module _ (f : Field) (p : f ≡ fieldAt b 2) where
+    module _ (f : Field) (p : f ≡ fieldOf b 2) where
       pub says-missing₂ : f ≡ Missing → told Other ≡ signalOf link rx c
       unfolding told
-      says-missing₂ q = says-short (omega (arith, field-missing b 2 f p q))
+      says-missing₂ q = says-short (omega (arith, field-none b 2 f p q))
 
       pub says-other : (y : ℕ) → f ≡ Value y → (getD c 0 0 ≡ 2 → ⊥) → (getD c 0 0 ≡ 3 → ⊥) → told Other ≡ signalOf link rx c
       unfolding told signalOf
-      says-other y q m n = rw (← e, le-leb 4 (length b) (field-there b 2 f p y q .fits), ne-eqb (getD c 0 0) 2 m, ne-eqb (getD c 0 0) 3 n)
+      says-other y q m n = rw (← e, le-leb 4 (length b) (field-value b 2 y f p q .0), ne-eqb (getD c 0 0) 2 m, ne-eqb (getD c 0 0) 3 n)
 
-  module _ (link : ℕ) (d o : Direction) (k : rxOf o ≡ opposite (rxOf d)) (f g : Field) (p : f ≡ fieldAt b 0) (q : g ≡ fieldAt b 2) (x y : ℕ) (i : f ≡ Value x) (j : g ≡ Value y) where
+  module _ (link : ℕ) (d o : Direction) (k : rxOf o ≡ opposite (rxOf d)) (f g : Field) (p : f ≡ fieldOf b 0) (q : g ≡ fieldOf b 2) (x y : ℕ) (i : f ≡ Value x) (j : g ≡ Value y) where
     pub says-request : getD c 0 0 ≡ 2 → told (Request (record { link = link; direction = o; cid = y }) x) ≡ signalOf link (rxOf d) c
     unfolding told signalOf tripleOf
     says-request m =
-        rw (← e, le-leb 4 (length b) (field-there b 2 g q y j .fits), eq-eqb (getD c 0 0) 2 m, ← (field-there b 0 f p x i .reads), ← (field-there b 2 g q y j .reads), k)
+        rw (← e, le-leb 4 (length b) (field-value b 2 y g q j .0), eq-eqb (getD c 0 0) 2 m, ← (field-value b 0 x f p i .1), ← (field-value b 2 y g q j .1), k)
 
     pub says-response : (ok : Bool) → ok ≡ (leb 6 (length b) && eqb (le16 b 4) 0) → (getD c 0 0 ≡ 2 → ⊥) → getD c 0 0 ≡ 3 → told (Response (record { link = link; direction = o; cid = x }) y ok) ≡ signalOf link (rxOf d) c
     unfolding told signalOf tripleOf
     says-response ok s m n =
         let z : 1 - (1 - rxOf d) ≡ rxOf d = omega (arith, rx-one d) in
-        rw (← e, le-leb 4 (length b) (field-there b 2 g q y j .fits), ne-eqb (getD c 0 0) 2 m, eq-eqb (getD c 0 0) 3 n, ← (field-there b 0 f p x i .reads), ← (field-there b 2 g q y j .reads), k, z, s)
+        rw (← e, le-leb 4 (length b) (field-value b 2 y g q j .0), ne-eqb (getD c 0 0) 2 m, eq-eqb (getD c 0 0) 3 n, ← (field-value b 0 x f p i .1), ← (field-value b 2 y g q j .1), k, z, s)
 
-pub no-success : (b : List ℕ) (f : Field) → f ≡ fieldAt b 4 → f ≡ Missing → false ≡ (leb 6 (length b) && eqb (le16 b 4) 0)
-no-success b f p q = rw (lt-leb 6 (length b) (field-missing b 4 f p q))
+pub no-success : (b : List ℕ) (f : Field) → f ≡ fieldOf b 4 → f ≡ Missing → false ≡ (leb 6 (length b) && eqb (le16 b 4) 0)
+no-success b f p q = rw (lt-leb 6 (length b) (field-none b 4 f p q))
 
-pub success-is : (b : List ℕ) (f : Field) → f ≡ fieldAt b 4 → (x : ℕ) → f ≡ Value x → eqb x 0 ≡ (leb 6 (length b) && eqb (le16 b 4) 0)
-success-is b f p x q = rw (le-leb 6 (length b) (field-there b 4 f p x q .fits), field-there b 4 f p x q .reads)
+pub success-is : (b : List ℕ) (f : Field) → f ≡ fieldOf b 4 → (x : ℕ) → f ≡ Value x → eqb x 0 ≡ (leb 6 (length b) && eqb (le16 b 4) 0)
+success-is b f p x q = rw (le-leb 6 (length b) (field-value b 4 x f p q .0), field-value b 4 x f p q .1)
 
 -- ---- the first command
 
-module _ (b : List ℕ) (f : Field) (p : f ≡ fieldAt b 2) where
+module _ (b : List ℕ) (f : Field) (p : f ≡ fieldOf b 2) where
   all-bytes : length b ≤ commandSize b → length b ≡ length (commandBytes b)
   unfolding commandBytes
   all-bytes h = ap length (sym (take-all (commandSize b) b h))
 
   pub bytes-missing : f ≡ Missing → length b ≡ length (commandBytes b)
-  bytes-missing q = all-bytes (omega (arith, size-is b, field-missing b 2 f p q))
+  bytes-missing q = all-bytes (omega (arith, size-is b, field-none b 2 f p q))
 
   pub bytes-past : (x n : ℕ) → f ≡ Value x → n ≡ x → length b < 4 + n → length b ≡ length (commandBytes b)
-  bytes-past x n q e h = all-bytes (omega (arith, size-is b, field-there b 2 f p x q .reads))
+  bytes-past x n q e h = all-bytes (omega (arith, size-is b, field-value b 2 x f p q .1))
 
   pub bytes-there : (x n : ℕ) → f ≡ Value x → n ≡ x → 4 + n ≤ length b → 4 + n ≡ length (commandBytes b)
   unfolding commandBytes
-  bytes-there x n q e h = let r : x ≡ le16 b 2 = field-there b 2 f p x q .reads in omega (arith, size-is b, length-take-le (commandSize b) b (omega (arith, size-is b)))
+  bytes-there x n q e h = let r : x ≡ le16 b 2 = field-value b 2 x f p q .1 in omega (arith, size-is b, length-take-le (commandSize b) b (omega (arith, size-is b)))
 
 -- what a walk over the commands of b meets first, and what is left
 pub record First (b c r : List ℕ) : Type 0 where

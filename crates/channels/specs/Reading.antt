@@ -1,4 +1,4 @@
--- How the code reads signalling: 16-bit fields, the first command, and what a signal of the code's enum says.
+-- How the code reads signalling: the first command, and what a signal of the code's enum says.
 use Prim.Native.Nat.{ℕ, _+_, _-_, _<_, _≤_}
 use mathlib.Core.Path.{_≡_, refl}
 use mathlib.Core.Bool.{Bool, true, false, cond}
@@ -6,23 +6,11 @@ use mathlib.Core.List.{List, [], _∷_}
 use lib.ListN.{length, take}
 use lib.Dec.{leb}
 use Rattle.laws.specs.Keys.{Key}
-use Rattle.laws.specs.Numbers.{le16}
+use Rattle.items.specs.Items.{rxOf}
 use Rattle.channels.specs.Signals.{commandSize, triple, opposite, Signal, request, response}
-use Rattle.channels.specs.declared.Direction.{Direction}
-use Rattle.channels.specs.declared.Direction.the-variants.{Rx, Tx}
-use Rattle.channels.specs.declared.Field.{Field}
-use Rattle.channels.specs.declared.Field.the-variants.{Value, Missing}
 use Rattle.channels.specs.declared.Triple.{Triple}
 use Rattle.channels.specs.declared.Signal.{Signal as Said}
 use Rattle.channels.specs.declared.Signal.the-variants.{Request, Response, Other}
-
-unfoldable pub rxOf : Direction → ℕ
-rxOf Rx = 1
-rxOf Tx = 0
-
--- the field at a place
-unfoldable pub fieldAt : List ℕ → ℕ → Field
-fieldAt s at = cond (leb (at + 2) (length s)) (Value (le16 s at)) Missing
 
 -- the first command, or all that is left if it passes the end
 unfoldable pub commandBytes : List ℕ → List ℕ

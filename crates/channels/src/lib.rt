@@ -7,19 +7,11 @@ ghost use lib.Dec.{leb, eqb};
 ghost use Rattle.laws.specs.Numbers.{le16};
 ghost use Rattle.channels.specs.Signals.{commands, body, opposite, signalOf};
 ghost use Rattle.channels.specs.Channels.{any, asksRfcomm};
-ghost use Rattle.channels.specs.Reading.{rxOf, fieldAt, commandBytes, told};
-
-// Which way a PDU went: from the headset (Rx) or to it (Tx).
-pub enum Direction {
-    Rx,
-    Tx,
-}
-
-// A 16-bit field, where it is there.
-pub enum Field {
-    Value(u16),
-    Missing,
-}
+ghost use Rattle.items.specs.Items.{rxOf};
+ghost use Rattle.channels.specs.Reading.{commandBytes, told};
+use items::Direction;
+use words::Field;
+use words::field16;
 
 // A channel: data with this CID in this direction of a link.
 pub struct Triple {
@@ -37,19 +29,6 @@ pub enum Signal {
 }
 
 // ---- one command
-
-// The 16-bit field at a place.
-fn field16(s: &[u8], at: usize) -> Field
-    ensures { λ r. ⌜ r ≡ fieldAt (now (s .entry)) at ⌝ }
-{
-    if s.len() < 2 {
-        return Field::Missing;
-    }
-    if s.len() - 2 < at {
-        return Field::Missing;
-    }
-    Field::Value(words::get_le16(s, at))
-}
 
 // A field as a number.
 fn wide16(x: u16) -> usize

@@ -6,7 +6,7 @@ use Rattle.channels.proofs.asks_rfcomm.Tie as tie
 use Rattle.channels.proofs.asks_rfcomm.Reads as reads
 use Rattle.channels.proofs.asks_rfcomm.Lts as lts
 use Rattle.channels.proofs.body_of.Reads as body-of-reads
-use Rattle.channels.proofs.field16.Reads as field16-reads
+use Rattle.words.proofs.field16.Reads as field16-reads
 
 -- src/lib.rt:140:25
 body-of-requires : tie.Need-body-of-requires

@@ -1,4 +1,4 @@
-use Rattle.channels.specs.Reading.{rxOf}
+use Rattle.items.specs.Items.{rxOf}
 use native.Mathlib.Omega.{arith}
 use borrow.Author.Needs.{needs}
 use Rattle.channels.proofs.flip.Statement.{statement}

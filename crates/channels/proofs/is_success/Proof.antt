@@ -5,7 +5,7 @@ use Rattle.channels.proofs.is_success.Statement.{statement}
 use Rattle.channels.proofs.is_success.Tie as tie
 use Rattle.channels.proofs.is_success.Reads as reads
 use Rattle.channels.proofs.is_success.Lts as lts
-use Rattle.channels.proofs.field16.Reads as field16-reads
+use Rattle.words.proofs.field16.Reads as field16-reads
 
 -- src/lib.rt:89:9
 field16-requires : tie.Need-field16-requires

@@ -6,7 +6,7 @@ use Rattle.channels.proofs.read_signal.Tie as tie
 use Rattle.channels.proofs.read_signal.Reads as reads
 use Rattle.channels.proofs.read_signal.Lts as lts
 use Rattle.channels.proofs.body_of.Reads as body-of-reads
-use Rattle.channels.proofs.field16.Reads as field16-reads
+use Rattle.words.proofs.field16.Reads as field16-reads
 use Rattle.channels.proofs.flip.Reads as flip-reads
 use Rattle.channels.proofs.is_success.Reads as is-success-reads
 
