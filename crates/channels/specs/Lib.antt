@@ -2,3 +2,4 @@ pub mod Signals
 pub mod Channels
 pub mod ChannelTable
 pub mod Reading
+pub mod Noting

@@ -8,8 +8,14 @@ ghost use Rattle.laws.specs.Numbers.{le16};
 ghost use Rattle.channels.specs.Signals.{commands, body, opposite, signalOf};
 ghost use Rattle.channels.specs.Channels.{any, asksRfcomm};
 ghost use Rattle.items.specs.Items.{rxOf};
+ghost use Rattle.channels.specs.ChannelTable.{channelKey};
 ghost use Rattle.channels.specs.Reading.{commandBytes, told};
+ghost use Rattle.channels.specs.Noting.{gradeOf, requestGrade, responseGrade, Raised, Noted};
+ghost use Rattle.table.specs.Table.{lookup};
 use items::Direction;
+use table::Row;
+use table::find;
+use table::store;
 use words::Field;
 use words::field16;
 
@@ -157,4 +163,91 @@ pub fn asks_session(s: &[u8]) -> bool
         at = end;
     }
     false
+}
+
+// ---- the table of channels
+
+// The key of a channel.
+fn key_of(link: u32, direction: Direction, cid: u16) -> u64
+    ensures { λ r. ⌜ r ≡ channelKey link (rxOf direction) cid ⌝ }
+{
+    let side = 2 * (link as u64);
+    match direction {
+        Direction::Rx => (side + 1) * 65536 + (cid as u64),
+        Direction::Tx => side * 65536 + (cid as u64),
+    }
+}
+
+// The grade of a channel: 2 if a PSM 3 request admitted it, 1 if a response did, else 0.
+fn grade(w: &[u8], base: usize, rows: usize, key: u64) -> u32
+    requires { ⌜ 4 * (base + 4 * rows) ≤ length (now w) ⌝ }
+    ensures { λ r. ⌜ r ≡ gradeOf (lookup (now (w .entry)) base rows key) ⌝ }
+{
+    let found = find(w, base, rows, key);
+    let Row::At(i) = found else {
+        return 0;
+    };
+    words::get32(w, base + 4 * i + 2)
+}
+
+// The grade that a request gives the channel that it names.
+fn request_grade(psm: u16) -> u32
+    ensures { λ r. ⌜ r ≡ requestGrade psm ⌝ }
+{
+    if psm == 3 {
+        return 2;
+    }
+    0
+}
+
+// The grade that a response gives, of a success or not, to a request that named the channel of this key.
+fn response_grade(w: &[u8], base: usize, rows: usize, asked: u64, ok: bool) -> u32
+    requires { ⌜ 4 * (base + 4 * rows) ≤ length (now w) ⌝ }
+    ensures { λ r. ⌜ r ≡ responseGrade ok (lookup (now (w .entry)) base rows asked) ⌝ }
+{
+    if ok {
+        if 1 < grade(w, base, rows, asked) {
+            return 1;
+        }
+    }
+    0
+}
+
+// Notes that a channel is named, with a grade; its grade never falls. Returns the count of rows.
+fn raise(w: &mut [u8], base: usize, rows: usize, key: u64, v: u32) -> usize
+    requires { ⌜ 4 * (base + 4 * rows) + 16 ≤ length (now w) ⌝ }
+    ensures { λ r. ⌜ Raised (now (w .entry)) base rows key v (now (w .exit)) r ⌝ }
+{
+    let found = find(w, base, rows, key);
+    match found {
+        Row::At(i) => {
+            if v <= words::get32(w, base + 4 * i + 2) {
+                return rows;
+            }
+            store(w, base, rows, key, v, 0)
+        }
+        Row::Nothing => store(w, base, rows, key, v, 0),
+    }
+}
+
+// Notes what a command says. Returns the count of rows.
+fn note(w: &mut [u8], base: usize, rows: usize, said: Signal) -> usize
+    requires { ⌜ 4 * (base + 4 * rows) + 16 ≤ length (now w) ⌝ }
+    ensures { λ r. ⌜ Noted (now (w .entry)) base rows said (now (w .exit)) r ⌝ }
+{
+    match said {
+        Signal::Request(t, psm) => {
+            let d = t.direction;
+            let key = key_of(t.link, d, t.cid);
+            raise(w, base, rows, key, request_grade(psm))
+        }
+        Signal::Response(t, source, ok) => {
+            let d = t.direction;
+            let asked = key_of(t.link, flip(d), source);
+            let v = response_grade(w, base, rows, asked, ok);
+            let key = key_of(t.link, d, t.cid);
+            raise(w, base, rows, key, v)
+        }
+        Signal::Other => rows,
+    }
 }
