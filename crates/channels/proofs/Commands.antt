@@ -169,7 +169,7 @@ commands-more : (b : List ℕ) → 4 ≤ length b → commands b ≡ commandByte
 unfolding isCommand
 commands-more b h = rw (le-leb 4 (length b) h) at (commands-eq b)
 
-commands-end : (b : List ℕ) → length b < 4 → commands b ≡ []
+pub commands-end : (b : List ℕ) → length b < 4 → commands b ≡ []
 unfolding isCommand
 commands-end b h = rw (lt-leb 4 (length b) h) at (commands-eq b)
 

@@ -3,3 +3,4 @@ pub mod Channels
 pub mod ChannelTable
 pub mod Reading
 pub mod Noting
+pub mod Passing

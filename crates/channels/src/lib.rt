@@ -1,23 +1,29 @@
 // Signalling: the channels that requests and responses name and admit, and which PDUs are tried.
 ghost use mathlib.Core.Path.{_≡_};
 ghost use mathlib.Core.Bool.{_&&_};
-ghost use Prim.Native.Nat.{_+_, _*_, _%_, _≤_, _<_};
+ghost use Prim.Native.Nat.{_+_, _*_, _/_, _%_, _≤_, _<_};
 ghost use lib.ListN.{length};
 ghost use lib.Dec.{leb, eqb};
 ghost use Rattle.laws.specs.Numbers.{le16};
-ghost use Rattle.channels.specs.Signals.{commands, body, opposite, signalOf};
-ghost use Rattle.channels.specs.Channels.{any, asksRfcomm};
+ghost use Rattle.table.specs.Table.{lookup};
 ghost use Rattle.items.specs.Items.{rxOf};
+ghost use Rattle.l2cap.specs.PduTable.{pduAt, pdusFrom, Reassembled};
+ghost use Rattle.l2cap.specs.PduFrames.{Lent};
+ghost use Rattle.channels.specs.Signals.{commands, body, opposite, signalOf};
+ghost use Rattle.channels.specs.Channels.{any, asksRfcomm, asksSession};
 ghost use Rattle.channels.specs.ChannelTable.{channelKey};
 ghost use Rattle.channels.specs.Reading.{commandBytes, told};
 ghost use Rattle.channels.specs.Noting.{gradeOf, requestGrade, responseGrade, Raised, Noted};
-ghost use Rattle.table.specs.Table.{lookup};
+ghost use Rattle.channels.specs.Passing.{StepIs, PduStepPre, NotePre, PduNoted, ReadChannels, Judged};
 use items::Direction;
+use l2cap::payload;
 use table::Row;
 use table::find;
 use table::store;
 use words::Field;
 use words::field16;
+use words::get32;
+use words::wide32;
 
 // A channel: data with this CID in this direction of a link.
 pub struct Triple {
@@ -187,7 +193,7 @@ fn grade(w: &[u8], base: usize, rows: usize, key: u64) -> u32
     let Row::At(i) = found else {
         return 0;
     };
-    words::get32(w, base + 4 * i + 2)
+    get32(w, base + 4 * i + 2)
 }
 
 // The grade that a request gives the channel that it names.
@@ -221,7 +227,7 @@ fn raise(w: &mut [u8], base: usize, rows: usize, key: u64, v: u32) -> usize
     let found = find(w, base, rows, key);
     match found {
         Row::At(i) => {
-            if v <= words::get32(w, base + 4 * i + 2) {
+            if v <= get32(w, base + 4 * i + 2) {
                 return rows;
             }
             store(w, base, rows, key, v, 0)
@@ -250,4 +256,104 @@ fn note(w: &mut [u8], base: usize, rows: usize, said: Signal) -> usize
         }
         Signal::Other => rows,
     }
+}
+
+// ---- the signals of PDUs
+
+// What a command says, and the place after it.
+struct Step {
+    said: Signal,
+    next: usize,
+}
+
+// One signalling step over a payload.
+fn step_at(s: &[u8], at: usize, link: u32, direction: Direction) -> Step
+    requires { ⌜ at < length (now s) ⌝ }
+    ensures { λ r. ⌜ StepIs (now (s .entry)) at link (rxOf direction) r ⌝ }
+{
+    let end = at + command_len(&s[at..]);
+    let said = read_signal(&s[at..end], link, direction);
+    Step {
+        said: said,
+        next: end,
+    }
+}
+
+// The direction that a row's first word says.
+fn direction_of(side: u32) -> Direction
+    ensures { λ r. ⌜ rxOf r ≡ side % 2 ⌝ }
+{
+    if side % 2 == 1 {
+        return Direction::Rx;
+    }
+    Direction::Tx
+}
+
+// One signalling step over the payload of the PDU whose row is at word row.
+fn pdu_step<'a>(file: &'a [u8], w: &'a [u8], row: usize, at: usize) -> Step
+    requires { ⌜ PduStepPre (now file) (now w) row at ⌝ }
+    ensures { λ r. ⌜ StepIs (pduAt (now (file .entry)) (now (w .entry)) row .payload) at (pduAt (now (file .entry)) (now (w .entry)) row .link) (pduAt (now (file .entry)) (now (w .entry)) row .rx) r ⌝ }
+{
+    let side = get32(w, row);
+    step_at(payload(file, w, row), at, side / 2, direction_of(side))
+}
+
+// Notes what the PDU whose row is at word row says. Returns the count of rows.
+fn note_pdu(file: &[u8], w: &mut [u8], row: usize, base: usize, rows: usize) -> usize
+    requires { ⌜ NotePre (now file) (now w) row base rows ⌝ }
+    ensures { λ r. ⌜ PduNoted (now (file .entry)) (now (w .entry)) row base rows (now (w .exit)) r ⌝ }
+{
+    if get32(w, row + 1) != 1 {
+        return rows;
+    }
+    let size = wide32(get32(w, row + 4));
+    let mut n = rows;
+    let mut at = 0;
+    while at < size {
+        let step = pdu_step(file, w, row, at);
+        let said = step.said;
+        at = step.next;
+        n = note(w, base, n, said);
+    }
+    n
+}
+
+// Notes what all PDUs say, and returns the count of rows.
+pub fn read_channels(file: &[u8], w: &mut [u8], made: usize) -> usize
+    requires { ⌜ Reassembled (now file) (now w) made (pdusFrom (now file) (now w) (2 * (length (now file) / 4)) 0 made) ⌝ }
+    ensures { λ r. ⌜ ReadChannels (now (file .entry)) (now (w .entry)) made (now (w .exit)) r ⌝ }
+{
+    let q = file.len() / 4;
+    let mut rows = 0;
+    let mut i = 0;
+    while i < made {
+        rows = note_pdu(file, w, 2 * q + 7 * i, 3 * q, rows);
+        i += 1;
+    }
+    rows
+}
+
+// ---- what becomes of a PDU
+
+// Whether the PDU whose row is at word row asks for a session.
+pub fn asks<'a>(file: &'a [u8], w: &'a [u8], row: usize) -> bool
+    requires { ⌜ Lent (now file) (now w) row ⌝ }
+    ensures { λ r. ⌜ r ≡ asksSession (pduAt (now (file .entry)) (now (w .entry)) row) ⌝ }
+{
+    if get32(w, row + 1) == 1 {
+        return asks_session(payload(file, w, row));
+    }
+    false
+}
+
+// Whether a PDU is tried, by the first word of its row, 2 * link + direction, and its CID.
+pub fn is_tried(w: &[u8], base: usize, rows: usize, side: u32, cid: u32) -> bool
+    requires { ⌜ 4 * (base + 4 * rows) ≤ length (now w) ⌝ }
+    ensures { λ r. ⌜ Judged (now (w .entry)) base rows side cid r ⌝ }
+{
+    let found = find(w, base, rows, (side as u64) * 65536 + (cid as u64));
+    let Row::At(i) = found else {
+        return 0x40 <= cid;
+    };
+    0 < get32(w, base + 4 * i + 2)
 }
