@@ -6,7 +6,7 @@ use mathlib.Core.List.{List, [], _∷_, _++_, append-nil}
 use native.Mathlib.Omega.{arith}
 use lib.Dec.{leb, eqb}
 use lib.ListN.{length, getD, take, drop, length-take, length-drop, drop-of-length-le}
-use lib.Seq.{take-all, take-length, drop-length, length-take-le, drop-drop}
+use lib.Seq.{take-nil, take-all, take-length, drop-length, length-take-le, drop-drop}
 use borrow.Author.Tests.{leb-true, leb-false, le-leb, lt-leb, eq-eqb, ne-eqb}
 use Rattle.laws.specs.Choice.{splitB, split≤, no-way}
 use Rattle.laws.specs.Chop.{chop-eq}
@@ -45,8 +45,8 @@ module _ (c : List ℕ) (f : Field) (p : f ≡ fieldOf c 2) where
   body-missing q = sym (body-short c (field-none c 2 f p q))
 
   module _ (x n : ℕ) (q : f ≡ Value x) (e : n ≡ x) where
-    pub body-past : length c < 4 + n → take (0 - 0) (drop 0 c) ≡ body c
-    body-past h = sym (body-passes c (omega (arith, size-is c, field-value c 2 x f p q .1)))
+    pub body-past : length c < 4 + n → take (length c - length c) (drop (length c) c) ≡ body c
+    body-past h = rw (drop-length c) (take-nil (length c - length c)) ∙ sym (body-passes c (omega (arith, size-is c, field-value c 2 x f p q .1)))
 
     pub body-there : 4 + n ≤ length c → take (4 + n - 4) (drop 4 c) ≡ body c
     body-there h =

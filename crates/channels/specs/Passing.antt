@@ -89,5 +89,12 @@ signalled-front f u w made ps rows fr l s =
 pub record Judged (w : List ℕ) (b n side cid : ℕ) (r : Bool) : Type 0 where
   pub right : (ss : List Signal) (p : Pdu) → Tells ss w b n → p .link ≡ side / 2 → p .rx ≡ side % 2 → p .cid ≡ cid → cid < 65536 → r ≡ isTried ss p
 
-pub tried-row : (f w : List ℕ) (b n row : ℕ) (ss : List Signal) (r : Bool) → Judged w b n (word w row) (word w (row + 1)) r → Tells ss w b n → word w (row + 1) < 65536 → r ≡ isTried ss (pduAt f w row)
-tried-row f w b n row ss r j t h = j .right ss (pduAt f w row) t (link-at f w row) (rx-at f w row) (cid-at f w row) h
+module _ (f w : List ℕ) (made : ℕ) (ps : List Pdu) (rows : ℕ) (s : Signalled f w made ps rows) where
+  pub signalled-room : 4 * (3 * (length f / 4) + 4 * rows) ≤ length w
+  signalled-room = omega (arith, s .few, s .pdus .room)
+
+  pub signalled-tried :
+      (j : ℕ) → j < made → (r : Bool) → Judged w (3 * (length f / 4)) rows (word w (2 * (length f / 4) + 7 * j)) (word w (2 * (length f / 4) + 7 * j + 1)) r →
+      r ≡ isTried (signals ps) (pduAt f w (2 * (length f / 4) + 7 * j))
+  signalled-tried j h r g =
+      g .right (signals ps) (pduAt f w (2 * (length f / 4) + 7 * j)) (s .tells) (link-at f w (2 * (length f / 4) + 7 * j)) (rx-at f w (2 * (length f / 4) + 7 * j)) (cid-at f w (2 * (length f / 4) + 7 * j)) (s .pdus .placed j h .cid)

@@ -57,9 +57,10 @@ fn body_of(c: &[u8]) -> &[u8]
     let Field::Value(size) = field else {
         return &c[0..0];
     };
+    let n = c.len();
     let end = 4 + wide16(size);
-    if c.len() < end {
-        return &c[0..0];
+    if n < end {
+        return &c[n..n];
     }
     &c[4..end]
 }
@@ -227,7 +228,8 @@ fn raise(w: &mut [u8], base: usize, rows: usize, key: u64, v: u32) -> usize
     let found = find(w, base, rows, key);
     match found {
         Row::At(i) => {
-            if v <= get32(w, base + 4 * i + 2) {
+            let old = get32(w, base + 4 * i + 2);
+            if v <= old {
                 return rows;
             }
             store(w, base, rows, key, v, 0)
@@ -249,7 +251,8 @@ fn note(w: &mut [u8], base: usize, rows: usize, said: Signal) -> usize
         }
         Signal::Response(t, source, ok) => {
             let d = t.direction;
-            let asked = key_of(t.link, flip(d), source);
+            let other = flip(d);
+            let asked = key_of(t.link, other, source);
             let v = response_grade(w, base, rows, asked, ok);
             let key = key_of(t.link, d, t.cid);
             raise(w, base, rows, key, v)

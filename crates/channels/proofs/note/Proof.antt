@@ -11,67 +11,67 @@ use Rattle.channels.proofs.raise.Reads as raise-reads
 use Rattle.channels.proofs.request_grade.Reads as request-grade-reads
 use Rattle.channels.proofs.response_grade.Reads as response-grade-reads
 
--- src/lib.rt:239:25
+-- src/lib.rt:247:25
 enum-known-said : tie.Need-enum-known-said
 enum-known-said c = search needs
 
--- src/lib.rt:241:17
+-- src/lib.rt:249:17
 key-of-requires : tie.Need-key-of-requires
 key-of-requires c κs = search needs
 
--- src/lib.rt:242:39
+-- src/lib.rt:250:39
 request-grade-requires : tie.Need-request-grade-requires
 request-grade-requires c κs = search needs
 
--- src/lib.rt:242:13
+-- src/lib.rt:250:13
 raise-requires : tie.Need-raise-requires
 raise-requires c κs = search needs
 
--- src/lib.rt:244:26
+-- src/lib.rt:252:26
 enum-known-said-2 : tie.Need-enum-known-said-2
 enum-known-said-2 c = search needs
 
--- src/lib.rt:246:40
+-- src/lib.rt:254:17
 flip-requires : tie.Need-flip-requires
 flip-requires c κs = search needs
 
--- src/lib.rt:246:17
+-- src/lib.rt:255:17
 key-of-requires-2 : tie.Need-key-of-requires-2
 key-of-requires-2 c κs = search needs
 
--- src/lib.rt:247:17
+-- src/lib.rt:256:17
 response-grade-requires : tie.Need-response-grade-requires
 response-grade-requires c κs = search needs
 
--- src/lib.rt:248:17
+-- src/lib.rt:257:17
 key-of-requires-3 : tie.Need-key-of-requires-3
 key-of-requires-3 c κs = search needs
 
--- src/lib.rt:249:13
+-- src/lib.rt:258:13
 raise-requires-2 : tie.Need-raise-requires-2
 raise-requires-2 c κs = search needs
 
--- src/lib.rt:251:26
+-- src/lib.rt:260:26
 enum-told : tie.Need-enum-told
 enum-told c = search needs
 
--- src/lib.rt:234:1
+-- src/lib.rt:242:1
 same-length : tie.Need-same-length
 same-length c = search needs
 
--- src/lib.rt:234:1
+-- src/lib.rt:242:1
 returns : tie.Need-returns
 returns c = noted-request _ _ _ (c .before .before .before .before .before .before .before .said .given .0 .0) (omega arith) _ _ (c .before .before .before .before .before .key-of .ensures) _ _ (c .before .before .raise .ensures) _ _ (c .before .before .before .before .before .before .before .said .given .1) (c .before .before .before .request-grade .ensures)
 
--- src/lib.rt:234:1
+-- src/lib.rt:242:1
 same-length-2 : tie.Need-same-length-2
 same-length-2 c = search needs
 
--- src/lib.rt:234:1
+-- src/lib.rt:242:1
 returns-2 : tie.Need-returns-2
 returns-2 c = noted-response _ _ _ (c .before .before .before .before .before .before .before .before .before .before .said2 .given .0 .0) (omega arith) _ _ (c .before .before .before .before .key-of3 .ensures) _ _ (c .before .before .raise2 .ensures) _ (c .before .before .before .before .before .before .before .before .before .before .said2 .given .0 .1 .0) _ (c .before .before .before .before .before .before .before .before .before .before .said2 .given .1) (omega arith) _ (c .before .before .before .before .before .before .before .before .flip .ensures) _ (c .before .before .before .before .before .before .before .key-of2 .ensures) (c .before .before .before .before .before .response-grade .ensures)
 
--- src/lib.rt:234:1
+-- src/lib.rt:242:1
 returns-3 : tie.Need-returns-3
 returns-3 c = search noted-other
 
