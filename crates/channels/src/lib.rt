@@ -65,6 +65,7 @@ fn body_of(c: &[u8]) -> &[u8]
     &c[4..end]
 }
 
+// The other direction.
 fn flip(d: Direction) -> Direction
     ensures { λ r. ⌜ rxOf r ≡ opposite (rxOf d) ⌝ }
 {
@@ -85,7 +86,7 @@ fn is_success(b: &[u8]) -> bool
     result == 0
 }
 
-// One signalling step: what a command says, for a PDU of this link and direction.
+// What a command says, in a PDU of this link and direction: a request, a response, or nothing.
 fn read_signal(c: &[u8], link: u32, direction: Direction) -> Signal
     ensures { λ r. ⌜ told r ≡ signalOf link (rxOf direction) (now (c .entry)) ⌝ }
 {
