@@ -25,6 +25,10 @@ bytesOf start size t = start ∷ size ∷ t % 4294967296 ∷ t / 4294967296 ∷ 
 unfoldable pub rowOf : Part → ℕ → List ℕ
 rowOf p t = stretchOf p ++ bytesOf (p .start) (p .len + 65536 * p .joined) t
 
+pub row-long : (p : Part) (t : ℕ) → length (rowOf p t) ≡ 8
+unfolding rowOf stretchOf bytesOf
+row-long p t = refl
+
 pub record PutPre (w : List ℕ) (at : ℕ) (p : Part) : Type 0 where
   pub room : 4 * at + 32 ≤ length w
   pub sessions : p .sessions < 65536
