@@ -7,3 +7,4 @@ pub mod Parts
 pub mod Walk
 pub mod Reading
 pub mod Adding
+pub mod PacketFrames

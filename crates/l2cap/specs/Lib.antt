@@ -1,2 +1,4 @@
 pub mod Pdus
 pub mod PduTable
+pub mod PduFrames
+pub mod Rekeyed
