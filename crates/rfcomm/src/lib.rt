@@ -17,9 +17,9 @@ ghost use Rattle.rfcomm.specs.Gathering.{partOf, PiecePre, TakePre, Read
 use channels::asks;
 use channels::is_tried;
 use l2cap::payload;
+use table::Row;
 use table::find;
 use table::store;
-use table::Row;
 use words::get32;
 use words::get64;
 use words::put32;
@@ -370,7 +370,10 @@ fn take_pdu(file: &[u8], w: &mut [u8], q: usize, rows: usize, t: Taken, j: usize
         }
         Verdict::Carries(i) => {
             take_piece(w, row, 6 * q, counts, i, 5 * q + 8 * pieces);
-            Taken { counts, pieces: pieces + 1 }
+            Taken {
+                counts,
+                pieces: pieces + 1,
+            }
         }
         Verdict::Passed => t,
     }
@@ -382,7 +385,10 @@ pub fn read_pieces(file: &[u8], w: &mut [u8], made: usize, rows: usize) -> usize
     ensures { λ r. ⌜ ReadPieces (now (file .entry)) (now (w .entry)) made (now (w .exit)) r ⌝ }
 {
     let q = file.len() / 4;
-    let mut t = Taken { counts: 0, pieces: 0 };
+    let mut t = Taken {
+        counts: 0,
+        pieces: 0,
+    };
     let mut j = 0;
     while j < made {
         t = take_pdu(file, w, q, rows, t, j);
