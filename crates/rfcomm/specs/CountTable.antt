@@ -67,11 +67,11 @@ module _ (m : Key → Counts) (w : List ℕ) (b n most : ℕ) (c : Counted m w b
   pub counted-none : (k : Kind) → counted (m (link ∷ [])) k ≡ m (link ∷ []) → Counted (put m (link ∷ []) (counted (m (link ∷ [])) k)) w b n (most + 1)
   counted-none k e = record {
     sessions = λ l. split≡ l link
-      (λ q. ap (λ (x : Counts). x .sessions) (put-at m (link ∷ []) (l ∷ []) (counted (m (link ∷ [])) k) (rw q) ∙ e) ∙ rw (← q) (c .sessions l))
-      (λ q. ap (λ (x : Counts). x .sessions) (put-off m (link ∷ []) (l ∷ []) (counted (m (link ∷ [])) k) (one-key l link q)) ∙ c .sessions l);
+        (λ q. ap (λ (x : Counts). x .sessions) (put-at m (link ∷ []) (l ∷ []) (counted (m (link ∷ [])) k) (rw q) ∙ e) ∙ rw (← q) (c .sessions l))
+        (λ q. ap (λ (x : Counts). x .sessions) (put-off m (link ∷ []) (l ∷ []) (counted (m (link ∷ [])) k) (one-key l link q)) ∙ c .sessions l);
     links = λ l i h g. split≡ l link
-      (λ q. ap (λ (x : Counts). x .links i) (put-at m (link ∷ []) (l ∷ []) (counted (m (link ∷ [])) k) (rw q) ∙ e) ∙ rw (← q) (c .links l i h g))
-      (λ q. ap (λ (x : Counts). x .links i) (put-off m (link ∷ []) (l ∷ []) (counted (m (link ∷ [])) k) (one-key l link q)) ∙ c .links l i h g);
+        (λ q. ap (λ (x : Counts). x .links i) (put-at m (link ∷ []) (l ∷ []) (counted (m (link ∷ [])) k) (rw q) ∙ e) ∙ rw (← q) (c .links l i h g))
+        (λ q. ap (λ (x : Counts). x .links i) (put-off m (link ∷ []) (l ∷ []) (counted (m (link ∷ [])) k) (one-key l link q)) ∙ c .links l i h g);
     few = λ k. omega (arith, c .few k);
   }
 
@@ -86,18 +86,18 @@ module _ (m : Key → Counts) (w : List ℕ) (b n most : ℕ) (c : Counted m w b
 
     value-few : (k : ℕ) → valueOf (lookup u b r k) ≤ most + 1
     value-few k = split≡ key k
-      (λ q. rw (← q, value-same) (omega (arith, c .few key)))
-      (λ q. rw (value-other k q) (omega (arith, c .few k)))
+        (λ q. rw (← q, value-same) (omega (arith, c .few key)))
+        (λ q. rw (value-other k q) (omega (arith, c .few k)))
 
     -- one more session
     pub counted-session : (x : Counts) → x .sessions ≡ suc (m (link ∷ []) .sessions) → x .links ≡ m (link ∷ []) .links → key ≡ 64 * link → Counted (put m (link ∷ []) x) u b r (most + 1)
     counted-session x es el ek = record {
       sessions = λ l. split≡ l link
-        (λ q. ap (λ (y : Counts). y .sessions) (put-at m (link ∷ []) (l ∷ []) x (rw q)) ∙ es ∙ ap suc (c .sessions link) ∙ rw (q, ← ek, value-same) (omega arith))
-        (λ q. ap (λ (y : Counts). y .sessions) (put-off m (link ∷ []) (l ∷ []) x (one-key l link q)) ∙ c .sessions l ∙ sym (value-other (64 * l) (λ z. q (omega arith))));
+          (λ q. ap (λ (y : Counts). y .sessions) (put-at m (link ∷ []) (l ∷ []) x (rw q)) ∙ es ∙ ap suc (c .sessions link) ∙ rw (q, ← ek, value-same) (omega arith))
+          (λ q. ap (λ (y : Counts). y .sessions) (put-off m (link ∷ []) (l ∷ []) x (one-key l link q)) ∙ c .sessions l ∙ sym (value-other (64 * l) (λ z. q (omega arith))));
       links = λ l i h g. split≡ l link
-        (λ q. ap (λ (y : Counts). y .links i) (put-at m (link ∷ []) (l ∷ []) x (rw q)) ∙ ap (λ (y : ℕ → ℕ). y i) el ∙ rw (← q) (c .links l i h g) ∙ sym (value-other (64 * l + i) (λ z. omega arith)))
-        (λ q. ap (λ (y : Counts). y .links i) (put-off m (link ∷ []) (l ∷ []) x (one-key l link q)) ∙ c .links l i h g ∙ sym (value-other (64 * l + i) (λ z. q (omega arith))));
+          (λ q. ap (λ (y : Counts). y .links i) (put-at m (link ∷ []) (l ∷ []) x (rw q)) ∙ ap (λ (y : ℕ → ℕ). y i) el ∙ rw (← q) (c .links l i h g) ∙ sym (value-other (64 * l + i) (λ z. omega arith)))
+          (λ q. ap (λ (y : Counts). y .links i) (put-off m (link ∷ []) (l ∷ []) x (one-key l link q)) ∙ c .links l i h g ∙ sym (value-other (64 * l + i) (λ z. q (omega arith))));
       few = value-few;
     }
 
@@ -105,18 +105,18 @@ module _ (m : Key → Counts) (w : List ℕ) (b n most : ℕ) (c : Counted m w b
     pub counted-link : (e : ℕ) → 0 < e → e < 64 → (x : Counts) → x .sessions ≡ m (link ∷ []) .sessions → ((j : ℕ) → x .links j ≡ cond (eqb j e) (suc (m (link ∷ []) .links j)) (m (link ∷ []) .links j)) → key ≡ 64 * link + e → Counted (put m (link ∷ []) x) u b r (most + 1)
     counted-link e lo hi x es el ek = record {
       sessions = λ l. split≡ l link
-        (λ q. ap (λ (y : Counts). y .sessions) (put-at m (link ∷ []) (l ∷ []) x (rw q)) ∙ es ∙ rw (← q) (c .sessions l) ∙ sym (value-other (64 * l) (λ z. omega arith)))
-        (λ q. ap (λ (y : Counts). y .sessions) (put-off m (link ∷ []) (l ∷ []) x (one-key l link q)) ∙ c .sessions l ∙ sym (value-other (64 * l) (λ z. q (omega arith))));
+          (λ q. ap (λ (y : Counts). y .sessions) (put-at m (link ∷ []) (l ∷ []) x (rw q)) ∙ es ∙ rw (← q) (c .sessions l) ∙ sym (value-other (64 * l) (λ z. omega arith)))
+          (λ q. ap (λ (y : Counts). y .sessions) (put-off m (link ∷ []) (l ∷ []) x (one-key l link q)) ∙ c .sessions l ∙ sym (value-other (64 * l) (λ z. q (omega arith))));
       links = λ l i h g. split≡ l link
-        (λ q. ap (λ (y : Counts). y .links i) (put-at m (link ∷ []) (l ∷ []) x (rw q)) ∙ el i ∙ split≡ i e
+          (λ q. ap (λ (y : Counts). y .links i) (put-at m (link ∷ []) (l ∷ []) x (rw q)) ∙ el i ∙ split≡ i e
           (λ p.
-            let a : cond (eqb i e) (suc (m (link ∷ []) .links i)) (m (link ∷ []) .links i) ≡ suc (m (link ∷ []) .links i) = rw (eq-eqb i e p) in
-            let v : suc (valueOf (lookup w b n (64 * link + i))) ≡ valueOf (lookup u b r (64 * l + i)) = rw (q, p, ← ek, value-same) (omega arith) in
-            a ∙ ap suc (c .links link i h g) ∙ v)
+          let a : cond (eqb i e) (suc (m (link ∷ []) .links i)) (m (link ∷ []) .links i) ≡ suc (m (link ∷ []) .links i) = rw (eq-eqb i e p) in
+          let v : suc (valueOf (lookup w b n (64 * link + i))) ≡ valueOf (lookup u b r (64 * l + i)) = rw (q, p, ← ek, value-same) (omega arith) in
+          a ∙ ap suc (c .links link i h g) ∙ v)
           (λ p.
-            let a : cond (eqb i e) (suc (m (link ∷ []) .links i)) (m (link ∷ []) .links i) ≡ m (link ∷ []) .links i = rw (ne-eqb i e p) in
-            let v : valueOf (lookup w b n (64 * link + i)) ≡ valueOf (lookup u b r (64 * l + i)) = rw q (sym (value-other (64 * link + i) (λ z. p (omega arith)))) in
-            a ∙ c .links link i h g ∙ v))
-        (λ q. ap (λ (y : Counts). y .links i) (put-off m (link ∷ []) (l ∷ []) x (one-key l link q)) ∙ c .links l i h g ∙ sym (value-other (64 * l + i) (λ z. q (omega arith))));
+          let a : cond (eqb i e) (suc (m (link ∷ []) .links i)) (m (link ∷ []) .links i) ≡ m (link ∷ []) .links i = rw (ne-eqb i e p) in
+          let v : valueOf (lookup w b n (64 * link + i)) ≡ valueOf (lookup u b r (64 * l + i)) = rw q (sym (value-other (64 * link + i) (λ z. p (omega arith)))) in
+          a ∙ c .links link i h g ∙ v))
+          (λ q. ap (λ (y : Counts). y .links i) (put-off m (link ∷ []) (l ∷ []) x (one-key l link q)) ∙ c .links l i h g ∙ sym (value-other (64 * l + i) (λ z. q (omega arith))));
       few = value-few;
     }

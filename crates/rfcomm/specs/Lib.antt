@@ -4,3 +4,5 @@ pub mod PieceTable
 pub mod Reading
 pub mod CountTable
 pub mod PieceRows
+pub mod Judging
+pub mod Gathering

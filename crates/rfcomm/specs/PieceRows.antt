@@ -25,6 +25,10 @@ bytesOf start size t = start ∷ size ∷ t % 4294967296 ∷ t / 4294967296 ∷ 
 unfoldable pub rowOf : Part → ℕ → List ℕ
 rowOf p t = stretchOf p ++ bytesOf (p .start) (p .len + 65536 * p .joined) t
 
+pub row-long : (p : Part) (t : ℕ) → length (rowOf p t) ≡ 8
+unfolding rowOf stretchOf bytesOf
+row-long p t = refl
+
 pub record PutPre (w : List ℕ) (at : ℕ) (p : Part) : Type 0 where
   pub room : 4 * at + 32 ≤ length w
   pub sessions : p .sessions < 65536
@@ -89,9 +93,9 @@ module _ (f w : List ℕ) (at : ℕ) (p : Part) (t : ℕ) (pre : PutPre w at p) 
       let tm : long u (at + 6) ≡ t = rw e (long-puts (rowOf p t) w at 6 t (omega (arith, pre .room)) (omega arith) refl refl) in
       let same : take (p .len) (drop (p .start) (cond (eqb (p .joined) 1) u f)) ≡ take (p .len) (drop (p .start) (cond (eqb (p .joined) 1) w f)) = go (eqb (p .joined) 1) i in
       rw (row-start, row 1 (omega arith), row 2 (omega arith), row 3 (omega arith), row 4 (omega arith), row-len, row-joined, s1, s2, tm, same) where
-    go : (b : Bool) → p .start + p .len ≤ cond b top (length f) → take (p .len) (drop (p .start) (cond b u f)) ≡ take (p .len) (drop (p .start) (cond b w f))
-    go true q = front-part top u w (p .start) (p .len) q (rw e (front-puts top (rowOf p t) w at h))
-    go false q = refl
+        go : (b : Bool) → p .start + p .len ≤ cond b top (length f) → take (p .len) (drop (p .start) (cond b u f)) ≡ take (p .len) (drop (p .start) (cond b w f))
+        go true q = front-part top u w (p .start) (p .len) q (rw e (front-puts top (rowOf p t) w at h))
+        go false q = refl
 
   pub row-within : (top : ℕ) → p .start + p .len ≤ cond (eqb (p .joined) 1) top (length f) → 0 < p .dlci → p .dlci < 64 → Within f u at top
   unfolding rowOf stretchOf bytesOf
@@ -114,9 +118,9 @@ piece-front n f u w at h a top g i =
       front-word n u w (at + 6 + 1) (omega arith) a,
       same,
     ) where
-  go : (b : Bool) → word w (at + 4) + word w (at + 5) % 65536 ≤ cond b top (length f) → take (word w (at + 5) % 65536) (drop (word w (at + 4)) (cond b u f)) ≡ take (word w (at + 5) % 65536) (drop (word w (at + 4)) (cond b w f))
-  go true q = front-part n u w (word w (at + 4)) (word w (at + 5) % 65536) (omega arith) a
-  go false q = refl
+      go : (b : Bool) → word w (at + 4) + word w (at + 5) % 65536 ≤ cond b top (length f) → take (word w (at + 5) % 65536) (drop (word w (at + 4)) (cond b u f)) ≡ take (word w (at + 5) % 65536) (drop (word w (at + 4)) (cond b w f))
+      go true q = front-part n u w (word w (at + 4)) (word w (at + 5) % 65536) (omega arith) a
+      go false q = refl
 
 pub within-front : (n : ℕ) (f u w : List ℕ) (at top : ℕ) → 4 * at + 32 ≤ n → Front n u w → Within f w at top → Within f u at top
 within-front n f u w at top h a i = record {

@@ -26,7 +26,7 @@ frameShown b Other = other
 -- places inside the payload
 abbrev pub Lies : List ℕ → Frame → Type 0
 Lies b (Sabm d) = d < 64
-Lies b (Found u) = (u .dlci < 64) × (3 ≤ u .start) × (u .start + u .len < length b) × (u .len < 32768)
+Lies b (Found u) = (u .dlci < 64) × (3 ≤ u .start) × (u .start + u .len < length b) × (u .len < 32768) × (u .start ≤ 5)
 Lies b Other = Unit {0}
 
 pub record FrameIs (b : List ℕ) (r : Frame) : Type 0 where
@@ -113,7 +113,7 @@ module _ (b : List ℕ) (pre : UihPre b) where
   pub uih-short : length b < 4 → FrameIs b Other
   uih-short h = uih-none (omega (arith, start-least))
 
-  module _ (l : Length) (is : LengthIs b l) (c : ℕ) (ec : c ≡ cond (eqb (getD b 1 0) 0xFF) 1 0) where
+  module _ (l : Length) (is : LengthIs b l) (c : ℕ) (ec : c ≡ cond (eqb (getD b 1 0) 0xFF) 1 0) (c1 : c ≤ 1) where
     start-is : 2 + l .width + c ≡ infoStart b
     unfolding infoStart
     start-is = rw ec (ap (λ (k : ℕ). k + cond (eqb (getD b 1 0) 0xFF) 1 0) (is .start))
@@ -125,5 +125,5 @@ module _ (b : List ℕ) (pre : UihPre b) where
     unfolding frameOf frameShown uihAt
     uih-whole h d z s = record {
       shows = rw (there b (pre .some), pre .not, pre .is, lt-ltb (infoStart b + infoLength b) (length b) (omega (arith, start-is, is .value)), start-is, is .value, z);
-      lies = (s, omega (arith, start-is, start-least), h, is .few);
+      lies = (s, omega (arith, start-is, start-least), h, is .few, omega (arith, is .wide));
     }

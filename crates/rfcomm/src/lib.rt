@@ -7,16 +7,25 @@ ghost use lib.ListN.{length};
 ghost use Rattle.rfcomm.specs.Frames.{isSabm, isUih};
 ghost use Rattle.rfcomm.specs.Reading.{UihPre, FrameIs, LengthIs};
 ghost use Rattle.rfcomm.specs.CountTable.{valueOf, UpPre};
+ghost use Rattle.rfcomm.specs.Judging.{placedUih, FrameVerdict, JudgePre, VerdictIs};
+ghost use Rattle.l2cap.specs.PduFrames.{Lent};
 ghost use Rattle.rfcomm.specs.PieceRows.{stretchOf, bytesOf, rowOf, PutPre};
 ghost use Rattle.table.specs.Table.{lookup, Stored};
 ghost use Rattle.words.specs.Rows.{putWords};
+ghost use Rattle.words.specs.Words.{long};
+ghost use Rattle.rfcomm.specs.Gathering.{partOf, PiecePre, TakePre, Ready, TakenIn, PiecesPre, ReadPieces};
+use channels::asks;
+use channels::is_tried;
+use l2cap::payload;
+use table::Row;
 use table::find;
 use table::store;
-use table::Row;
 use words::get32;
+use words::get64;
 use words::put32;
 use words::put64;
 use words::wide;
+use words::wide32;
 
 // A UIH frame in a payload: its DLCI, where its information starts, and its length.
 pub struct Uih {
@@ -205,4 +214,185 @@ fn put_piece(w: &mut [u8], at: usize, p: Part, time: u64)
     put_stretch(w, at, p);
     let size = pair(p.len, p.joined);
     put_bytes(w, at + 4, p.start, size, time);
+}
+
+// Information in the file, or in work where joined is 1.
+pub struct Info {
+    pub dlci: u32,
+    pub start: usize,
+    pub len: usize,
+    pub joined: u32,
+}
+
+// What a PDU is once it is judged.
+pub enum Verdict {
+    // a PSM 3 request
+    Asks,
+    // SABM on a DLCI
+    Opens(u32),
+    // UIH with information
+    Carries(Info),
+    Passed,
+}
+
+// 1 if a payload was joined in work.
+fn joined_of(place: u32) -> u32
+    ensures { λ r. ⌜ r ≡ cond (eqb place 1) 1 0 ⌝ }
+{
+    if place == 1 {
+        return 1;
+    }
+    0
+}
+
+// The information of a UIH frame in the payload of a row. DLCI 0 and empty information are passed over.
+fn place_uih(w: &[u8], row: usize, u: Uih) -> Verdict
+    requires { ⌜ (4 * row + 28 ≤ length (now w)) × (u .start ≤ 5) ⌝ }
+    ensures { λ r. ⌜ r ≡ placedUih (now (w .entry)) row u ⌝ }
+{
+    let dlci = u.dlci;
+    let len = u.len;
+    if dlci == 0 {
+        return Verdict::Passed;
+    }
+    if len == 0 {
+        return Verdict::Passed;
+    }
+    let joined = joined_of(get32(w, row + 2));
+    let place = wide32(get32(w, row + 3));
+    let i = Info {
+        dlci,
+        start: place + u.start,
+        len,
+        joined,
+    };
+    Verdict::Carries(i)
+}
+
+// What the frame in the payload of a row is.
+fn judge_frame<'a>(file: &'a [u8], w: &'a [u8], row: usize) -> Verdict
+    requires { ⌜ Lent (now file) (now w) row ⌝ }
+    ensures { λ r. ⌜ FrameVerdict (now (file .entry)) (now (w .entry)) row r ⌝ }
+{
+    let x = read_frame(payload(file, w, row));
+    match x {
+        Frame::Sabm(d) => Verdict::Opens(d),
+        Frame::Uih(u) => place_uih(w, row, u),
+        Frame::Other => Verdict::Passed,
+    }
+}
+
+// What the PDU of a row is, by the channels of the whole file.
+fn judge<'a>(file: &'a [u8], w: &'a [u8], row: usize, base: usize, rows: usize) -> Verdict
+    requires { ⌜ JudgePre (now file) (now w) row base rows ⌝ }
+    ensures { λ r. ⌜ VerdictIs (now (file .entry)) (now (w .entry)) row base rows r ⌝ }
+{
+    if asks(file, w, row) {
+        return Verdict::Asks;
+    }
+    if is_tried(w, base, rows, get32(w, row), get32(w, row + 1)) {
+        return judge_frame(file, w, row);
+    }
+    Verdict::Passed
+}
+
+// Rows of counts, and pieces.
+pub struct Taken {
+    pub counts: usize,
+    pub pieces: usize,
+}
+
+// The key of a link's count: its sessions under DLCI 0, else its links on the DLCI.
+fn count_key(link: u32, dlci: u32) -> u64
+    requires { ⌜ dlci < 64 ⌝ }
+    ensures { λ r. ⌜ r ≡ 64 * link + dlci ⌝ }
+{
+    64 * (link as u64) + (dlci as u64)
+}
+
+// A place as a word.
+fn narrow(x: usize) -> u32
+    requires { ⌜ x < 4294967296 ⌝ }
+    ensures { λ r. ⌜ r ≡ x ⌝ }
+{
+    x as u32
+}
+
+// The piece that a PDU's information makes, with the counts that stand.
+fn piece_of(w: &[u8], row: usize, base: usize, rows: usize, i: Info) -> Part
+    requires { ⌜ PiecePre (now w) row base rows i ⌝ }
+    ensures { λ r. ⌜ r ≡ partOf (now (w .entry)) row base rows i ⌝ }
+{
+    let side = get32(w, row);
+    let link = side / 2;
+    let sessions = count_of(w, base, rows, count_key(link, 0));
+    let links = count_of(w, base, rows, count_key(link, i.dlci));
+    Part {
+        dlci: i.dlci,
+        way: side,
+        cid: get32(w, row + 1),
+        sessions,
+        links,
+        start: narrow(i.start),
+        len: narrow(i.len),
+        joined: i.joined,
+    }
+}
+
+// Takes in the piece of a PDU's information as row number n of the table at word at.
+fn take_piece(w: &mut [u8], row: usize, base: usize, rows: usize, i: Info, at: usize)
+    requires { ⌜ TakePre (now w) row base rows i at ⌝ }
+    ensures { λ _. ⌜ now (w .exit) ≡ putWords (now (w .entry)) at (rowOf (partOf (now (w .entry)) row base rows i) (long (now (w .entry)) (row + 5))) ⌝ }
+{
+    let p = piece_of(w, row, base, rows, i);
+    let time = get64(w, row + 5);
+    put_piece(w, at, p, time);
+}
+
+// Takes in PDU number j: a count, a piece, or nothing.
+fn take_pdu(file: &[u8], w: &mut [u8], q: usize, rows: usize, t: Taken, j: usize) -> Taken
+    requires { ⌜ Ready (now file) (now w) q rows t j ⌝ }
+    ensures { λ r. ⌜ TakenIn (now (file .entry)) (now (w .entry)) q rows t j (now (w .exit)) r ⌝ }
+{
+    let row = 2 * q + 7 * j;
+    let counts = t.counts;
+    let pieces = t.pieces;
+    let v = judge(file, w, row, 3 * q, rows);
+    let link = get32(w, row) / 2;
+    match v {
+        Verdict::Asks => {
+            let c = count_up(w, 6 * q, counts, count_key(link, 0));
+            Taken { counts: c, pieces }
+        }
+        Verdict::Opens(d) => {
+            let c = count_up(w, 6 * q, counts, count_key(link, d));
+            Taken { counts: c, pieces }
+        }
+        Verdict::Carries(i) => {
+            take_piece(w, row, 6 * q, counts, i, 5 * q + 8 * pieces);
+            Taken {
+                counts,
+                pieces: pieces + 1,
+            }
+        }
+        Verdict::Passed => t,
+    }
+}
+
+// Reads the pieces of all PDUs into their table, and returns how many there are.
+pub fn read_pieces(file: &[u8], w: &mut [u8], made: usize, rows: usize) -> usize
+    requires { ⌜ PiecesPre (now file) (now w) made rows ⌝ }
+    ensures { λ r. ⌜ ReadPieces (now (file .entry)) (now (w .entry)) made (now (w .exit)) r ⌝ }
+{
+    let q = file.len() / 4;
+    let mut t = Taken {
+        counts: 0,
+        pieces: 0,
+    };
+    let mut j = 0;
+    while j < made {
+        t = take_pdu(file, w, q, rows, t, j);
+        j += 1;
+    }
+    t.pieces
 }
