@@ -5,6 +5,9 @@ mod codec;
 mod expected;
 mod items;
 mod model;
+mod names;
+mod order;
+mod plan;
 mod proved;
 mod rng;
 
@@ -52,7 +55,8 @@ impl Log {
 
 type Group = fn(&dyn Subject, &Options) -> Checked;
 
-const GROUPS: [(&str, Group); 1] = [("codec", codec::run)];
+const GROUPS: [(&str, Group); 4] =
+    [("codec", codec::run), ("names", names::run), ("plan", plan::run), ("order", order::run)];
 
 fn report(difference: &Difference) {
     println!("DIFFERENCE in {}, with {}", difference.call, difference.lent);
