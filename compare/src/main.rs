@@ -3,6 +3,7 @@
 mod answer;
 mod codec;
 mod expected;
+mod import;
 mod items;
 mod model;
 mod names;
@@ -10,6 +11,8 @@ mod order;
 mod plan;
 mod proved;
 mod rng;
+mod stats;
+mod trace;
 
 use std::process::ExitCode;
 
@@ -55,8 +58,13 @@ impl Log {
 
 type Group = fn(&dyn Subject, &Options) -> Checked;
 
-const GROUPS: [(&str, Group); 4] =
-    [("codec", codec::run), ("names", names::run), ("plan", plan::run), ("order", order::run)];
+const GROUPS: [(&str, Group); 5] = [
+    ("codec", codec::run),
+    ("names", names::run),
+    ("plan", plan::run),
+    ("order", order::run),
+    ("import", import::run),
+];
 
 fn report(difference: &Difference) {
     println!("DIFFERENCE in {}, with {}", difference.call, difference.lent);
@@ -89,6 +97,10 @@ fn run() -> Result<bool, String> {
     }
     let subject: &dyn Subject = if options.model { &model::Model } else { &proved::Proved };
     let words: Vec<&str> = words.iter().map(String::as_str).collect();
+    if words == ["stats", "import"] {
+        stats::import(&options);
+        return Ok(true);
+    }
     let chosen: Vec<_> = match words[..] {
         ["all"] => GROUPS.iter().filter(|(name, _)| options.model || proved::has(name)).collect(),
         [name] => GROUPS.iter().filter(|(group, _)| *group == name).collect(),

@@ -311,7 +311,7 @@ fn be(bytes: &[u8]) -> u64 {
 }
 
 /// The whole records after the header, and the bytes they take.
-fn records(mut rest: &[u8]) -> (Vec<&[u8]>, usize) {
+pub fn records(mut rest: &[u8]) -> (Vec<&[u8]>, usize) {
     let mut rows = Vec::new();
     let mut taken = 0;
     while rest.len() >= 24 && (rest.len() - 24) as u64 >= be(&rest[4..8]) {
