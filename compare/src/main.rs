@@ -3,6 +3,7 @@
 mod answer;
 mod codec;
 mod expected;
+mod honest;
 mod import;
 mod items;
 mod model;
@@ -12,6 +13,7 @@ mod plan;
 mod proved;
 mod rng;
 mod stats;
+mod tolerant;
 mod trace;
 
 use std::process::ExitCode;
@@ -58,12 +60,13 @@ impl Log {
 
 type Group = fn(&dyn Subject, &Options) -> Checked;
 
-const GROUPS: [(&str, Group); 5] = [
+const GROUPS: [(&str, Group); 6] = [
     ("codec", codec::run),
     ("names", names::run),
     ("plan", plan::run),
     ("order", order::run),
     ("import", import::run),
+    ("tolerant", tolerant::run),
 ];
 
 fn report(difference: &Difference) {
@@ -100,6 +103,15 @@ fn run() -> Result<bool, String> {
     if words == ["stats", "import"] {
         stats::import(&options);
         return Ok(true);
+    }
+    if words == ["stats", "honest"] {
+        return match tolerant::check_makers(&options) {
+            Ok(()) => Ok(true),
+            Err(difference) => {
+                report(&difference);
+                Ok(false)
+            }
+        };
     }
     let chosen: Vec<_> = match words[..] {
         ["all"] => GROUPS.iter().filter(|(name, _)| options.model || proved::has(name)).collect(),
