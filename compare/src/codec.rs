@@ -120,7 +120,7 @@ fn placed(codec: &mut Codec) -> Checked {
     Ok(())
 }
 
-fn payload(rng: &mut Rng, n: usize) -> Vec<u8> {
+pub fn payload(rng: &mut Rng, n: usize) -> Vec<u8> {
     let percent = rng.pick(&[0, 2, 50, 100]);
     if rng.percent(10) {
         return vec![rng.pick(&BYTES); n];
@@ -128,7 +128,7 @@ fn payload(rng: &mut Rng, n: usize) -> Vec<u8> {
     rng.mixed(n, &SPECIAL, percent)
 }
 
-fn kind(rng: &mut Rng) -> u8 {
+pub fn kind(rng: &mut Rng) -> u8 {
     if rng.percent(50) {
         rng.pick(&[0x00, 0x01, 0x02, 0x09, 0x0A, 0x0C, 0x0D, 0x0E, 0x10, 0x12, 0x19, 0x1A, 0x1C, 0x1D, 0x1E, 0x3C, 0x3D, 0x3E])
     } else {
@@ -137,7 +137,7 @@ fn kind(rng: &mut Rng) -> u8 {
 }
 
 /// A body whose length field is wrong, with the right sum.
-fn mislength(rng: &mut Rng, payload: &[u8]) -> Vec<u8> {
+pub fn mislength(rng: &mut Rng, payload: &[u8]) -> Vec<u8> {
     let n = payload.len() as u32;
     let declared = match rng.below(6) {
         0 => n.wrapping_add(1),
@@ -255,15 +255,15 @@ pub fn run(subject: &dyn Subject, options: &Options) -> Checked {
     let mut rng = Rng::new(options.seed);
     let mut codec = Codec { subject, lender: Lender::default() };
     let mut log = options.log("codec");
-    short(&mut codec)?;
-    log.line("unpack, short frames", codec.lender.cases);
-    placed(&mut codec)?;
-    log.line("unpack, three places", codec.lender.cases);
+    packing(&mut codec, &mut rng, size)?;
+    log.line("pack", codec.lender.cases);
     random(&mut codec, &mut rng, size)?;
     log.line("unpack, random frames", codec.lender.cases);
     damaged(&mut codec, &mut rng, size)?;
     log.line("unpack, damaged frames", codec.lender.cases);
-    packing(&mut codec, &mut rng, size)?;
-    log.line("pack", codec.lender.cases);
+    short(&mut codec)?;
+    log.line("unpack, short frames", codec.lender.cases);
+    placed(&mut codec)?;
+    log.line("unpack, three places", codec.lender.cases);
     Ok(())
 }

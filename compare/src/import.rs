@@ -507,8 +507,17 @@ pub fn run_rule(subject: &dyn Subject, options: &Options, group: &'static str, r
     let mut rng = Rng::new(options.seed);
     let mut import = Import::new(subject, rule);
     let mut log = options.log(group);
+    random(&mut import, &mut rng, size)?;
+    log.line("random traces", import.lender.cases);
+    damaged(&mut import, &mut rng, size)?;
+    log.line("damaged traces", import.lender.cases);
+    limits(&mut |file| import.file(file, NO_CHANNEL), &mut rng)?;
+    log.line("long buffers", import.lender.cases);
     short(&mut import, &mut rng)?;
     log.line("short files and every beginning of good ones", import.lender.cases);
+    if rule == Rule::NotTolerant {
+        return Ok(());
+    }
     one_byte(&mut import)?;
     log.line("every one-byte change of small traces", import.lender.cases);
     fragments(&mut import)?;
@@ -523,12 +532,6 @@ pub fn run_rule(subject: &dyn Subject, options: &Options, group: &'static str, r
     log.line("every six steps of sessions and links", import.lender.cases);
     choices(&mut import)?;
     log.line("every four pieces on several DLCIs", import.lender.cases);
-    random(&mut import, &mut rng, size)?;
-    log.line("random traces", import.lender.cases);
-    damaged(&mut import, &mut rng, size)?;
-    log.line("damaged traces", import.lender.cases);
-    limits(&mut |file| import.file(file, NO_CHANNEL), &mut rng)?;
-    log.line("long buffers", import.lender.cases);
     large(&mut import, &mut rng)?;
     log.line("traces of about 1,048,576 bytes", import.lender.cases);
     Ok(())

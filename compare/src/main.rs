@@ -10,8 +10,10 @@ mod model;
 mod names;
 mod order;
 mod plan;
+mod planted;
 mod proved;
 mod rng;
+mod sample;
 mod stats;
 mod tolerant;
 mod trace;
@@ -58,7 +60,7 @@ impl Log {
     }
 }
 
-type Group = fn(&dyn Subject, &Options) -> Checked;
+pub type Group = fn(&dyn Subject, &Options) -> Checked;
 
 const GROUPS: [(&str, Group); 6] = [
     ("codec", codec::run),
@@ -112,6 +114,20 @@ fn run() -> Result<bool, String> {
                 Ok(false)
             }
         };
+    }
+    if let ["sample", group, path] = words[..] {
+        let (bytes, cases) = sample::of(group).ok_or("no such group")?;
+        std::fs::write(path, &bytes).map_err(|e| format!("{path}: {e}"))?;
+        println!("sample: {group}: {cases} cases, {} bytes", bytes.len());
+        return Ok(true);
+    }
+    if words == ["selfcheck"] {
+        options.quiet = true;
+        options.size.get_or_insert(200);
+        let (planted, missed) = planted::unreported(&GROUPS, &options);
+        println!("selfcheck: {} of {planted} planted faults reported", planted - missed.len());
+        missed.iter().for_each(|label| println!("  not reported: {label}"));
+        return Ok(missed.is_empty());
     }
     let chosen: Vec<_> = match words[..] {
         ["all"] => GROUPS.iter().filter(|(name, _)| options.model || proved::has(name)).collect(),

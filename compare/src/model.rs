@@ -36,7 +36,7 @@ impl Subject for Model {
     }
 
     fn is_command_name(&self, name: &[u8]) -> u32 {
-        u32::from((0..=255).any(|b| [0x0C, 0x0E].iter().any(|&t| table_name(t, b).is_some_and(|n| n.as_bytes() == name))))
+        u32::from(is_command_name(name))
     }
 
     fn plan(&self, spans: &[u8], excluded: &[u8], out: &mut [u8], values: &mut [u64]) -> u32 {
@@ -60,9 +60,36 @@ impl Subject for Model {
         tolerant: u32,
         values: &mut [u64],
     ) -> u32 {
-        store(&import(file, work.len(), channel, tolerant != 0), out, values)
+        store(&import(file, work.len(), channel, tolerant != 0, RIGHT), out, values)
     }
 }
+
+/// How 01 is read in the places where it warns of another reading. Only `RIGHT` is
+/// the model; the others are faults to plant.
+#[derive(Clone, Copy)]
+pub struct Reading {
+    /// A start discards the partial PDU before it.
+    pub start_discards: bool,
+    /// A PDU's time is that of the record completing it, not of its first fragment.
+    pub last_time: bool,
+    /// Channels are judged by the whole file.
+    pub whole_file: bool,
+    /// A new session is a new stretch.
+    pub sessions: bool,
+    /// The longest buffer that stays.
+    pub longest: usize,
+    /// A request admits its source without a response.
+    pub request_admits: bool,
+}
+
+pub const RIGHT: Reading = Reading {
+    start_discards: true,
+    last_time: true,
+    whole_file: true,
+    sessions: true,
+    longest: 65_536,
+    request_admits: true,
+};
 
 // MDR frames.
 
@@ -159,6 +186,10 @@ fn table_name(kind: u8, byte: u8) -> Option<&'static str> {
     (name != "UNKNOWN" || byte == 0xFF && (kind == 0x0C || kind == 0x0E)).then_some(name)
 }
 
+pub fn is_command_name(name: &[u8]) -> bool {
+    (0..=255).any(|byte| [0x0C, 0x0E].into_iter().any(|kind| table_name(kind, byte).is_some_and(|n| n.as_bytes() == name)))
+}
+
 fn command(body: &[u8]) -> &'static str {
     match body.get(6) {
         None => "NO_COMMAND",
@@ -175,7 +206,7 @@ fn name_of(ms: u64, counter: u32, direction: u8, body: &[u8]) -> String {
     format!("mdr-packet-{ms}-{counter}-{way}.type-{kind}-{:02x}.seq-{:02x}.cmd-{}-{first:02x}.bin", body[0], body[1], command(body))
 }
 
-fn fixture_name(ms: u64, counter: u32, direction: u8, wire: &[u8]) -> Answer {
+pub fn fixture_name(ms: u64, counter: u32, direction: u8, wire: &[u8]) -> Answer {
     match body(wire) {
         Ok(body) => {
             let name = name_of(ms, counter, direction, &body);
@@ -349,25 +380,27 @@ fn fragment(packet: &[u8]) -> Option<(u16, u16, &[u8])> {
     Some((field % 4096, field / 4096 % 4, packet.get(4..4 + usize::from(length))?))
 }
 
-pub fn pdus(datalink: u64, rows: &[&[u8]]) -> Vec<Pdu> {
-    let mut open: BTreeMap<(u16, Way), Vec<u8>> = BTreeMap::new();
+pub fn pdus(datalink: u64, rows: &[&[u8]], reading: Reading) -> Vec<Pdu> {
+    let mut open: BTreeMap<(u16, Way), (u64, Vec<u8>)> = BTreeMap::new();
     let mut pdus = Vec::new();
     for row in rows {
         let Some((ms, way, bytes)) = packet(datalink, row) else { continue };
         let Some((handle, flag, data)) = fragment(bytes) else { continue };
         let before = open.remove(&(handle, way));
-        let bytes = match (flag == 1, before) {
+        let (first, bytes) = match (flag == 1, before) {
             (true, None) => continue,
-            (true, Some(before)) => [&before, data].concat(),
-            (false, _) => data.to_vec(),
+            (true, Some((first, before))) => (first, [&before, data].concat()),
+            (false, Some((first, before))) if !reading.start_discards => (first, [&before, data].concat()),
+            (false, _) => (ms, data.to_vec()),
         };
+        let ms = if reading.last_time { ms } else { first };
         match le16(&bytes, 0) {
             Some(length) if bytes.len() >= 4 + usize::from(length) => {
                 let cid = le16(&bytes, 2).unwrap();
                 pdus.push(Pdu { ms, way, handle, cid, payload: bytes[4..4 + usize::from(length)].to_vec() });
             }
             _ => {
-                open.insert((handle, way), bytes);
+                open.insert((handle, way), (first, bytes));
             }
         }
     }
@@ -393,7 +426,7 @@ fn asks(pdu: &Pdu) -> bool {
 }
 
 /// The triples that are admitted, and those that are named.
-pub fn channels(pdus: &[Pdu]) -> (Vec<Triple>, Vec<Triple>) {
+pub fn channels(pdus: &[Pdu], reading: Reading) -> (Vec<Triple>, Vec<Triple>) {
     let mut admitted = Vec::new();
     let mut named = Vec::new();
     let mut requested: Vec<Triple> = Vec::new();
@@ -404,7 +437,9 @@ pub fn channels(pdus: &[Pdu]) -> (Vec<Triple>, Vec<Triple>) {
                 let triple = (pdu.handle, !pdu.way, second);
                 named.push(triple);
                 if first == 3 {
-                    admitted.push(triple);
+                    if reading.request_admits {
+                        admitted.push(triple);
+                    }
                     requested.push((pdu.handle, pdu.way, second));
                 }
             } else if code == 3 {
@@ -433,12 +468,15 @@ fn uih(frame: &[u8]) -> Option<(u8, &[u8])> {
     (frame.len() > start + length).then(|| (frame[0] / 4, &frame[start..start + length]))
 }
 
-pub fn pieces(pdus: &[Pdu]) -> Vec<Piece> {
-    let (admitted, named) = channels(pdus);
+pub fn pieces(pdus: &[Pdu], reading: Reading) -> Vec<Piece> {
+    let (mut admitted, mut named) = channels(pdus, reading);
     let mut sessions: BTreeMap<u16, u32> = BTreeMap::new();
     let mut links: BTreeMap<(u16, u8), u32> = BTreeMap::new();
     let mut pieces = Vec::new();
-    for pdu in pdus {
+    for (i, pdu) in pdus.iter().enumerate() {
+        if !reading.whole_file {
+            (admitted, named) = channels(&pdus[..=i], reading);
+        }
         if asks(pdu) {
             *sessions.entry(pdu.handle).or_insert(0) += 1;
             continue;
@@ -457,8 +495,11 @@ pub fn pieces(pdus: &[Pdu]) -> Vec<Piece> {
             if dlci == 0 || information.is_empty() {
                 continue;
             }
-            let session = sessions.get(&pdu.handle).copied().unwrap_or(0);
+            let mut session = sessions.get(&pdu.handle).copied().unwrap_or(0);
             let link = links.get(&(pdu.handle, dlci)).copied().unwrap_or(0);
+            if !reading.sessions {
+                session = 0;
+            }
             pieces.push(Piece {
                 dlci,
                 ms: pdu.ms,
@@ -472,7 +513,7 @@ pub fn pieces(pdus: &[Pdu]) -> Vec<Piece> {
 }
 
 /// 01's rule on one buffer: what is taken from it, and what it then holds.
-fn split(mut buffer: Vec<u8>) -> (Vec<Vec<u8>>, Vec<u8>) {
+fn split(mut buffer: Vec<u8>, longest: usize) -> (Vec<Vec<u8>>, Vec<u8>) {
     let mut spans = Vec::new();
     loop {
         match buffer.iter().position(|&b| b == 0x3E) {
@@ -480,7 +521,7 @@ fn split(mut buffer: Vec<u8>) -> (Vec<Vec<u8>>, Vec<u8>) {
             Some(start) => buffer = buffer.split_off(start),
         }
         let Some(end) = buffer.iter().position(|&b| b == 0x3C) else {
-            if buffer.len() > 65_536 {
+            if buffer.len() > longest {
                 buffer.clear();
             }
             return (spans, buffer);
@@ -495,13 +536,13 @@ fn split(mut buffer: Vec<u8>) -> (Vec<Vec<u8>>, Vec<u8>) {
 pub type Spans = Vec<(u64, Way, Vec<u8>)>;
 
 /// The spans of one DLCI's pieces, and how many buffers are left nonempty.
-pub fn spans(pieces: &[&Piece]) -> (Spans, usize) {
+pub fn spans(pieces: &[&Piece], reading: Reading) -> (Spans, usize) {
     let mut buffers: BTreeMap<(Stretch, Way), Vec<u8>> = BTreeMap::new();
     let mut spans = Vec::new();
     for piece in pieces {
         let buffer = buffers.entry((piece.stretch, piece.way)).or_default();
         buffer.extend(&piece.information);
-        let (taken, held) = split(std::mem::take(buffer));
+        let (taken, held) = split(std::mem::take(buffer), reading.longest);
         *buffer = held;
         spans.extend(taken.into_iter().map(|wire| (piece.ms, piece.way, wire)));
     }
@@ -519,7 +560,7 @@ pub fn dlcis(pieces: &[Piece]) -> Vec<u8> {
     dlcis
 }
 
-pub fn import(file: &[u8], work: usize, channel: u32, tolerant: bool) -> Answer {
+pub fn import(file: &[u8], work: usize, channel: u32, tolerant: bool, reading: Reading) -> Answer {
     if file.len() > LONGEST_FILE {
         return Answer::refused(1, &[]);
     }
@@ -538,13 +579,13 @@ pub fn import(file: &[u8], work: usize, channel: u32, tolerant: bool) -> Answer 
     if !tolerant && tail < file.len() {
         return Answer::refused(5, &[tail as u64]);
     }
-    let pieces = pieces(&pdus(datalink, &rows));
+    let pieces = pieces(&pdus(datalink, &rows, reading), reading);
     for dlci in dlcis(&pieces) {
         if channel != NO_CHANNEL && channel != u32::from(dlci / 2) {
             continue;
         }
         let own: Vec<&Piece> = pieces.iter().filter(|p| p.dlci == dlci).collect();
-        let (spans, unfinished) = spans(&own);
+        let (spans, unfinished) = spans(&own, reading);
         if spans.iter().all(|(_, _, wire)| body(wire).is_err()) {
             continue;
         }

@@ -39,7 +39,7 @@ const COUNTERS: [&str; 30] = [
 ];
 
 /// Names about the counter: each part after each beginning, with each ending.
-fn odd_names() -> Vec<String> {
+pub fn odd_names() -> Vec<String> {
     let mut names = Vec::new();
     for start in ["mdr-packet-", "mdr-packet-5-", "mdr-packet--", "mdr-packet-5-6-", "mdr-packe-5-", "-mdr-packet-5-", "Mdr-packet-5-", ""] {
         for counter in COUNTERS {

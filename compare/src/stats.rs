@@ -4,7 +4,7 @@ use std::collections::BTreeMap;
 
 use crate::answer::Answer;
 use crate::expected;
-use crate::model;
+use crate::model::{self, RIGHT};
 use crate::rng::Rng;
 use crate::trace;
 use crate::Options;
@@ -45,9 +45,9 @@ impl Stats {
             return;
         }
         let datalink = u64::from(u32::from_be_bytes(file[12..16].try_into().unwrap()));
-        let pdus = model::pdus(datalink, &model::records(&file[16..]).0);
-        let pieces = model::pieces(&pdus);
-        let (admitted, named) = model::channels(&pdus);
+        let pdus = model::pdus(datalink, &model::records(&file[16..]).0, RIGHT);
+        let pieces = model::pieces(&pdus, RIGHT);
+        let (admitted, named) = model::channels(&pdus, RIGHT);
         self.admitted += u64::from(!admitted.is_empty());
         self.named += u64::from(named.iter().any(|t| !admitted.contains(t)));
         self.pdus += pdus.len() as u64;
@@ -63,7 +63,7 @@ impl Stats {
         let mut stretches: Vec<_> = own.iter().map(|p| (p.stretch, p.way)).collect();
         stretches.sort();
         stretches.dedup();
-        let (spans, _) = model::spans(&own);
+        let (spans, _) = model::spans(&own, RIGHT);
         let broken = spans.iter().filter(|(_, _, wire)| oracle::mdr::frame::unpack(wire).is_err()).count();
         *self.stretches.entry(class(stretches.len())).or_default() += 1;
         *self.spans.entry(class(spans.len())).or_default() += 1;
