@@ -37,13 +37,29 @@ pub trait Subject {
     fn unpack(&self, wire: &[u8], out: &mut [u8], values: &mut [u64]) -> u32;
     fn pack(&self, kind: u8, seq: u8, payload: &[u8], out: &mut [u8], values: &mut [u64]) -> u32;
     #[allow(clippy::too_many_arguments)]
-    fn fixture_name(&self, ms: u64, counter: u32, direction: u8, wire: &[u8], out: &mut [u8], values: &mut [u64]) -> u32;
+    fn fixture_name(
+        &self,
+        ms: u64,
+        counter: u32,
+        direction: u8,
+        wire: &[u8],
+        out: &mut [u8],
+        values: &mut [u64],
+    ) -> u32;
     fn is_command_name(&self, name: &[u8]) -> u32;
     fn plan(&self, spans: &[u8], excluded: &[u8], out: &mut [u8], values: &mut [u64]) -> u32;
     fn capture_order(&self, names: &[u8], out: &mut [u8], values: &mut [u64]) -> u32;
     fn import_strict(&self, file: &[u8], work: &mut [u8], out: &mut [u8], channel: u32, values: &mut [u64]) -> u32;
     #[allow(clippy::too_many_arguments)]
-    fn import(&self, file: &[u8], work: &mut [u8], out: &mut [u8], channel: u32, tolerant: u32, values: &mut [u64]) -> u32;
+    fn import(
+        &self,
+        file: &[u8],
+        work: &mut [u8],
+        out: &mut [u8],
+        channel: u32,
+        tolerant: u32,
+        values: &mut [u64],
+    ) -> u32;
 }
 
 /// The channel of a call that gives none.
@@ -115,7 +131,10 @@ impl Lender {
             || self.values[1 + stored..].iter().any(|&v| v != UNTOUCHED);
         if values_differ {
             let shown = |v: &u64| if *v == UNTOUCHED { "unchanged".to_string() } else { v.to_string() };
-            wrong.push(format!("values [{}]", self.values[1..1 + room].iter().map(shown).collect::<Vec<_>>().join(", ")));
+            wrong.push(format!(
+                "values [{}]",
+                self.values[1..1 + room].iter().map(shown).collect::<Vec<_>>().join(", ")
+            ));
         }
         let written = &expected.written;
         let written_end = GUARD + written.len();

@@ -12,8 +12,7 @@ pub const BYTES: [u8; 14] = [0x00, 0x01, 0x2B, 0x2C, 0x2D, 0x2E, 0x2F, 0x3B, 0x3
 const SPECIAL: [u8; 6] = [0x2C, 0x2D, 0x2E, 0x3C, 0x3D, 0x3E];
 
 /// Payload lengths about the boundaries of frames, of a length byte and of packing.
-const LENGTHS: [usize; 19] =
-    [0, 1, 2, 3, 4, 7, 8, 9, 10, 59, 60, 61, 62, 254, 255, 256, 257, 300, 1000];
+const LENGTHS: [usize; 19] = [0, 1, 2, 3, 4, 7, 8, 9, 10, 59, 60, 61, 62, 254, 255, 256, 257, 300, 1000];
 const LONG: [usize; 10] = [32_759, 32_760, 32_761, 32_762, 32_768, 65_529, 65_535, 65_536, 65_537, 100_000];
 
 struct Codec<'a> {
@@ -130,7 +129,9 @@ pub fn payload(rng: &mut Rng, n: usize) -> Vec<u8> {
 
 pub fn kind(rng: &mut Rng) -> u8 {
     if rng.percent(50) {
-        rng.pick(&[0x00, 0x01, 0x02, 0x09, 0x0A, 0x0C, 0x0D, 0x0E, 0x10, 0x12, 0x19, 0x1A, 0x1C, 0x1D, 0x1E, 0x3C, 0x3D, 0x3E])
+        rng.pick(&[
+            0x00, 0x01, 0x02, 0x09, 0x0A, 0x0C, 0x0D, 0x0E, 0x10, 0x12, 0x19, 0x1A, 0x1C, 0x1D, 0x1E, 0x3C, 0x3D, 0x3E,
+        ])
     } else {
         rng.byte()
     }

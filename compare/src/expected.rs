@@ -106,8 +106,7 @@ fn import_judged(file: &[u8], whole: usize, channel: u32) -> Answer {
     match capture::import(file, channel) {
         Ok(imported) => {
             let list = items::span_list(&imported.frames);
-            let values =
-                [imported.dlci.into(), imported.frames.len(), imported.unfinished, file.len(), list.len()];
+            let values = [imported.dlci.into(), imported.frames.len(), imported.unfinished, file.len(), list.len()];
             Answer::done(&values.map(|v: usize| v as u64), list)
         }
         Err(ImportError::NotBtsnoop) => Answer::refused(3, &[]),

@@ -71,14 +71,16 @@ fn plain(cid: u16, payload: &[u8]) -> Sending {
     Sending { bytes: trace::l2cap(cid, payload), data: None, answers: false }
 }
 
+/// The PDU under way, what is left of it to send, and whether it has begun.
+type Open = (Sending, VecDeque<Vec<u8>>, bool);
+
 /// One link: its handle, what has to be complete before any of its data, and what
 /// each way (Rx first) then sends.
 struct Link {
     handle: u16,
     setup: VecDeque<(Direction, Sending)>,
     sending: [VecDeque<Sending>; 2],
-    /// The PDU under way, what is left of it to send, and whether it has begun.
-    open: [Option<(Sending, VecDeque<Vec<u8>>, bool)>; 2],
+    open: [Option<Open>; 2],
     begun: bool,
     /// A direction whose channel is admitted only by a response still to come.
     held: Option<Direction>,
@@ -249,7 +251,11 @@ impl Maker<'_> {
             let idle = link.open.iter().all(Option::is_none);
             let next = if link.setup.is_empty() && (link.begun || idle) {
                 link.begun = true;
-                if link.held == Some(direction) { None } else { link.sending[i].pop_front() }
+                if link.held == Some(direction) {
+                    None
+                } else {
+                    link.sending[i].pop_front()
+                }
             } else if idle && link.setup.front().is_some_and(|(d, _)| *d == direction) {
                 link.setup.pop_front().map(|(_, sending)| sending)
             } else {
@@ -352,8 +358,7 @@ pub fn longest(rng: &mut Rng) -> Honest {
         data_pdus(rng, 0x41, dlci, &[wire.clone(), one], &wire[..65_535], 32_767),
         data_pdus(rng, 0x42, dlci, &[two, wire.clone()], &[], 9_000),
     ];
-    let mut link =
-        Link { handle: 0x40, setup: VecDeque::new(), sending, open: [None, None], begun: false, held: None };
+    let mut link = Link { handle: 0x40, setup: VecDeque::new(), sending, open: [None, None], begun: false, held: None };
     let trace = Trace::new(2001);
     let scale = Scale { fragment: 40_000, ..SMALL };
     let mut maker = Maker { rng, trace, brought: Vec::new(), dlci, scale };

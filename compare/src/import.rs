@@ -58,7 +58,29 @@ impl<'a> Import<'a> {
         }
     }
 
+    /// The file held to the oracle. A difference is reported for the smallest file
+    /// that leaving out records finds.
     pub fn file(&mut self, file: &[u8], channel: u32) -> Checked {
+        self.once(file, channel).map_err(|found| {
+            let mut found = found;
+            let mut file = file.to_vec();
+            let mut bounds = bounds(&file);
+            let mut i = bounds.len();
+            while i > 1 && file.len() < 100_000 {
+                i -= 1;
+                let mut fewer = file.clone();
+                fewer.drain(bounds[i - 1]..bounds[i]);
+                if let Err(difference) = self.once(&fewer, channel) {
+                    (found, file) = (difference, fewer);
+                    bounds = self::bounds(&file);
+                    i = i.min(bounds.len());
+                }
+            }
+            found
+        })
+    }
+
+    fn once(&mut self, file: &[u8], channel: u32) -> Checked {
         let expected = match self.rule {
             Rule::Tolerant => expected::import_tolerant(file, channel),
             _ => expected::import_strict(file, channel),
@@ -143,6 +165,18 @@ impl<'a> Import<'a> {
     }
 }
 
+/// Where the records of a file begin and end.
+fn bounds(file: &[u8]) -> Vec<usize> {
+    let mut bounds = vec![16];
+    if file.len() < 16 {
+        return bounds;
+    }
+    for row in crate::model::records(&file[16..]).0 {
+        bounds.push(bounds[bounds.len() - 1] + row.len());
+    }
+    bounds
+}
+
 /// The frame of 01's worked example: an ACK of nine bytes.
 pub fn ack(seq: u8) -> Vec<u8> {
     packed(0x01, seq, &[])
@@ -151,10 +185,14 @@ pub fn ack(seq: u8) -> Vec<u8> {
 /// 01's worked example.
 pub fn example() -> Trace {
     let mut trace = Trace::new(1002);
-    trace.record(1, EPOCH, &[
-        0x02, 0x40, 0x20, 0x11, 0x00, 0x0D, 0x00, 0x41, 0x00, 0x49, 0xEF, 0x13, 0x3E, 0x01, 0x00, 0x00, 0x00, 0x00,
-        0x00, 0x01, 0x3C, 0x00,
-    ]);
+    trace.record(
+        1,
+        EPOCH,
+        &[
+            0x02, 0x40, 0x20, 0x11, 0x00, 0x0D, 0x00, 0x41, 0x00, 0x49, 0xEF, 0x13, 0x3E, 0x01, 0x00, 0x00, 0x00, 0x00,
+            0x00, 0x01, 0x3C, 0x00,
+        ],
+    );
     trace
 }
 
@@ -170,7 +208,13 @@ pub fn small(datalink: u32) -> Trace {
     trace.fragment(Rx, EPOCH + 4000, 0x40, 2, &pdu[..3]);
     trace.pdu(Tx, EPOCH + 5000, 0x40, 0x30, &trace::uih(18, &ack(0), Some(9), true));
     trace.fragment(Rx, EPOCH + 6000, 0x40, 1, &pdu[3..]);
-    trace.pdu(Rx, EPOCH + 7000, 0x40, 0x41, &trace::uih(18, &[&frame[7..], &[0x3E, 0x3C, 0x3E, 0x00]].concat(), None, false));
+    trace.pdu(
+        Rx,
+        EPOCH + 7000,
+        0x40,
+        0x41,
+        &trace::uih(18, &[&frame[7..], &[0x3E, 0x3C, 0x3E, 0x00]].concat(), None, false),
+    );
     trace
 }
 
@@ -273,9 +317,7 @@ fn fragments(import: &mut Import) -> Checked {
         let stamp = EPOCH + trace.file.len() as u64 * 1000;
         trace.fragment(Rx, stamp, 0x40, *flag, data);
     };
-    sequences(4, &alphabet, &Trace::new(2001), &step, &mut |trace| {
-        import.file(&trace.file, NO_CHANNEL)
-    })
+    sequences(4, &alphabet, &Trace::new(2001), &step, &mut |trace| import.file(&trace.file, NO_CHANNEL))
 }
 
 /// One step on a link: direction, CID, payload.

@@ -1,6 +1,7 @@
 //! Holds the proved library against the Rust it was ported from.
 
 mod answer;
+mod bench;
 mod codec;
 mod expected;
 mod honest;
@@ -24,10 +25,15 @@ use answer::{Checked, Difference, Subject};
 
 const USAGE: &str = "\
 usage: compare GROUP [--seed N] [--size N] [--against proved|model]
-       compare all [--seed N] [--against proved|model]
+       compare all [--seed N] [--size N] [--against proved|model]
+       compare selfcheck
+       compare bench GROUP [--against proved|model]
+       compare sample GROUP FILE
+       compare stats import|honest|bench [--seed N] [--size N]
 
-GROUP is codec. --size is the number of random cases; what is exhaustive stays
-whole. `all` runs every group that this build links.";
+GROUP is codec, names, plan, order, import or tolerant. --size is the number of
+random cases; what is exhaustive stays whole. `all` runs every group that this
+build links.";
 
 /// What the command line says besides the command.
 pub struct Options {
@@ -71,20 +77,37 @@ const GROUPS: [(&str, Group); 6] = [
     ("tolerant", tolerant::run),
 ];
 
+/// Prints a difference; an input too long to print is left in a file.
 fn report(difference: &Difference) {
     println!("DIFFERENCE in {}, with {}", difference.call, difference.lent);
     for (name, bytes) in &difference.inputs {
-        println!("  {name}, {} bytes: {}", bytes.len(), answer::hex(bytes));
+        let shown = &bytes[..bytes.len().min(4096)];
+        println!("  {name}, {} bytes: {}", bytes.len(), answer::hex(shown));
+        if shown.len() < bytes.len() {
+            let path = format!("{}/target/difference.{name}", env!("CARGO_MANIFEST_DIR"));
+            match std::fs::write(&path, bytes) {
+                Ok(()) => println!("  (the first 4096; all of it is in {path})"),
+                Err(e) => println!("  (the first 4096; {path}: {e})"),
+            }
+        }
     }
-    println!("  expected: {}", difference.expected);
+    println!("  expected: {:.20000}", difference.expected);
     println!("  got: {}", difference.got);
+}
+
+/// Whether no difference was found.
+fn verdict(checked: Checked) -> bool {
+    if let Err(difference) = &checked {
+        report(difference);
+    }
+    checked.is_ok()
 }
 
 fn number(text: Option<String>) -> Result<u64, String> {
     text.and_then(|t| t.parse().ok()).ok_or_else(|| "a number is missing".to_string())
 }
 
-fn run() -> Result<bool, String> {
+fn arguments() -> Result<(Vec<String>, Options), String> {
     let mut words = Vec::new();
     let mut options = Options { seed: 1, size: None, quiet: false, model: false };
     let mut args = std::env::args().skip(1);
@@ -100,53 +123,53 @@ fn run() -> Result<bool, String> {
             _ => words.push(arg),
         }
     }
-    let subject: &dyn Subject = if options.model { &model::Model } else { &proved::Proved };
+    Ok((words, options))
+}
+
+fn selfcheck(options: Options) -> bool {
+    let options = Options { quiet: true, size: options.size.or(Some(200)), ..options };
+    let (planted, missed) = planted::unreported(&GROUPS, &options);
+    println!("selfcheck: {} of {planted} planted faults reported", planted - missed.len());
+    missed.iter().for_each(|label| println!("  not reported: {label}"));
+    missed.is_empty()
+}
+
+/// False if something differs.
+fn run() -> Result<bool, String> {
+    let (words, options) = arguments()?;
     let words: Vec<&str> = words.iter().map(String::as_str).collect();
-    if words == ["stats", "import"] {
-        stats::import(&options);
-        return Ok(true);
-    }
-    if words == ["stats", "honest"] {
-        return match tolerant::check_makers(&options) {
-            Ok(()) => Ok(true),
-            Err(difference) => {
-                report(&difference);
-                Ok(false)
-            }
-        };
-    }
-    if let ["sample", group, path] = words[..] {
-        let (bytes, cases) = sample::of(group).ok_or("no such group")?;
-        std::fs::write(path, &bytes).map_err(|e| format!("{path}: {e}"))?;
-        println!("sample: {group}: {cases} cases, {} bytes", bytes.len());
-        return Ok(true);
-    }
-    if words == ["selfcheck"] {
-        options.quiet = true;
-        options.size.get_or_insert(200);
-        let (planted, missed) = planted::unreported(&GROUPS, &options);
-        println!("selfcheck: {} of {planted} planted faults reported", planted - missed.len());
-        missed.iter().for_each(|label| println!("  not reported: {label}"));
-        return Ok(missed.is_empty());
-    }
-    let chosen: Vec<_> = match words[..] {
-        ["all"] => GROUPS.iter().filter(|(name, _)| options.model || proved::has(name)).collect(),
-        [name] => GROUPS.iter().filter(|(group, _)| *group == name).collect(),
-        _ => Vec::new(),
-    };
-    if chosen.is_empty() {
-        return Err(USAGE.into());
-    }
-    for (name, group) in chosen {
-        if !options.model && !proved::has(name) {
-            return Err(format!("built without the feature `{name}`"));
+    let subject: &dyn Subject = if options.model { &model::Model } else { &proved::Proved };
+    let linked = |group: &str| options.model || proved::has(group);
+    let need = |group: &str| if linked(group) { Ok(()) } else { Err(format!("built without the feature `{group}`")) };
+    match words[..] {
+        ["all"] => Ok(GROUPS.iter().all(|(name, group)| !linked(name) || verdict(group(subject, &options)))),
+        ["selfcheck"] => Ok(selfcheck(options)),
+        ["bench", group] => {
+            need(group)?;
+            bench::run(group, subject).then_some(true).ok_or_else(|| USAGE.into())
         }
-        if let Err(difference) = group(subject, &options) {
-            report(&difference);
-            return Ok(false);
+        ["sample", group, path] => {
+            let (bytes, cases) = sample::of(group).ok_or(USAGE)?;
+            std::fs::write(path, &bytes).map_err(|e| format!("{path}: {e}"))?;
+            println!("sample: {group}: {cases} cases, {} bytes", bytes.len());
+            Ok(true)
         }
+        ["stats", "import"] => {
+            stats::import(&options);
+            Ok(true)
+        }
+        ["stats", "honest"] => Ok(verdict(tolerant::check_makers(&options))),
+        ["stats", "bench"] => {
+            bench::describe();
+            Ok(true)
+        }
+        [name] => {
+            let (_, group) = GROUPS.iter().find(|(group, _)| *group == name).ok_or(USAGE)?;
+            need(name)?;
+            Ok(verdict(group(subject, &options)))
+        }
+        _ => Err(USAGE.into()),
     }
-    Ok(true)
 }
 
 fn main() -> ExitCode {

@@ -31,7 +31,15 @@ impl Subject for Model {
         store(&pack(kind, seq, payload), out, values)
     }
 
-    fn fixture_name(&self, ms: u64, counter: u32, direction: u8, wire: &[u8], out: &mut [u8], values: &mut [u64]) -> u32 {
+    fn fixture_name(
+        &self,
+        ms: u64,
+        counter: u32,
+        direction: u8,
+        wire: &[u8],
+        out: &mut [u8],
+        values: &mut [u64],
+    ) -> u32 {
         store(&fixture_name(ms, counter, direction, wire), out, values)
     }
 
@@ -187,7 +195,8 @@ fn table_name(kind: u8, byte: u8) -> Option<&'static str> {
 }
 
 pub fn is_command_name(name: &[u8]) -> bool {
-    (0..=255).any(|byte| [0x0C, 0x0E].into_iter().any(|kind| table_name(kind, byte).is_some_and(|n| n.as_bytes() == name)))
+    (0..=255)
+        .any(|byte| [0x0C, 0x0E].into_iter().any(|kind| table_name(kind, byte).is_some_and(|n| n.as_bytes() == name)))
 }
 
 fn command(body: &[u8]) -> &'static str {
@@ -203,7 +212,12 @@ fn name_of(ms: u64, counter: u32, direction: u8, body: &[u8]) -> String {
     let first = body.get(6).copied().unwrap_or(0);
     let digits = counter.to_string();
     let counter = "0".repeat(6usize.saturating_sub(digits.len())) + &digits;
-    format!("mdr-packet-{ms}-{counter}-{way}.type-{kind}-{:02x}.seq-{:02x}.cmd-{}-{first:02x}.bin", body[0], body[1], command(body))
+    format!(
+        "mdr-packet-{ms}-{counter}-{way}.type-{kind}-{:02x}.seq-{:02x}.cmd-{}-{first:02x}.bin",
+        body[0],
+        body[1],
+        command(body)
+    )
 }
 
 pub fn fixture_name(ms: u64, counter: u32, direction: u8, wire: &[u8]) -> Answer {

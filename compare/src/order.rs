@@ -33,29 +33,77 @@ impl Order<'_> {
 
 /// Parts that stand where a counter stands, or nearly.
 const COUNTERS: [&str; 30] = [
-    "", "0", "+", "++7", "+7", "7", "07", "007", "000007", "+007", "8", "10", "9", "4294967295", "+4294967295",
-    "4294967296", "0004294967295", "42949672950", "18446744073709551623", "340282366920938463463374607431768211463",
-    " 7", "7 ", "7a", "a7", "0x7", "1_000", "7+", "é", "٧", "000001",
+    "",
+    "0",
+    "+",
+    "++7",
+    "+7",
+    "7",
+    "07",
+    "007",
+    "000007",
+    "+007",
+    "8",
+    "10",
+    "9",
+    "4294967295",
+    "+4294967295",
+    "4294967296",
+    "0004294967295",
+    "42949672950",
+    "18446744073709551623",
+    "340282366920938463463374607431768211463",
+    " 7",
+    "7 ",
+    "7a",
+    "a7",
+    "0x7",
+    "1_000",
+    "7+",
+    "é",
+    "٧",
+    "000001",
 ];
 
 /// Names about the counter: each part after each beginning, with each ending.
 pub fn odd_names() -> Vec<String> {
     let mut names = Vec::new();
-    for start in ["mdr-packet-", "mdr-packet-5-", "mdr-packet--", "mdr-packet-5-6-", "mdr-packe-5-", "-mdr-packet-5-", "Mdr-packet-5-", ""] {
+    for start in [
+        "mdr-packet-",
+        "mdr-packet-5-",
+        "mdr-packet--",
+        "mdr-packet-5-6-",
+        "mdr-packe-5-",
+        "-mdr-packet-5-",
+        "Mdr-packet-5-",
+        "",
+    ] {
         for counter in COUNTERS {
             for end in ["", "-rx", "-", ".bin"] {
                 names.push(format!("{start}{counter}{end}"));
             }
         }
     }
-    names.extend(["mdr-packet", "mdr-packet-", "mdr-packet-5", "-", "--", "mdr-packet-5-7-rx.type-ACK-01.seq-00.cmd-NO_COMMAND-00.bin"].map(String::from));
+    names.extend(
+        [
+            "mdr-packet",
+            "mdr-packet-",
+            "mdr-packet-5",
+            "-",
+            "--",
+            "mdr-packet-5-7-rx.type-ACK-01.seq-00.cmd-NO_COMMAND-00.bin",
+        ]
+        .map(String::from),
+    );
     names
 }
 
 pub fn random_name(rng: &mut Rng, odd: &[String]) -> String {
     match rng.below(10) {
         0..=3 => odd[rng.below(odd.len())].clone(),
-        4..=6 => format!("mdr-packet-{}-{:06}-rx.type-ACK-01.seq-00.cmd-NO_COMMAND-00.bin", rng.below(20), rng.below(12)),
+        4..=6 => {
+            format!("mdr-packet-{}-{:06}-rx.type-ACK-01.seq-00.cmd-NO_COMMAND-00.bin", rng.below(20), rng.below(12))
+        }
         7 => format!("mdr-packet-{}-{}-tx", rng.next(), rng.next() as u32),
         8 => (0..rng.below(6)).map(|_| rng.pick(&['-', '+', '0', '7', 'm', 'é'])).collect(),
         _ => format!("mdr-packet-1-{}", rng.next()),

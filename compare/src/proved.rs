@@ -4,6 +4,8 @@
 //! A slice passes as pointer and length. Each group of calls stands behind the
 //! feature of its name, so that a library without it still links.
 
+#![allow(clippy::too_many_arguments)]
+
 use crate::answer::Subject;
 
 pub struct Proved;
@@ -81,7 +83,15 @@ impl Subject for Proved {
         }
     }
 
-    fn fixture_name(&self, ms: u64, counter: u32, direction: u8, wire: &[u8], out: &mut [u8], values: &mut [u64]) -> u32 {
+    fn fixture_name(
+        &self,
+        ms: u64,
+        counter: u32,
+        direction: u8,
+        wire: &[u8],
+        out: &mut [u8],
+        values: &mut [u64],
+    ) -> u32 {
         unsafe {
             lumbryth_fixture_name(
                 ms,

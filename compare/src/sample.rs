@@ -148,7 +148,12 @@ fn name_cases(sample: &mut Sample, rng: &mut Rng) {
     for kind in 0..=255 {
         let payload: &[u8] = if kind % 2 == 0 { &[] } else { &[0x22] };
         let direction = if kind % 3 == 0 { Direction::Tx } else { Direction::Rx };
-        sample.fixture_name(rng.next() >> (kind % 64), rng.next() as u32 >> (kind % 32), direction, &packed(kind, rng.byte(), payload));
+        sample.fixture_name(
+            rng.next() >> (kind % 64),
+            rng.next() as u32 >> (kind % 32),
+            direction,
+            &packed(kind, rng.byte(), payload),
+        );
     }
     for kind in [0x0C, 0x0E] {
         for first in 0..=255 {
