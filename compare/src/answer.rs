@@ -97,8 +97,12 @@ pub struct Lender {
     bytes: Vec<u8>,
     values: Vec<u64>,
     turn: usize,
-    pub cases: u64,
+    /// How many calls were to be answered with each number.
+    pub answers: [u64; NUMBERS],
 }
+
+/// One more than the highest number of a refusal.
+pub const NUMBERS: usize = 21;
 
 impl Lender {
     /// One call with `lent` bytes of output and room for `room` values. Everything is
@@ -111,7 +115,6 @@ impl Lender {
         call: &mut dyn FnMut(&mut [u8], &mut [u64]) -> u32,
         case: &dyn Fn() -> Case,
     ) -> Checked {
-        self.cases += 1;
         self.turn += 1;
         let salt = (self.turn as u8).wrapping_mul(29);
         let pattern = |i: usize| (i as u8).wrapping_mul(7) ^ salt;
@@ -121,6 +124,7 @@ impl Lender {
         self.values.resize(room + 2, UNTOUCHED);
         let number = call(&mut self.bytes[GUARD..GUARD + lent], &mut self.values[1..1 + room]);
         let expected = expected.within(lent);
+        self.answers[expected.number as usize] += 1;
         let mut wrong = Vec::new();
         if number != expected.number {
             wrong.push(format!("number {number}"));

@@ -257,14 +257,14 @@ pub fn run(subject: &dyn Subject, options: &Options) -> Checked {
     let mut codec = Codec { subject, lender: Lender::default() };
     let mut log = options.log("codec");
     packing(&mut codec, &mut rng, size)?;
-    log.line("pack", codec.lender.cases);
+    log.line("pack", &codec.lender);
     random(&mut codec, &mut rng, size)?;
-    log.line("unpack, random frames", codec.lender.cases);
+    log.line("unpack, random frames", &codec.lender);
     damaged(&mut codec, &mut rng, size)?;
-    log.line("unpack, damaged frames", codec.lender.cases);
+    log.line("unpack, damaged frames", &codec.lender);
     short(&mut codec)?;
-    log.line("unpack, short frames", codec.lender.cases);
+    log.line("unpack, short frames", &codec.lender);
     placed(&mut codec)?;
-    log.line("unpack, three places", codec.lender.cases);
+    log.line("unpack, three places", &codec.lender);
     Ok(())
 }

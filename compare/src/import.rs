@@ -119,11 +119,11 @@ impl<'a> Import<'a> {
 
     /// A call that has to leave `lent` bytes of work as they were.
     fn unworked(&self, lender: &mut Lender, file: &[u8], channel: u32, expected: &Answer, lent: usize) -> Checked {
-        self.lend(lent, Some(lender.cases as u8));
+        self.lend(lent, Some(self.files as u8));
         let room = lender.room(expected);
         lender.call(
             expected,
-            lender.cases as usize % 40,
+            self.files % 40,
             room,
             &mut |out, values| self.call(file, &mut self.work.borrow_mut()[..lent], out, channel, values),
             &|| self.case(file, channel, lent),
@@ -550,32 +550,32 @@ pub fn run_rule(subject: &dyn Subject, options: &Options, group: &'static str, r
     let mut import = Import::new(subject, rule);
     let mut log = options.log(group);
     random(&mut import, &mut rng, size)?;
-    log.line("random traces", import.lender.cases);
+    log.line("random traces", &import.lender);
     damaged(&mut import, &mut rng, size)?;
-    log.line("damaged traces", import.lender.cases);
+    log.line("damaged traces", &import.lender);
     limits(&mut |file| import.file(file, NO_CHANNEL), &mut rng)?;
-    log.line("long buffers", import.lender.cases);
+    log.line("long buffers", &import.lender);
     short(&mut import, &mut rng)?;
-    log.line("short files and every beginning of good ones", import.lender.cases);
+    log.line("short files and every beginning of good ones", &import.lender);
     if rule == Rule::NotTolerant {
         return Ok(());
     }
     one_byte(&mut import)?;
-    log.line("every one-byte change of small traces", import.lender.cases);
+    log.line("every one-byte change of small traces", &import.lender);
     fragments(&mut import)?;
-    log.line("every four fragments", import.lender.cases);
+    log.line("every four fragments", &import.lender);
     packets(&mut import)?;
-    log.line("every short packet", import.lender.cases);
+    log.line("every short packet", &import.lender);
     signalling(&mut import)?;
-    log.line("every three commands", import.lender.cases);
+    log.line("every three commands", &import.lender);
     rfcomm(&mut import)?;
-    log.line("every short RFCOMM frame", import.lender.cases);
+    log.line("every short RFCOMM frame", &import.lender);
     stretches(&mut import)?;
-    log.line("every six steps of sessions and links", import.lender.cases);
+    log.line("every six steps of sessions and links", &import.lender);
     choices(&mut import)?;
-    log.line("every four pieces on several DLCIs", import.lender.cases);
+    log.line("every four pieces on several DLCIs", &import.lender);
     large(&mut import, &mut rng)?;
-    log.line("traces of about 1,048,576 bytes", import.lender.cases);
+    log.line("traces of about 1,048,576 bytes", &import.lender);
     Ok(())
 }
 

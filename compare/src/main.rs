@@ -21,7 +21,7 @@ mod trace;
 
 use std::process::ExitCode;
 
-use answer::{Checked, Difference, Subject};
+use answer::{Checked, Difference, Lender, Subject, NUMBERS};
 
 const USAGE: &str = "\
 usage: compare GROUP [--seed N] [--size N] [--against proved|model]
@@ -43,26 +43,29 @@ pub struct Options {
     model: bool,
 }
 
-/// Prints how many cases each part of a group compared.
+/// Prints how many cases each part of a group compared, by the number expected.
 pub struct Log {
     group: &'static str,
-    before: u64,
+    before: [u64; NUMBERS],
     quiet: bool,
 }
 
 impl Options {
     pub fn log(&self, group: &'static str) -> Log {
-        Log { group, before: 0, quiet: self.quiet }
+        Log { group, before: [0; NUMBERS], quiet: self.quiet }
     }
 }
 
 impl Log {
-    /// `cases` is the number of cases since the group began.
-    pub fn line(&mut self, part: &str, cases: u64) {
-        if !self.quiet {
-            println!("{}: {part}: {} cases", self.group, cases - self.before);
+    pub fn line(&mut self, part: &str, lender: &Lender) {
+        let counts: Vec<u64> = lender.answers.iter().zip(self.before).map(|(now, before)| now - before).collect();
+        self.before = lender.answers;
+        if self.quiet {
+            return;
         }
-        self.before = cases;
+        let total: u64 = counts.iter().sum();
+        let shown = counts.iter().enumerate().filter(|(_, n)| **n > 0).map(|(number, n)| format!("{number}: {n}"));
+        println!("{}: {part}: {total} cases ({})", self.group, shown.collect::<Vec<_>>().join(", "));
     }
 }
 

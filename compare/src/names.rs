@@ -32,7 +32,7 @@ impl Names<'_> {
 
     fn command(&mut self, name: &[u8]) -> Checked {
         let expected = std::str::from_utf8(name).is_ok_and(capture::is_command_name);
-        self.lender.cases += 1;
+        self.lender.answers[usize::from(expected)] += 1;
         let got = self.subject.is_command_name(name);
         if got == u32::from(expected) {
             return Ok(());
@@ -158,12 +158,12 @@ pub fn run(subject: &dyn Subject, options: &Options) -> Checked {
     let mut names = Names { subject, lender: Lender::default() };
     let mut log = options.log("names");
     all_types(&mut names, &mut rng)?;
-    log.line("every type and first byte", names.lender.cases);
+    log.line("every type and first byte", &names.lender);
     numbers(&mut names)?;
-    log.line("times and counters", names.lender.cases);
+    log.line("times and counters", &names.lender);
     refusals(&mut names, &mut rng, options.size.unwrap_or(100_000))?;
-    log.line("damaged frames", names.lender.cases);
+    log.line("damaged frames", &names.lender);
     commands(&mut names, &mut rng)?;
-    log.line("is_command_name", names.lender.cases);
+    log.line("is_command_name", &names.lender);
     Ok(())
 }

@@ -202,12 +202,12 @@ pub fn run(subject: &dyn Subject, options: &Options) -> Checked {
     let odd = odd_names();
     let mut log = options.log("order");
     pairs(&mut order, &odd)?;
-    log.line("odd counters, in pairs", order.lender.cases);
+    log.line("odd counters, in pairs", &order.lender);
     random(&mut order, &mut rng, &odd, size)?;
-    log.line("random names", order.lender.cases);
+    log.line("random names", &order.lender);
     forms(&mut order, &mut rng)?;
-    log.line("ill-formed lists", order.lender.cases);
+    log.line("ill-formed lists", &order.lender);
     bytes(&mut order, &mut rng, size / 10)?;
-    log.line("names that are not UTF-8, against the model", order.lender.cases);
+    log.line("names that are not UTF-8, against the model", &order.lender);
     Ok(())
 }

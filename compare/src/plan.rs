@@ -174,12 +174,12 @@ pub fn run(subject: &dyn Subject, options: &Options) -> Checked {
     let mut plan = Plan { subject, lender: Lender::default() };
     let mut log = options.log("plan");
     each_word(&mut plan, &words)?;
-    log.line("every command, each one excluded", plan.lender.cases);
+    log.line("every command, each one excluded", &plan.lender);
     random(&mut plan, &mut rng, &words, size)?;
-    log.line("random spans and excludes", plan.lender.cases);
+    log.line("random spans and excludes", &plan.lender);
     forms(&mut plan, &mut rng)?;
-    log.line("ill-formed lists", plan.lender.cases);
+    log.line("ill-formed lists", &plan.lender);
     bytes(&mut plan, &mut rng, size / 10)?;
-    log.line("excludes that are not UTF-8, against the model", plan.lender.cases);
+    log.line("excludes that are not UTF-8, against the model", &plan.lender);
     Ok(())
 }

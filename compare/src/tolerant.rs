@@ -52,7 +52,7 @@ pub fn each_cut(rng: &mut Rng, size: u64, f: &mut dyn FnMut(&Honest, usize) -> C
 pub fn check_makers(options: &Options) -> Checked {
     let mut rng = Rng::new(options.seed);
     let (mut cuts, mut none, mut spans, mut unfinished, mut recordings) = (0u64, 0u64, 0u64, 0u64, 0u64);
-    each_cut(&mut rng, options.size.unwrap_or(500), &mut |recording, n| {
+    each_cut(&mut rng, options.size.unwrap_or(50_000) / 100, &mut |recording, n| {
         let left = recording.left(n);
         let found = expected::import_tolerant(&recording.file[..n], recording.channel());
         cuts += 1;
@@ -79,14 +79,14 @@ pub fn check_makers(options: &Options) -> Checked {
 }
 
 pub fn run(subject: &dyn Subject, options: &Options) -> Checked {
-    let size = options.size.unwrap_or(500);
+    let size = options.size.unwrap_or(50_000);
     let mut rng = Rng::new(options.seed);
     let mut log = options.log("tolerant");
     let mut import = Import::new(subject, Rule::Tolerant);
-    each_cut(&mut rng, size, &mut |recording, n| {
+    each_cut(&mut rng, size / 100, &mut |recording, n| {
         import.held(&recording.file[..n], recording.channel(), &recording.left(n))
     })?;
-    log.line("every cut of honest recordings", import.lender.cases);
-    import::run_rule(subject, options, "tolerant", Rule::Tolerant, 20 * size)?;
-    import::run_rule(subject, options, "tolerant, switched to strict", Rule::NotTolerant, 2 * size)
+    log.line("every cut of honest recordings", &import.lender);
+    import::run_rule(subject, options, "tolerant", Rule::Tolerant, size / 5)?;
+    import::run_rule(subject, options, "tolerant, switched to strict", Rule::NotTolerant, size / 50)
 }
