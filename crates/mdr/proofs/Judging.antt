@@ -67,14 +67,14 @@ bare-sound s e = rw append-nil at (unescape-bare s [] e ∙ pushes-gives s [] []
 
 -- ---- the header
 
-pub header-is : (s : List ℕ) (a b c d e f : Got) → GotIs s 0 a → GotIs s (a .next) b → GotIs s (b .next) c → GotIs s (c .next) d → GotIs s (d .next) e → GotIs s (e .next) f → (h : Header) → h .kind ≡ a .byte → h .seq ≡ b .byte → h .declared ≡ c .byte * 16777216 + d .byte * 65536 + e .byte * 256 + f .byte → h .at ≡ f .next → HeaderIs s h
+pub header-is : (s : List ℕ) (a b c d e f : Got) → GotIs s 0 a → GotIs s (a .next) b → GotIs s (b .next) c → GotIs s (c .next) d → GotIs s (d .next) e → GotIs s (e .next) f → (h : Header) → h .kind ≡ a .byte → h .seq ≡ b .byte → h .declared ≡ 16777216 * c .byte + 65536 * d .byte + 256 * e .byte + f .byte → h .at ≡ f .next → HeaderIs s h
 unfolding be32
 header-is s a b c d e f ga gb gc gd ge gf h p q r t =
     let v : ahead s 0 ≡ a .byte ∷ b .byte ∷ c .byte ∷ d .byte ∷ e .byte ∷ f .byte ∷ ahead s (f .next)
     = ga .step ∙ rw (gb .step, gc .step, gd .step, ge .step, gf .step) in
     record { kind = rw (v, p); seq = rw (v, q); declared = rw (v, r); rest = rw (v, t) }
 
-pub header-bare : (s : List ℕ) (t : Bool) → Bare 0x3D 0x3D s t → t ≡ true → (h : Header) → h .kind ≡ getD s 0 0 → h .seq ≡ getD s 1 0 → h .declared ≡ getD s 2 0 * 16777216 + getD s 3 0 * 65536 + getD s 4 0 * 256 + getD s 5 0 → h .at ≡ 6 → HeaderIs s h
+pub header-bare : (s : List ℕ) (t : Bool) → Bare 0x3D 0x3D s t → t ≡ true → (h : Header) → h .kind ≡ getD s 0 0 → h .seq ≡ getD s 1 0 → h .declared ≡ 16777216 * getD s 2 0 + 65536 * getD s 3 0 + 256 * getD s 4 0 + getD s 5 0 → h .at ≡ 6 → HeaderIs s h
 unfolding be32
 header-bare s t v y h p q r e =
     let z = ahead-bare s 0 (v .none y) in

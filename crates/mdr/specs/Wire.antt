@@ -27,7 +27,7 @@ wire-body w h s e = rw (le-leb 9 (length w) h, eq-eqb (getD w 0 0) 0x3E s, eq-eq
 
 -- ---- the body
 
-pub be32-back : (n : ℕ) → n < 4294967296 → n / 256 / 256 / 256 % 256 * 16777216 + n / 256 / 256 % 256 * 65536 + n / 256 % 256 * 256 + n % 256 ≡ n
+pub be32-back : (n : ℕ) → n < 4294967296 → 16777216 * (n / 256 / 256 / 256 % 256) + 65536 * (n / 256 / 256 % 256) + 256 * (n / 256 % 256) + n % 256 ≡ n
 be32-back n h = omega arith
 
 module _ (t q : ℕ) (p : List ℕ) where
