@@ -1,32 +1,30 @@
 -- What each way out of judging a frame shows, over plain lists and numbers.
-use Prim.Native.Nat.{ℕ, zero, suc, _+_, _-_, _*_, _/_, _%_, _<_, _≤_}
+use Prim.Native.Nat.{ℕ, suc, _+_, _-_, _*_, _/_, _%_, _<_, _≤_}
 use mathlib.Core.Path.{_≡_, refl, sym, ap, _∙_, subst}
-use mathlib.Core.Bool.{Bool, true, false, cond}
+use mathlib.Core.Bool.{Bool, true, false}
 use mathlib.Core.List.{List, [], _∷_, _++_, append-nil}
 use native.Mathlib.Nat.{add-mul-mod-self-left, add-mod-mod}
 use native.Mathlib.Omega.{arith}
 use lib.ListN.{length, getD, take, drop, take-append-drop, length-drop, length-append}
-use lib.Seq.{drop-cons, take-suc, take-length, length-take-le, getD-at}
+use lib.Seq.{take-suc, take-length, getD-at}
 use lib.Dec.{eqb}
 use borrow.Author.Tests.{le-leb, lt-leb, eq-eqb, ne-eqb}
 use Rattle.laws.specs.Choice.{splitB, no-way}
 use Rattle.laws.specs.Lists.{drop-step, drop-end}
 use Rattle.laws.specs.Numbers.{be32}
-use Rattle.laws.specs.Answers.{Answer, refused, Outcome, gives, refuses}
+use Rattle.laws.specs.Answers.{refused, Outcome, gives, refuses}
 use Rattle.mdr.specs.Sum.{total, checksumOf}
 use Rattle.mdr.specs.Escape.{escapee, push, unescape, unescapeFrom}
 use Rattle.mdr.specs.Escaping.{count-append}
-use Rattle.mdr.specs.Frame.{declaredOf, lastOf, computedOf, payloadOf, judged, bodied, unpackOf}
+use Rattle.mdr.specs.Frame.{declaredOf, lastOf, computedOf, judged, bodied, unpackOf}
 use Rattle.mdr.specs.Wire.{judged-whole, wire-body}
-use Rattle.mdr.specs.Told.{told}
-use Rattle.mdr.specs.Steps.{Minus, sentries, Measured, bytesOf, ahead, Sound, FlawIs, GotIs, HeaderIs, Summed, Bare, RefusedBy, Holds, Reads, inside}
+use Rattle.mdr.specs.Steps.{Minus, sentries, Measured, bytesOf, ahead, Sound, FlawIs, GotIs, HeaderIs, Summed, Bare, RefusedBy, Reads, inside}
 use Rattle.mdr.specs.declared.Got.{Got}
 use Rattle.mdr.specs.declared.Header.{Header}
 use Rattle.mdr.specs.declared.Head.{Head}
 use Rattle.mdr.specs.declared.Flaw.{Flaw}
 use Rattle.mdr.specs.declared.Flaw.the-variants as flaw
-use Rattle.mdr.specs.declared.Unpacked.{Unpacked}
-use Rattle.mdr.specs.declared.Unpacked.the-variants.{Frame, TooShort, NoStart, NoEnd, TrailingSentry, BadEscapee, BodyTooShort, LengthMismatch, BadChecksum, OutShort}
+use Rattle.mdr.specs.declared.Unpacked.the-variants.{TooShort, NoStart, NoEnd, TrailingSentry, BadEscapee, BodyTooShort, LengthMismatch, BadChecksum}
 use Rattle.mdr.specs.declared.Reading.{Reading}
 use Rattle.mdr.specs.declared.Reading.the-variants.{Whole, Refused}
 use Rattle.mdr.proofs.Counting.{total-append}

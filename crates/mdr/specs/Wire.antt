@@ -2,14 +2,14 @@
 use Prim.Native.Nat.{ℕ, suc, _+_, _-_, _*_, _/_, _%_, _<_, _≤_}
 use mathlib.Core.Path.{_≡_, refl, sym, ap, _∙_}
 use mathlib.Core.List.{List, [], _∷_, _++_}
-use mathlib.Core.Bool.{Bool, true, false, cond}
+use mathlib.Core.Bool.{true}
 use native.Mathlib.Omega.{arith}
 use lib.ListN.{length, getD, take, drop, length-append}
 use lib.Seq.{take-at, getD-at}
 use borrow.Author.Tests.{le-leb, eq-eqb}
 use Rattle.laws.specs.Lists.{All}
 use Rattle.laws.specs.Numbers.{be32}
-use Rattle.laws.specs.Answers.{Outcome, gives, refuses, isGiven}
+use Rattle.laws.specs.Answers.{gives, isGiven}
 use Rattle.mdr.specs.Sum.{checksumOf}
 use Rattle.mdr.specs.Escape.{escape, unescape}
 use Rattle.mdr.specs.Frame.{headOf, summedOf, bodyOf, packed, declaredOf, lastOf, computedOf, payloadOf, judged, bodied, unpackOf, unpacksOf}

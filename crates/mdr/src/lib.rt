@@ -372,13 +372,13 @@ fn judge(s: &[u8], n: usize, sum: u8, last: u8, bare: bool) -> Reading
     if n < 7 {
         return Reading::Refused(Unpacked::BodyTooShort);
     }
-    if last != sum {
-        return Reading::Refused(Unpacked::BadChecksum(last, sum));
-    }
     let len = n - 7;
     let actual = len as u64;
     let h = read_header(s, bare);
     let declared = h.declared;
+    if last != sum {
+        return Reading::Refused(Unpacked::BadChecksum(last, sum));
+    }
     if declared != actual {
         return Reading::Refused(Unpacked::LengthMismatch(declared, actual));
     }
