@@ -5,11 +5,13 @@ use mathlib.Core.List.{List, [], _∷_, _++_}
 use native.Mathlib.Omega.{arith}
 use lib.ListN.{length, getD, take, drop, take-append-drop, length-drop}
 use lib.Seq.{drop-drop, length-take-le}
+use lib.Dec.{eqb}
+use borrow.Author.Tests.{eqb-true}
 use Rattle.laws.specs.Lists.{drop-step, drop-end}
 use Rattle.mdr.specs.Sum.{total, checksumOf}
 use Rattle.mdr.specs.Escape.{within}
 use Rattle.mdr.specs.Escaping.{countIn, count-append}
-use Rattle.mdr.specs.Steps.{OneIf, Tallied}
+use Rattle.mdr.specs.Steps.{OneIf, Tallied, Bare}
 use Rattle.mdr.specs.declared.Totals.{Totals}
 
 pub total-append : (xs ys : List ℕ) → total (xs ++ ys) ≡ total xs + total ys
@@ -79,6 +81,27 @@ module _ (l : List ℕ) (lo hi sum hits i : ℕ) (s : Tallying l lo hi sum hits 
 
   pub tally-last : (t : Totals) → Tallied (take (length l - i) (drop i l)) lo hi t → (r : Totals) → r .sum ≡ (sum + t .sum) % 256 → r .hits ≡ hits + t .hits → Tallied l lo hi r
   tally-last t v r p q = tally-end l lo hi (r .sum) (hits + t .hits) (length l) (tally-part l lo hi sum hits i s (length l) (s .few) (omega arith) t v (r .sum) p) (omega arith) r refl q
+
+-- no byte between the two values so far
+pub record Baring (l : List ℕ) (lo hi most i : ℕ) : Type 0 where
+  pub few : i ≤ length l
+  pub none : most ≡ 0 → countIn lo hi l ≡ countIn lo hi (drop i l)
+
+pub bare-start : (l : List ℕ) (lo hi : ℕ) → Baring l lo hi 0 0
+bare-start l lo hi = record { few = omega arith; none = λ e. refl }
+
+module _ (l : List ℕ) (lo hi most i : ℕ) (s : Baring l lo hi most i) where
+  pub bare-more : i < length l → (x : ℕ) → most < x → Baring l lo hi x (i + 1)
+  bare-more n x h = record { few = omega arith; none = λ e. absurd (omega arith) }
+
+  pub bare-same : i < length l → (x : ℕ) → OneIf (within lo hi (getD l i 0)) x → x ≤ most → Baring l lo hi most (i + 1)
+  bare-same n x q h = record {
+    few = omega arith;
+    none = λ e. omega (arith, s .none e, ap (countIn lo hi) (drop-step l i n), q .is);
+  }
+
+  pub bare-end : length l ≤ i → Bare lo hi l (eqb most 0)
+  bare-end n = record { none = λ e. s .none (eqb-true most 0 e) ∙ ap (countIn lo hi) (drop-end l i n) }
 
 -- the sum alone
 pub record Summing (l : List ℕ) (sum i : ℕ) : Type 0 where

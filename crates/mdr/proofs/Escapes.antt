@@ -95,9 +95,6 @@ escape-bare (b ∷ bs) e =
     (λ t. let k : _≡_ {A = ℕ} (cond (special b) 1 0) 1 = rw t in absurd (omega arith))
     (λ t. rw (t, escape-bare bs (omega arith)))
 
-pub block-as : (l : List ℕ) (t : Totals) (out : List ℕ) (at r : ℕ) (out′ : List ℕ) → Tallied l 0x3C 0x3E t → t .hits ≡ 0 → Writes out at l r out′ → Writes out at (escape l) r out′
-block-as l t out at r out′ v z w = rw (escape-bare l (sym (v .hits) ∙ z)) w
-
 pub bare-as : (l : List ℕ) (t : Bool) (out : List ℕ) (at r : ℕ) (out′ : List ℕ) → Bare 0x3C 0x3E l t → t ≡ true → Writes out at l r out′ → Writes out at (escape l) r out′
 bare-as l t out at r out′ v y w = rw (escape-bare l (v .none y)) w
 

@@ -15,8 +15,7 @@ use Rattle.laws.specs.Answers.{accepted, refused, Outcome, gives, refuses, isGi
 use Rattle.mdr.specs.Escape.{unescape}
 use Rattle.mdr.specs.Frame.{unpackOf, unpacksOf}
 use Rattle.mdr.specs.Told.{told, glance}
-use Rattle.mdr.specs.Steps.{Tallied, sentries, bytesOf, ahead, GotIs, Bare, RefusedBy, Holds, Reads, Filled}
-use Rattle.mdr.specs.declared.Totals.{Totals}
+use Rattle.mdr.specs.Steps.{sentries, bytesOf, ahead, GotIs, Bare, RefusedBy, Holds, Reads, Filled}
 use Rattle.mdr.specs.declared.Got.{Got}
 use Rattle.mdr.specs.declared.Head.{Head}
 use Rattle.mdr.specs.declared.Unpacked.{Unpacked}
@@ -128,11 +127,11 @@ block-long s i h =
     let k : i + 16 - i ≡ 16 = omega arith in
     rw k (length-take-le 16 (drop i s) (omega (arith, ahead-most s i 16 h, length-drop i s)))
 
-pub block-bare : (s : List ℕ) (i : ℕ) (d : List ℕ) (at : ℕ) (t : Totals) (r : ℕ) (e : List ℕ) → 16 ≤ length (ahead s i) → Tallied (take (i + 16 - i) (drop i s)) 0x3D 0x3D t → t .hits ≡ 0 → Writes d at (take (i + 16 - i) (drop i s)) r e → Filled s i d at 16 (i + 16) e
+pub block-bare : (s : List ℕ) (i : ℕ) (d : List ℕ) (at : ℕ) (t : Bool) (r : ℕ) (e : List ℕ) → 16 ≤ length (ahead s i) → Bare 0x3D 0x3D (take (i + 16 - i) (drop i s)) t → t ≡ true → Writes d at (take (i + 16 - i) (drop i s)) r e → Filled s i d at 16 (i + 16) e
 block-bare s i d at t r e h v z w =
     let a : List ℕ = take (i + 16 - i) (drop i s) in
     let n : length a ≡ 16 = block-long s i h in
-    let u : ahead s i ≡ a ++ ahead s (i + 16) = ahead-part s i (i + 16) (omega arith) (omega arith) (sym (v .hits) ∙ z) in record {
+    let u : ahead s i ≡ a ++ ahead s (i + 16) = ahead-part s i (i + 16) (omega arith) (omega arith) (v .none z) in record {
       rest = sym (ap (drop 16) u ∙ drop-at a (ahead s (i + 16)) 16 n);
       writes = w .writes ∙ ap (λ (l : List ℕ). sets d at l) (sym (ap (take 16) u ∙ take-at a (ahead s (i + 16)) 16 n));
     }

@@ -5,5 +5,6 @@ pub mod Told
 pub mod Escaping
 pub mod Steps
 pub mod Wire
+pub mod Glance
 pub mod Examples
 pub mod Types

@@ -4,12 +4,14 @@ use mathlib.Core.Path.{_≡_, refl, sym, ap, _∙_}
 use mathlib.Core.List.{List, [], _∷_, _++_}
 use mathlib.Core.Bool.{true}
 use native.Mathlib.Omega.{arith}
-use lib.ListN.{length, getD, take, drop, length-append}
-use lib.Seq.{take-at, getD-at}
-use borrow.Author.Tests.{le-leb, eq-eqb}
+use lib.ListN.{length, getD, take, drop, length-append, length-drop}
+use lib.Seq.{take-at, getD-at, length-take-le}
+use lib.Dec.{leb, eqb}
+use borrow.Author.Tests.{le-leb, lt-leb, eq-eqb}
+use Rattle.laws.specs.Choice.{splitB, split≤}
 use Rattle.laws.specs.Lists.{All}
 use Rattle.laws.specs.Numbers.{be32}
-use Rattle.laws.specs.Answers.{gives, isGiven}
+use Rattle.laws.specs.Answers.{Outcome, gives, refuses, isGiven}
 use Rattle.mdr.specs.Sum.{checksumOf}
 use Rattle.mdr.specs.Escape.{escape, unescape}
 use Rattle.mdr.specs.Frame.{headOf, summedOf, bodyOf, packed, declaredOf, lastOf, computedOf, payloadOf, judged, bodied, unpackOf, unpacksOf}
@@ -24,6 +26,45 @@ judged-whole B h s d = rw (le-leb 7 (length B) h, eq-eqb (lastOf B) (computedOf 
 pub wire-body : (w : List ℕ) → 9 ≤ length w → getD w 0 0 ≡ 0x3E → getD w (length w - 1) 0 ≡ 0x3C → unpackOf w ≡ bodied (unescape (take (length w - 2) (drop 1 w)))
 unfolding unpackOf
 wire-body w h s e = rw (le-leb 9 (length w) h, eq-eqb (getD w 0 0) 0x3E s, eq-eqb (getD w (length w - 1) 0) 0x3C e)
+
+-- what a wire gives is a payload of the length answered
+judged-length : (B : List ℕ) (t q n : ℕ) (p : List ℕ) → judged B ≡ gives (t ∷ q ∷ n ∷ []) p → length p ≡ n
+unfolding judged
+judged-length B t q n p e =
+    split≤ 7 (length B)
+    (λ h.
+    let a = rw (le-leb 7 (length B) h) at e in
+    splitB (eqb (lastOf B) (computedOf B))
+    (λ u.
+    let b = rw u at a in
+    splitB (eqb (declaredOf B) (length B - 7))
+    (λ v.
+    let c = rw v at b in
+    let x : payloadOf B ≡ p = cc in
+    let y : length B - 7 ≡ n = cc in
+    sym (ap length x) ∙ length-take-le (length B - 7) (drop 6 B) (omega (arith, length-drop 6 B)) ∙ y)
+    (λ v. let c = rw v at b in let z : _≡_ {A = ℕ} 0 1 = cc in absurd (omega arith)))
+    (λ u. let b = rw u at a in let z : _≡_ {A = ℕ} 0 1 = cc in absurd (omega arith)))
+    (λ h. let a = rw (lt-leb 7 (length B) h) at e in let z : _≡_ {A = ℕ} 0 1 = cc in absurd (omega arith))
+
+bodied-length : (o : Outcome) (t q n : ℕ) (p : List ℕ) → bodied o ≡ gives (t ∷ q ∷ n ∷ []) p → length p ≡ n
+bodied-length (gives vs B) t q n p e = judged-length B t q n p e
+bodied-length (refuses m vs) t q n p e = let z : _≡_ {A = ℕ} 0 1 = cc in absurd (omega arith)
+
+pub unpacked-length : (w : List ℕ) (t q n : ℕ) (p : List ℕ) → unpackOf w ≡ gives (t ∷ q ∷ n ∷ []) p → length p ≡ n
+unfolding unpackOf
+unpacked-length w t q n p e =
+    splitB (leb 9 (length w))
+    (λ a.
+    let e₁ = rw a at e in
+    splitB (eqb (getD w 0 0) 0x3E)
+    (λ b.
+    let e₂ = rw b at e₁ in
+    splitB (eqb (getD w (length w - 1) 0) 0x3C)
+    (λ c. bodied-length (unescape (take (length w - 2) (drop 1 w))) t q n p (rw c at e₂))
+    (λ c. let f = rw c at e₂ in let z : _≡_ {A = ℕ} 0 1 = cc in absurd (omega arith)))
+    (λ b. let f = rw b at e₁ in let z : _≡_ {A = ℕ} 0 1 = cc in absurd (omega arith)))
+    (λ a. let f = rw a at e in let z : _≡_ {A = ℕ} 0 1 = cc in absurd (omega arith))
 
 -- ---- the body
 

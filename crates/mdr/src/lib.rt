@@ -122,6 +122,7 @@ fn tally_few(part: &[u8], lo: u8, hi: u8) -> Totals
     }
 }
 
+// Any number of bytes, part by part.
 fn tally(s: &[u8], lo: u8, hi: u8) -> Totals
     ensures { λ r. ⌜ Tallied (now (s .entry)) lo hi r ⌝ }
 {
@@ -143,6 +144,23 @@ fn tally(s: &[u8], lo: u8, hi: u8) -> Totals
     }
 }
 
+// Whether no byte lies between two values. There is no early way out, so that the loop runs on many bytes at once.
+fn is_bare(part: &[u8], lo: u8, hi: u8) -> bool
+    ensures { λ r. ⌜ Bare lo hi (now (part .entry)) r ⌝ }
+{
+    let mut most: u8 = 0;
+    let mut i: usize = 0;
+    while i < part.len() {
+        let x = one_within(part[i], lo, hi);
+        i += 1;
+        if most < x {
+            most = x;
+        }
+    }
+    most == 0
+}
+
+// a less b, wrapping in eight bits.
 fn minus(a: u8, b: u8) -> u8
     ensures { λ r. ⌜ Minus a b r ⌝ }
 {
@@ -224,6 +242,7 @@ fn first_flaw(s: &[u8]) -> Flaw
     Flaw::Sound
 }
 
+// Looks at many bytes at once first, and walks a part byte by byte only if it is short or broken.
 fn check_escapes(s: &[u8]) -> Flaw
     requires { ⌜ 1 ≤ length (now s) ⌝ }
     ensures { λ r. ⌜ FlawIs (now (s .entry)) r ⌝ }
@@ -391,6 +410,7 @@ fn judge(s: &[u8], n: usize, sum: u8, last: u8, bare: bool) -> Reading
     })
 }
 
+// Nothing is escaped, and all is the sum of all bytes.
 fn read_bare(s: &[u8], all: u8) -> Reading
     requires { ⌜ Measured (now s) all 0 ⌝ }
     ensures { λ r. ⌜ Reads (bodied (unescape (now (s .entry)))) (now (s .entry)) r ⌝ }
@@ -415,6 +435,7 @@ fn read_sound(s: &[u8], raw: u8, sentries: usize) -> Reading
     judge(s, n, sum, last, false)
 }
 
+// raw is the sum of all bytes as they stand.
 fn read_escaped(s: &[u8], raw: u8, sentries: usize) -> Reading
     requires { ⌜ Measured (now s) raw sentries ⌝ }
     ensures { λ r. ⌜ Reads (bodied (unescape (now (s .entry)))) (now (s .entry)) r ⌝ }
@@ -438,6 +459,7 @@ fn read_body(s: &[u8]) -> Reading
     read_escaped(s, t.sum, t.hits)
 }
 
+// What a wire says, before an output is looked at.
 fn read_frame(wire: &[u8]) -> Reading
     ensures { λ r. ⌜ Reads (unpackOf (now (wire .entry))) (inside (now (wire .entry))) r ⌝ }
 {
@@ -485,7 +507,7 @@ fn fill_few(s: &[u8], from: usize, out: &mut [u8], at: usize, count: usize) -> u
     i
 }
 
-// Sixteen bytes at once.
+// Sixteen bytes at once: all are loaded before the first is stored.
 fn copy_block(part: &[u8], out: &mut [u8], at: usize) -> usize
     requires { ⌜ length (now part) ≡ 16 ⌝ }
     requires { ⌜ at + 16 ≤ length (now out) ⌝ }
@@ -503,8 +525,7 @@ fn fill_block(s: &[u8], from: usize, out: &mut [u8], at: usize) -> usize
     ensures { λ r. ⌜ Filled (now (s .entry)) from (now (out .entry)) at 16 r (now (out .exit)) ⌝ }
 {
     let to = from + 16;
-    let t = tally_few(&s[from..to], 0x3D, 0x3D);
-    if t.hits == 0 {
+    if is_bare(&s[from..to], 0x3D, 0x3D) {
         copy_block(&s[from..to], out, at);
         return to;
     }
@@ -655,8 +676,7 @@ fn escape_block(part: &[u8], out: &mut [u8], at: usize) -> usize
     requires { ⌜ at + length (escape (now part)) ≤ length (now out) ⌝ }
     ensures { λ r. ⌜ Writes (now (out .entry)) at (escape (now (part .entry))) r (now (out .exit)) ⌝ }
 {
-    let t = tally_few(part, 0x3C, 0x3E);
-    if t.hits == 0 {
+    if is_bare(part, 0x3C, 0x3E) {
         return copy_block(part, out, at);
     }
     escape_few(part, out, at)

@@ -7,17 +7,17 @@ use Rattle.mdr.proofs.fill_block.Tie as tie
 add-to : tie.Need-add-to
 add-to c = omega (arith, block-inside _ _ (c .before .before .pre .0))
 
-sub-tally-few : tie.Need-sub-tally-few
-sub-tally-few c = search needs
+sub-is-bare : tie.Need-sub-is-bare
+sub-is-bare c = search needs
 
-part-tally-few-start : tie.Need-part-tally-few-start
-part-tally-few-start c = search needs
+part-is-bare-start : tie.Need-part-is-bare-start
+part-is-bare-start c = search needs
 
-part-tally-few-end : tie.Need-part-tally-few-end
-part-tally-few-end c = omega (arith, block-inside _ _ (c .before .before .pre .0))
+part-is-bare-end : tie.Need-part-is-bare-end
+part-is-bare-end c = omega (arith, block-inside _ _ (c .before .before .pre .0))
 
-tally-few-requires : tie.Need-tally-few-requires
-tally-few-requires c κs = search needs
+is-bare-requires : tie.Need-is-bare-requires
+is-bare-requires c κs = search needs
 
 sub-copy-block : tie.Need-sub-copy-block
 sub-copy-block c = search needs
@@ -26,7 +26,7 @@ part-copy-block-start : tie.Need-part-copy-block-start
 part-copy-block-start c = search needs
 
 part-copy-block-end : tie.Need-part-copy-block-end
-part-copy-block-end c = omega (arith, block-inside _ _ (c .before .before .before .before .before .before .pre .0))
+part-copy-block-end c = omega (arith, block-inside _ _ (c .before .before .before .before .before .pre .0))
 
 copy-block-requires : tie.Need-copy-block-requires
 copy-block-requires c κs = search needs
@@ -51,10 +51,10 @@ fill-block-spec =
     tie.close
     (tie.spec
     add-to
-    sub-tally-few
-    part-tally-few-start
-    part-tally-few-end
-    tally-few-requires
+    sub-is-bare
+    part-is-bare-start
+    part-is-bare-end
+    is-bare-requires
     sub-copy-block
     part-copy-block-start
     part-copy-block-end
