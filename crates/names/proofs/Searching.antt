@@ -10,8 +10,7 @@ use lib.ListN.{length, getD, take, drop, length-append, List·getD-append, drop-
 use lib.Seq.{take-at, drop-at, getD-append-add, drop-cons}
 use borrow.Author.Tests.{ltb-true, eq-eqb, ne-eqb, lt-ltb, le-ltb}
 use Rattle.laws.specs.Choice.{splitB, split≡, split≤, no-way}
-use Rattle.laws.specs.Keys.{eqK, eq-eqK, ne-eqK}
-use Rattle.laws.specs.Lists.{drop-step, drop-end}
+use Rattle.laws.specs.Keys.{eqK}
 use Rattle.mdr.specs.declared.DataType.the-variants.{Unknown}
 use Rattle.mdr.specs.Types.{kinds}
 use Rattle.names.specs.Text.{ascii}
@@ -225,41 +224,6 @@ module _ (all : List ℕ) (first count : ℕ) (q : all ≡ allCodes) where
   pub spot-none : (b i : ℕ) → i ≡ indexIn b (take (first + count - first) (drop first all)) → count ≤ i → 244 ≡ spotIn first count b
   unfolding spotIn
   spot-none b i e h = let f : i ≡ indexIn b (take count (drop first allCodes)) = rw part at e in rw (← f, le-ltb i count h)
-
--- ---- comparing: what is left is as equal as the whole
-
-pub record Comparing (a b : List ℕ) (i : ℕ) : Type 0 where
-  pub long : length a ≡ length b
-  pub within : i ≤ length a
-  pub same : eqK (drop i a) (drop i b) ≡ eqK a b
-
-module _ (a b : List ℕ) where
-  pub compare-long : (length a ≡ length b → ⊥) → false ≡ eqK a b
-  compare-long n = sym (ne-eqK a b (λ e. n (ap length e)))
-
-  pub compare-start : length a ≡ length b → Comparing a b 0
-  compare-start e = record { long = e; within = omega arith; same = refl }
-
-  module _ (i : ℕ) (c : Comparing a b i) where
-    pub compare-turn : i < length a → getD a i 0 ≡ getD b i 0 → Comparing a b (i + 1)
-    unfolding eqK
-    compare-turn h e =
-        let k : i < length b = omega (arith, c .long) in
-        record {
-          long = c .long;
-          within = omega arith;
-          same = rw (drop-step a i h, drop-step b i k, eq-eqb (getD a i 0) (getD b i 0) e) at (c .same);
-        }
-
-    pub compare-not : i < length a → (getD a i 0 ≡ getD b i 0 → ⊥) → false ≡ eqK a b
-    unfolding eqK
-    compare-not h n =
-        let k : i < length b = omega (arith, c .long) in
-        rw (drop-step a i h, drop-step b i k, ne-eqb (getD a i 0) (getD b i 0) n) at (c .same)
-
-    pub compare-end : length a ≤ i → true ≡ eqK a b
-    unfolding eqK
-    compare-end h = rw (drop-end a i h, drop-end b i (omega (arith, c .long))) at (c .same)
 
 -- ---- the name of a command
 

@@ -22,12 +22,11 @@ hex2 b = hexDigit (b / 16) ∷ hexDigit (b % 16) ∷ []
 -- ---- decimal
 
 -- the digits of a number, with at most so many after the first
-digits : ℕ → ℕ → List ℕ
+unfoldable pub digits : ℕ → ℕ → List ℕ
 digits zero n = (48 + n) ∷ []
 digits (suc k) n = let more = digits k (n / 10) ++ ((48 + n % 10) ∷ []) in cond (ltb n 10) ((48 + n) ∷ []) more
 
 unfoldable pub decimal : ℕ → List ℕ
-unfolding digits
 decimal n = digits n n
 
 -- with zeros before it to six digits

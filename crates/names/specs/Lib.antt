@@ -4,3 +4,5 @@ pub mod Commands
 pub mod Names
 pub mod Run
 pub mod Parts
+pub mod Told
+pub mod Examples

@@ -1,15 +1,19 @@
 // Names of fixtures: both command tables, the names of the types, digits.
 use items::Direction;
 use mdr::DataType;
+use mdr::Inspected;
+use mdr::Unpacked;
 ghost use mathlib.Core.Path.{_≡_};
 ghost use mathlib.Core.Bool.{true};
 ghost use Prim.Native.Nat.{_+_, _-_, _≤_, _<_};
 ghost use lib.ListN.{length, take, drop, replicate};
 ghost use Rattle.laws.specs.Keys.{eqK};
+ghost use Rattle.laws.specs.Answers.{Meets};
 ghost use Rattle.laws.specs.Stores.{Writes};
 ghost use Rattle.names.specs.Run.{allLetters, allStarts, allLens, allCodes, nameAt, Spot, PlaceIs, Tables, rising, indexIn, spotIn, entriesOf};
 ghost use Rattle.names.specs.Commands.{nameIn, isCommandName};
-ghost use Rattle.names.specs.Names.{typeName, tableOf, commandName, wayName, frameName, nameLen};
+ghost use Rattle.names.specs.Names.{typeName, tableOf, commandName, wayName, frameName, nameLen, given, fixtureName};
+ghost use Rattle.names.specs.Told.{toldNamed, refusalOf};
 ghost use Rattle.names.specs.Parts.{headOf, headLen, partOf, partLen, typePart, typeLen, seqPart, commandPart, commandLen, NameLen};
 ghost use Rattle.items.specs.Items.{rxOf};
 ghost use Rattle.names.specs.Digits.{hexDigit, hex2, decimal, decimal6, DigitCount};
@@ -428,23 +432,6 @@ fn put_name(out: &mut [u8], at: usize, i: usize) -> usize
     words::copy_to(&all[start..end], out, at)
 }
 
-// Whether two lists of bytes are the same.
-fn same(a: &[u8], b: &[u8]) -> bool
-    ensures { λ r. ⌜ r ≡ eqK (now (a .entry)) (now (b .entry)) ⌝ }
-{
-    if a.len() != b.len() {
-        return false;
-    }
-    let mut i = 0;
-    while i < a.len() {
-        if a[i] != b[i] {
-            return false;
-        }
-        i += 1;
-    }
-    true
-}
-
 // Whether the name with a number is this one.
 fn is_name(letters: &[u8], starts: &[u16], lens: &[u8], i: usize, name: &[u8]) -> bool
     requires { ⌜ Tables (now letters) (now starts) (now lens) ⌝ }
@@ -454,7 +441,7 @@ fn is_name(letters: &[u8], starts: &[u16], lens: &[u8], i: usize, name: &[u8]) -
     let p = place_in(starts, lens, i);
     let start = p.start;
     let end = p.end;
-    same(&letters[start..end], name)
+    words::same(&letters[start..end], name)
 }
 
 // ---- the number of a name
@@ -764,4 +751,73 @@ pub fn frame_name_len(ms: u64, counter: u32, f: Frame) -> usize
     let j = command_name(f);
     let k = decimal_len(counter as u64);
     43 + decimal_len(ms) + missing(k) + k + name_len(i) + name_len(j)
+}
+
+// ---- naming
+
+// What naming answers: the name's length, or a refusal, as unpacking refuses.
+pub enum Named {
+    Name(usize),
+    TooShort,
+    NoStart,
+    NoEnd,
+    TrailingSentry,
+    BadEscapee(u8),
+    BodyTooShort,
+    LengthMismatch(u64, u64),
+    BadChecksum(u8, u8),
+    OutShort(usize),
+}
+
+fn refusal(u: Unpacked) -> Named
+    ensures { λ r. ⌜ r ≡ refusalOf u ⌝ }
+{
+    match u {
+        Unpacked::Frame(_, _, _) => Named::TooShort,
+        Unpacked::TooShort => Named::TooShort,
+        Unpacked::NoStart => Named::NoStart,
+        Unpacked::NoEnd => Named::NoEnd,
+        Unpacked::TrailingSentry => Named::TrailingSentry,
+        Unpacked::BadEscapee(b) => Named::BadEscapee(b),
+        Unpacked::BodyTooShort => Named::BodyTooShort,
+        Unpacked::LengthMismatch(declared, actual) => Named::LengthMismatch(declared, actual),
+        Unpacked::BadChecksum(declared, computed) => Named::BadChecksum(declared, computed),
+        Unpacked::OutShort(needed) => Named::OutShort(needed),
+    }
+}
+
+fn name_frame(ms: u64, counter: u32, direction: Direction, f: Frame, out: &mut [u8]) -> Named
+    ensures { λ r. ⌜ Meets (given (frameName ms counter (rxOf direction) f)) (now (out .entry)) (toldNamed r) (now (out .exit)) ⌝ }
+{
+    let needed = frame_name_len(ms, counter, f);
+    if out.len() < needed {
+        return Named::OutShort(needed);
+    }
+    put_frame_name(out, 0, ms, counter, direction, f);
+    Named::Name(needed)
+}
+
+// Writes the name of a frame's wire to the front of out.
+pub fn fixture_name(
+    ms: u64,
+    counter: u32,
+    direction: Direction,
+    wire: &[u8],
+    out: &mut [u8],
+) -> Named
+    ensures { λ r. ⌜ Meets (fixtureName ms counter (rxOf direction) (now (wire .entry))) (now (out .entry)) (toldNamed r) (now (out .exit)) ⌝ }
+{
+    let x = mdr::inspect(wire);
+    match x {
+        Inspected::Unsound(u) => refusal(u),
+        Inspected::Sound(kind, seq, size, first) => {
+            let f = Frame {
+                kind: kind,
+                seq: seq,
+                size: size,
+                first: first,
+            };
+            name_frame(ms, counter, direction, f, out)
+        }
+    }
 }
