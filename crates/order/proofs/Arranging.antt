@@ -10,7 +10,7 @@ use Rattle.laws.specs.Choice.{splitB, split≤}
 use Rattle.laws.specs.Lists.{flat-append}
 use Rattle.laws.specs.Numbers.{le32}
 use Rattle.laws.specs.Stores.{Writes, writes-long}
-use Rattle.laws.specs.Answers.{gives, Meets, meets-refused, meets-short, meets-wrote}
+use Rattle.laws.specs.Answers.{accepted, gives, Meets, meets-refused, meets-short, meets-wrote}
 use Rattle.words.specs.Words.{word, putWord, length-put}
 use Rattle.words.specs.Front.{front-sets, front-word}
 use Rattle.items.specs.Items.{item, Item, endAt, nameItem, nameList, nameTest, readItems}
@@ -19,7 +19,7 @@ use Rattle.items.specs.Walks.{itemsFrom, namesFrom, Walks, Good, items-few, nam
 use Rattle.items.specs.declared.NamePart.{NamePart}
 use Rattle.items.specs.declared.Checked.{Checked}
 use Rattle.items.specs.declared.Checked.the-variants.{Well, Ill}
-use Rattle.order.specs.declared.Ordered.the-variants.{Wrote, IllFormed, OutShort}
+use Rattle.order.specs.declared.Ordered.the-variants.{IllFormed, OutShort}
 use Rattle.order.specs.Counter.{leName}
 use Rattle.order.specs.Sort.{insert, isort}
 use Rattle.order.specs.Order.{inOrder, captureOrder, toldOrdered}
@@ -252,8 +252,7 @@ module _ (l d : List ℕ) where
     unfolding toldOrdered
     order-short h = let g = checked-good nameTest l r n e q in meets-short (captureOrder l) d (length (listed l) ∷ []) (listed l) (length l) (order-gives n g) (sym (listed-long l n g)) h
 
-    pub order-wrote : (o : List ℕ) → length l ≤ length d → o ≡ listed l → Meets (captureOrder l) d (toldOrdered (Wrote (length l))) (o ++ drop (length l) d)
-    unfolding toldOrdered
+    pub order-wrote : (o : List ℕ) → length l ≤ length d → o ≡ listed l → Meets (captureOrder l) d (accepted (length l ∷ [])) (o ++ drop (length l) d)
     order-wrote o h f =
         let g = checked-good nameTest l r n e q in
         let k = listed-long l n g in

@@ -1,3 +1,4 @@
+use Rattle.order.specs.Order.{toldOrdered}
 use mathlib.Core.Path.{sym}
 use lib.Seq.{length-take-le}
 use Rattle.order.proofs.Arranging.{order-ill, order-lent, order-short, order-wrote}
@@ -34,7 +35,8 @@ same-length : tie.Need-same-length
 same-length c = search needs
 
 returns-3 : tie.Need-returns-3
-returns-3 c = order-wrote _ _ _ _ (c .before .before .before .before .before .before .before .before .check .ensures) (c .before .before .before .before .before .before .n .given .1) _ (omega arith) (c .before .before .arrange .ensures)
+unfolding toldOrdered
+returns-3 c = let m = order-wrote (c .before .before .before .before .before .before .before .before .before .before .before .args .names .now) (c .before .before .before .before .before .before .before .before .before .before .before .args .out .now) _ _ (c .before .before .before .before .before .before .before .before .check .ensures) (c .before .before .before .before .before .before .n .given .1) _ (omega arith) (c .before .before .arrange .ensures) in record { answers = m .answers; writes = m .writes }
 
 pub capture-order-spec : {M : Type 1} → statement M
 capture-order-spec =
