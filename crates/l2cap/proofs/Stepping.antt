@@ -18,7 +18,7 @@ use Rattle.btsnoop.specs.PacketTable.{packetAt, dataOf}
 use Rattle.btsnoop.specs.PacketFrames.{data-next, data-front}
 use Rattle.l2cap.specs.Pdus.{joined, isComplete, stillOpen, completed}
 use Rattle.l2cap.specs.PduTable.{pdusFrom, paysOf}
-use Rattle.l2cap.specs.PduFrames.{placed-agree, pdus-agree, pays-agree}
+use Rattle.l2cap.specs.PduFrames.{Placed, placed-agree, pdus-agree, pays-agree}
 use Rattle.l2cap.specs.Rekeyed.{putBy}
 use Rattle.l2cap.specs.Steps.{since, Walk, Need, asOpen, openAt, longer, grown, nextAt, Arrive, Finish, Finished, heldOf, mapOf, Sound, Step, after, Stepped}
 use Rattle.l2cap.specs.declared.Open.{Open}
@@ -139,6 +139,20 @@ stored-open v w u b n k y z r lk so j = ap asOpen (so .says j) ∙ rw (lk j) (go
 
 -- ---- one packet
 
+-- v is w, or what the end of a PDU made of it. The packet's key is still to get o, a row with y bytes.
+record Storing (f w : List ℕ) (q : ℕ) (t : Tables) (i : ℕ) (v : List ℕ) (made top : ℕ) (o : Open) (y : ℕ) : Type 0 where
+  front : Front (4 * q) v w
+  rows : Agree (3 * q) (3 * q + 4 * t .live) v w
+  size : length v ≡ length w
+  most : made ≤ i + 1
+  bump : 4 * q ≤ top
+  ends : top ≤ 4 * q + 4 * made + paysOf v (2 * q) made
+  few : 4 * made + paysOf v (2 * q) made + sumOf w (3 * q) (t .live) + y ≤ dataOf w (i + 1) + second (lookup w (3 * q) (t .live) (word w (6 * i)))
+  placed : Placed f v (2 * q) made top
+  counted : (a g : ℕ) → o ≡ From a g → (a ≤ i) × (g ≡ length (since f w (word w (6 * i)) a (i + 1)))
+  list : pdusFrom f v (2 * q) 0 made ≡ pdusFrom f w (2 * q) 0 (t .made) ++ completed (after f w (3 * q) (t .live) i) (packetAt f w i)
+  held : heldOf f w (word w (6 * i)) (i + 1) o ≡ stillOpen (after f w (3 * q) (t .live) i)
+
 module _ (f w : List ℕ) (q : ℕ) (t : Tables) (i : ℕ) (p : Step f w q t i) where
   pub step-arrive : Arrive w (3 * q) (t .live) i
   step-arrive = record {
@@ -150,8 +164,39 @@ module _ (f w : List ℕ) (q : ℕ) (t : Tables) (i : ℕ) (p : Step f w q t i) 
   low : 24 * i + 24 ≤ 4 * q
   low = omega (arith, p .tabled .total, p .ready .quarter)
 
-  data-same : (u : List ℕ) → Front (4 * q) u w → dataOf u (i + 1) ≡ dataOf w (i + 1)
-  data-same u fr = data-front (4 * q) u w (i + 1) (omega (arith, low)) fr
+  step-row :
+      (v : List ℕ) (made top : ℕ) (o : Open) (x y : ℕ) → Storing f w q t i v made top o y → asOpen (row x y) ≡ o →
+      (key k : ℕ) → key ≡ word w (6 * i) → k ≡ key → (u : List ℕ) (c : ℕ) → Stored v (3 * q) (t .live) k x y u c →
+      Stepped f w q t i u (record { live = c; made = made; top = top })
+  step-row v made top o x y b oe key k ke kk u c so₀ =
+      let so : Stored v (3 * q) (t .live) (word w (6 * i)) x y u c = (rw (kk ∙ ke) at so₀) in
+      let lk : (j : ℕ) → lookup v (3 * q) (t .live) j ≡ lookup w (3 * q) (t .live) j = (λ j. lookup-agree v w (3 * q) (t .live) j (b .rows)) in
+      let says : (j : ℕ) → openAt u (3 * q) c j ≡ cond (eqb (word w (6 * i)) j) o (openAt w (3 * q) (t .live) j) =
+      (λ j. stored-open v w u (3 * q) (t .live) (word w (6 * i)) x y c lk so j ∙ rw oe) in
+      let sum : sumOf u (3 * q) c + second (lookup w (3 * q) (t .live) (word w (6 * i))) ≡ sumOf w (3 * q) (t .live) + y =
+      (rw (lk (word w (6 * i)), sum-agree v w (3 * q) (t .live) (b .rows)) at (so .sum)) in
+      let fro : Front (8 * q) u v = front-less (8 * q) (4 * (3 * q)) u v (omega arith) (so .front) in
+      let frn : Front (4 * q) u w = front-then (4 * q) u v w (front-less (4 * q) (8 * q) u v (omega arith) fro) (b .front) in
+      let frt : Front top u v = front-less top (8 * q) u v (omega (arith, b .ends, b .few, second-le w (3 * q) (t .live) (word w (6 * i)), p .tabled .total, p .ready .quarter)) fro in
+      let ag : Agree (2 * q) (2 * q + 7 * made) u v = (λ j lo hi. front-word (4 * (3 * q)) u v j (omega (arith, b .most, p .tabled .total, p .ready .quarter)) (so .front)) in
+      let py : paysOf u (2 * q) made ≡ paysOf v (2 * q) made = pays-agree u v (2 * q) made ag in
+      let dt : dataOf u (i + 1) ≡ dataOf w (i + 1) = data-front (4 * q) u w (i + 1) (omega (arith, low)) frn in
+      record {
+        ready = record {
+          quarter = p .ready .quarter;
+          live = omega (arith, so .most, p .ready .live);
+          made = b .most;
+          bump = b .bump;
+          ends = rw py (b .ends);
+          few = rw (py, dt) (omega (arith, sum, b .few));
+          sound = next-sound f u w (3 * q) (t .live) c i (4 * q) o (p .ready .sound) frn low says (b .counted);
+          placed = placed-agree f u v (2 * q) made top top (omega arith) ag (b .placed);
+        };
+        front = frn;
+        size = so .size ∙ b .size;
+        list = pdus-agree f u v (2 * q) 0 made made top (omega arith) ag frt (b .placed) ∙ b .list;
+        map = next-map f u w (3 * q) (t .live) c i (4 * q) o (p .ready .sound) frn low says (b .counted) ∙ rw (b .held, number-at f w i);
+      }
 
   -- a continuation of nothing
   pub step-skip : nextAt w (3 * q) (t .live) i ≡ Closed → Stepped f w q t i w t
@@ -220,37 +265,24 @@ module _ (f w : List ℕ) (q : ℕ) (t : Tables) (i : ℕ) (p : Step f w q t i) 
         (k x y : ℕ) → k ≡ key → x ≡ first + 1 → y ≡ got → (u : List ℕ) (c : ℕ) → Stored w (3 * q) (t .live) k x y u c →
         Stepped f w q t i u (record { live = c; made = t .made; top = t .top })
     unfolding heldOf stillOpen completed isComplete
-    step-hold key need ke ni lt k x y kk xe ye u c so₀ =
+    step-hold key need ke ni lt k x y kk xe ye u c so =
         let s = step-first in
         let B : List ℕ = since f w (word w (6 * i)) first (i + 1) in
-        let so : Stored w (3 * q) (t .live) (word w (6 * i)) x y u c = (rw (kk ∙ ke) at so₀) in
         let cmp : leb (4 + le16 B 0) (length B) ≡ false = lt-leb (4 + le16 B 0) (length B) (let g : got < 4 + le16 B 0 = (rw ke at (ni .short lt)) in omega (arith, s .1)) in
         let va : asOpen (row x y) ≡ From first got = as-pos x y (λ z. omega arith) ∙ (let z : x - 1 ≡ first = omega arith in rw (z, ye)) in
-        let vs : (a g : ℕ) → From first got ≡ From a g → (a ≤ i) × (g ≡ length (since f w (word w (6 * i)) a (i + 1))) =
-        (λ a g z. let m : first ≡ a = cc in let n : got ≡ g = cc in rw (← m, ← n) s) in
-        let says : (j : ℕ) → openAt u (3 * q) c j ≡ cond (eqb (word w (6 * i)) j) (From first got) (openAt w (3 * q) (t .live) j) =
-        (λ j. stored-open w w u (3 * q) (t .live) (word w (6 * i)) x y c (λ z. refl) so j ∙ rw va) in
-        let fro : Front (8 * q) u w = front-less (8 * q) (4 * (3 * q)) u w (omega arith) (so .front) in
-        let frn : Front (4 * q) u w = front-less (4 * q) (8 * q) u w (omega arith) fro in
-        let frt : Front (t .top) u w = front-less (t .top) (8 * q) u w (omega (arith, p .ready .ends, step-small, p .tabled .total, p .ready .quarter)) fro in
-        let ag : Agree (2 * q) (2 * q + 7 * t .made) u w = (λ j lo hi. front-word (4 * (3 * q)) u w j (omega (arith, p .ready .made, p .tabled .total, p .ready .quarter)) (so .front)) in
-        let py : paysOf u (2 * q) (t .made) ≡ paysOf w (2 * q) (t .made) = pays-agree u w (2 * q) (t .made) ag in
-        record {
-          ready = record {
-            quarter = p .ready .quarter;
-            live = omega (arith, so .most, p .ready .live);
-            made = omega (arith, p .ready .made);
-            bump = p .ready .bump;
-            ends = rw py (p .ready .ends);
-            few = rw (py, data-same u frn) (omega (arith, so .sum, step-got));
-            sound = next-sound f u w (3 * q) (t .live) c i (4 * q) (From first got) (p .ready .sound) frn low says vs;
-            placed = placed-agree f u w (2 * q) (t .made) (t .top) (t .top) (omega arith) ag (p .ready .placed);
-          };
-          front = frn;
-          size = so .size;
-          list = pdus-agree f u w (2 * q) 0 (t .made) (t .made) (t .top) (omega arith) ag frt (p .ready .placed) ∙ sym (rw (← held-next, cmp) (append-nil (pdusFrom f w (2 * q) 0 (t .made))));
-          map = next-map f u w (3 * q) (t .live) c i (4 * q) (From first got) (p .ready .sound) frn low says vs ∙ rw (← held-next, cmp, number-at f w i);
-        }
+        step-row w (t .made) (t .top) (From first got) x y (record {
+          front = front-refl (4 * q) w;
+          rows = λ j lo hi. refl;
+          size = refl;
+          most = omega (arith, p .ready .made);
+          bump = p .ready .bump;
+          ends = p .ready .ends;
+          few = omega (arith, step-got);
+          placed = p .ready .placed;
+          counted = λ a g z. let m : first ≡ a = cc in let n : got ≡ g = cc in rw (← m, ← n) s;
+          list = sym (rw (← held-next, cmp) (append-nil (pdusFrom f w (2 * q) 0 (t .made))));
+          held = rw (← held-next, cmp);
+        }) va key k ke kk u c so
 
     -- the PDU is complete
     pub step-full :
@@ -259,36 +291,21 @@ module _ (f w : List ℕ) (q : ℕ) (t : Tables) (i : ℕ) (p : Step f w q t i) 
         (k : ℕ) → k ≡ key → (u : List ℕ) (c : ℕ) → Stored v (3 * q) (t .live) k 0 0 u c →
         Stepped f w q t i u (record { live = c; made = t .made + 1; top = top })
     unfolding heldOf stillOpen completed isComplete
-    step-full key need ke ni le v top fin k kk u c so₀ =
+    step-full key need ke ni le v top fin k kk u c so =
         let s = step-first in
         let B : List ℕ = since f w (word w (6 * i)) first (i + 1) in
-        let so : Stored v (3 * q) (t .live) (word w (6 * i)) 0 0 u c = (rw (kk ∙ ke) at so₀) in
         let nb : need ≡ 4 + le16 B 0 = (rw ke at (ni .enough le)) in
         let cmp : leb (4 + le16 B 0) (length B) ≡ true = le-leb (4 + le16 B 0) (length B) (omega (arith, s .1)) in
-        let agv : Agree (3 * q) (3 * q + 4 * t .live) v w = (λ j lo hi. fin .above j (omega (arith, p .ready .made, p .tabled .total, p .ready .quarter))) in
-        let lk : (j : ℕ) → lookup v (3 * q) (t .live) j ≡ lookup w (3 * q) (t .live) j = (λ j. lookup-agree v w (3 * q) (t .live) j agv) in
-        let vs : (a g : ℕ) → Closed ≡ From a g → (a ≤ i) × (g ≡ length (since f w (word w (6 * i)) a (i + 1))) = (λ a g z. never z) in
-        let says : (j : ℕ) → openAt u (3 * q) c j ≡ cond (eqb (word w (6 * i)) j) Closed (openAt w (3 * q) (t .live) j) =
-        (λ j. stored-open v w u (3 * q) (t .live) (word w (6 * i)) 0 0 c lk so j ∙ rw (as-zero 0 0 refl)) in
-        let fro : Front (8 * q) u v = front-less (8 * q) (4 * (3 * q)) u v (omega arith) (so .front) in
-        let frn : Front (4 * q) u w = front-then (4 * q) u v w (front-less (4 * q) (8 * q) u v (omega arith) fro) (front-less (4 * q) (t .top) v w (p .ready .bump) (fin .front)) in
-        let frt : Front top u v = front-less top (8 * q) u v (omega (arith, fin .most, p .ready .ends, step-small, p .tabled .total, p .ready .quarter)) fro in
-        let ag : Agree (2 * q) (2 * q + 7 * (t .made + 1)) u v = (λ j lo hi. front-word (4 * (3 * q)) u v j (omega (arith, p .ready .made, p .tabled .total, p .ready .quarter)) (so .front)) in
-        let py : paysOf u (2 * q) (t .made + 1) ≡ paysOf v (2 * q) (t .made + 1) = pays-agree u v (2 * q) (t .made + 1) ag in
-        let sumk : sumOf u (3 * q) c + second (lookup w (3 * q) (t .live) (word w (6 * i))) ≡ sumOf w (3 * q) (t .live) + 0 = (rw (lk (word w (6 * i)), sum-agree v w (3 * q) (t .live) agv) at (so .sum)) in
-        record {
-          ready = record {
-            quarter = p .ready .quarter;
-            live = omega (arith, so .most, p .ready .live);
-            made = omega (arith, p .ready .made);
-            bump = omega (arith, p .ready .bump, fin .least);
-            ends = rw py (omega (arith, fin .most, fin .pays, p .ready .ends));
-            few = rw (py, data-same u frn) (omega (arith, sumk, fin .pays, step-got));
-            sound = next-sound f u w (3 * q) (t .live) c i (4 * q) Closed (p .ready .sound) frn low says vs;
-            placed = placed-agree f u v (2 * q) (t .made + 1) top top (omega arith) ag (fin .placed);
-          };
-          front = frn;
-          size = so .size ∙ fin .size;
-          list = pdus-agree f u v (2 * q) 0 (t .made + 1) (t .made + 1) top (omega arith) ag frt (fin .placed) ∙ fin .list ∙ rw (← held-next, cmp);
-          map = next-map f u w (3 * q) (t .live) c i (4 * q) Closed (p .ready .sound) frn low says vs ∙ rw (← held-next, cmp, number-at f w i);
-        }
+        step-row v (t .made + 1) top Closed 0 0 (record {
+          front = front-less (4 * q) (t .top) v w (p .ready .bump) (fin .front);
+          rows = λ j lo hi. fin .above j (omega (arith, p .ready .made, p .tabled .total, p .ready .quarter));
+          size = fin .size;
+          most = omega (arith, p .ready .made);
+          bump = omega (arith, p .ready .bump, fin .least);
+          ends = omega (arith, fin .most, fin .pays, p .ready .ends);
+          few = omega (arith, fin .pays, step-got);
+          placed = fin .placed;
+          counted = λ a g z. never z;
+          list = fin .list ∙ rw (← held-next, cmp);
+          held = rw (← held-next, cmp);
+        }) (as-zero 0 0 refl) key k ke kk u c so

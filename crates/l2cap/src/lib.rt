@@ -62,6 +62,7 @@ fn byte_of(file: &[u8], w: &[u8], first: usize, upto: usize, key: u32, at: usize
     0
 }
 
+// Two bytes as a number, the lowest first.
 fn pair(a: u8, b: u8) -> u32
     ensures { λ r. ⌜ (r ≡ a + 256 * b) × (r < 65536) ⌝ }
 {
@@ -141,12 +142,14 @@ fn gather(
     pos
 }
 
+// A word as a key of a table.
 fn wide64(x: u32) -> u64
     ensures { λ r. ⌜ r ≡ x ⌝ }
 {
     x as u64
 }
 
+// A number as a word.
 fn narrow(x: usize) -> u32
     requires { ⌜ x < 4294967296 ⌝ }
     ensures { λ r. ⌜ r ≡ x ⌝ }
@@ -246,7 +249,7 @@ fn finish(
     end
 }
 
-// One packet. A quarter of the file's length, q words, is the size of each area of work.
+// One packet, with q a quarter of the file's length: PDUs stand from word 2 * q of work, open PDUs from word 3 * q.
 fn step(file: &[u8], w: &mut [u8], q: usize, t: Tables, i: usize) -> Tables
     requires { ⌜ Step (now file) (now w) q t i ⌝ }
     ensures { λ r. ⌜ Stepped (now (file .entry)) (now (w .entry)) q t i (now (w .exit)) r ⌝ }
@@ -277,7 +280,7 @@ fn step(file: &[u8], w: &mut [u8], q: usize, t: Tables, i: usize) -> Tables
     }
 }
 
-// The PDUs of the packets whose table stands at the start of work.
+// The PDUs of the packets whose table stands at the start of work: their rows, and the payloads that had to be joined.
 pub fn reassemble(file: &[u8], w: &mut [u8], count: usize) -> Tables
     requires { ⌜ Tabled (now file) (now w) count ⌝ }
     ensures { λ r. ⌜ Reassembled (now (file .entry)) (now (w .exit)) (r .made) (pdus (packetsFrom (now (file .entry)) (now (w .entry)) 0 count)) ⌝ }

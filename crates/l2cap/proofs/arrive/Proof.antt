@@ -9,51 +9,51 @@ use Rattle.l2cap.proofs.look.Reads as look-reads
 use Rattle.words.proofs.get32.Reads as get32-reads
 use Rattle.words.proofs.wide32.Reads as wide32-reads
 
--- src/lib.rt:182:24
+-- src/lib.rt:196:24
 mul-get32 : tie.Need-mul-get32
 mul-get32 c = search needs
 
--- src/lib.rt:182:9
+-- src/lib.rt:196:9
 get32-requires : tie.Need-get32-requires
 get32-requires c κs = search needs
 
--- src/lib.rt:183:26
+-- src/lib.rt:197:26
 mul-get32-2 : tie.Need-mul-get32-2
 mul-get32-2 c = search needs
 
--- src/lib.rt:183:26
+-- src/lib.rt:197:26
 add-get32 : tie.Need-add-get32
 add-get32 c = search needs
 
--- src/lib.rt:183:9
+-- src/lib.rt:197:9
 get32-requires-2 : tie.Need-get32-requires-2
 get32-requires-2 c κs = search needs
 
--- src/lib.rt:184:29
+-- src/lib.rt:198:29
 mul-get32-3 : tie.Need-mul-get32-3
 mul-get32-3 c = search needs
 
--- src/lib.rt:184:29
+-- src/lib.rt:198:29
 add-get32-2 : tie.Need-add-get32-2
 add-get32-2 c = search needs
 
--- src/lib.rt:184:20
+-- src/lib.rt:198:20
 get32-requires-3 : tie.Need-get32-requires-3
 get32-requires-3 c κs = search needs
 
--- src/lib.rt:184:9
+-- src/lib.rt:198:9
 wide32-requires : tie.Need-wide32-requires
 wide32-requires c κs = search needs
 
--- src/lib.rt:185:9
+-- src/lib.rt:199:9
 look-requires : tie.Need-look-requires
 look-requires c κs = search needs
 
--- src/lib.rt:186:5
+-- src/lib.rt:200:5
 fragment-requires : tie.Need-fragment-requires
 fragment-requires c κs = search arrive-small
 
--- src/lib.rt:178:1
+-- src/lib.rt:192:1
 returns : tie.Need-returns
 returns c = search arrive-is
 

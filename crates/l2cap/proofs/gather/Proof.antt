@@ -13,39 +13,39 @@ Inv-loop file w₀ first upto key need to end i₀ pos₀ w i pos = Gathering fi
 abbrev μ-loop : tie.MeasureT-loop
 μ-loop file w₀ first upto key need to end i₀ pos₀ w i pos = upto - i
 
--- src/lib.rt:123:15
+-- src/lib.rt:135:15
 add-end : tie.Need-add-end Inv-loop μ-loop
 add-end c = search needs
 
--- src/lib.rt:126:5
+-- src/lib.rt:138:5
 loop-holds : tie.Need-loop-holds Inv-loop μ-loop
 loop-holds c = search gather-start
 
--- src/lib.rt:127:38
+-- src/lib.rt:139:38
 sub-paste : tie.Need-sub-paste Inv-loop μ-loop
 sub-paste c = search needs
 
--- src/lib.rt:127:9
+-- src/lib.rt:139:9
 paste-requires : tie.Need-paste-requires Inv-loop μ-loop
 paste-requires c κs = search gather-paste
 
--- src/lib.rt:128:9
+-- src/lib.rt:140:9
 add-i : tie.Need-add-i Inv-loop μ-loop
 add-i c = search needs
 
--- src/lib.rt:126:5
+-- src/lib.rt:138:5
 loop-less : tie.Need-loop-less Inv-loop μ-loop
 loop-less c = search needs
 
--- src/lib.rt:126:5
+-- src/lib.rt:138:5
 loop-again : tie.Need-loop-again Inv-loop μ-loop
 loop-again c = search gather-turn
 
--- src/lib.rt:119:1
+-- src/lib.rt:123:1
 same-length : tie.Need-same-length Inv-loop μ-loop
 same-length c = search needs
 
--- src/lib.rt:119:1
+-- src/lib.rt:123:1
 returns : tie.Need-returns Inv-loop μ-loop
 returns c = search gather-end
 

@@ -11,43 +11,43 @@ use Rattle.words.proofs.copy_to.Reads as copy-to-reads
 use Rattle.words.proofs.get32.Reads as get32-reads
 use Rattle.words.proofs.wide32.Reads as wide32-reads
 
--- src/lib.rt:113:19
+-- src/lib.rt:117:19
 brings-requires : tie.Need-brings-requires
 brings-requires c κs = search needs
 
--- src/lib.rt:113:9
+-- src/lib.rt:117:9
 least-requires : tie.Need-least-requires
 least-requires c κs = search needs
 
--- src/lib.rt:114:29
+-- src/lib.rt:118:29
 mul-get32 : tie.Need-mul-get32
 mul-get32 c = search needs
 
--- src/lib.rt:114:29
+-- src/lib.rt:118:29
 add-get32 : tie.Need-add-get32
 add-get32 c = search needs
 
--- src/lib.rt:114:20
+-- src/lib.rt:118:20
 get32-requires : tie.Need-get32-requires
 get32-requires c κs = search needs
 
--- src/lib.rt:114:9
+-- src/lib.rt:118:9
 wide32-requires : tie.Need-wide32-requires
 wide32-requires c κs = search needs
 
--- src/lib.rt:115:13
+-- src/lib.rt:119:13
 part-requires : tie.Need-part-requires
 part-requires c κs = search paste-part
 
--- src/lib.rt:115:5
+-- src/lib.rt:119:5
 copy-to-requires : tie.Need-copy-to-requires
 copy-to-requires c κs = search paste-room
 
--- src/lib.rt:109:1
+-- src/lib.rt:113:1
 same-length : tie.Need-same-length
 same-length c = search needs
 
--- src/lib.rt:109:1
+-- src/lib.rt:113:1
 returns : tie.Need-returns
 returns c = search paste-is
 

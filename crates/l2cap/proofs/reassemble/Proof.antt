@@ -15,35 +15,35 @@ Inv-loop file w₀ count q t₀ i₀ w t i = Running file w₀ q count w t i
 abbrev μ-loop : tie.MeasureT-loop
 μ-loop file w₀ count q t₀ i₀ w t i = count - i
 
--- src/lib.rt:260:14
+-- src/lib.rt:292:14
 mul-t7 : tie.Need-mul-t7 Inv-loop μ-loop
 mul-t7 c = search needs
 
--- src/lib.rt:263:5
+-- src/lib.rt:295:5
 loop-holds : tie.Need-loop-holds Inv-loop μ-loop
 loop-holds c = run-start _ _ _ (c .before .before .pre) _ refl
 
--- src/lib.rt:264:9
+-- src/lib.rt:296:9
 step-requires : tie.Need-step-requires Inv-loop μ-loop
 step-requires c κs = run-step _ _ _ (c .before .before .before .before .before .pre) _ _ _ _ (c .before .before .loop .inv) (c .before .loop-test .taken)
 
--- src/lib.rt:265:9
+-- src/lib.rt:297:9
 add-i : tie.Need-add-i Inv-loop μ-loop
 add-i c = omega arith
 
--- src/lib.rt:263:5
+-- src/lib.rt:295:5
 loop-less : tie.Need-loop-less Inv-loop μ-loop
 loop-less c = omega arith
 
--- src/lib.rt:263:5
+-- src/lib.rt:295:5
 loop-again : tie.Need-loop-again Inv-loop μ-loop
 loop-again c = run-turn _ _ _ (c .before .before .before .before .before .before .before .before .pre) _ _ _ _ (c .before .before .before .before .before .loop .inv) (c .before .before .before .before .loop-test .taken) _ _ (c .before .before .step .ensures)
 
--- src/lib.rt:252:1
+-- src/lib.rt:284:1
 same-length : tie.Need-same-length Inv-loop μ-loop
 same-length c = c .before .loop .inv .size
 
--- src/lib.rt:252:1
+-- src/lib.rt:284:1
 returns : tie.Need-returns Inv-loop μ-loop
 returns c = run-end _ _ _ (c .before .before .before .before .pre) _ _ _ _ (c .before .loop .inv) (c .loop-test .left)
 
