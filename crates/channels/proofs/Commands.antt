@@ -1,14 +1,14 @@
 -- What the code reads in a command, and the walk over the commands of a payload.
-use Prim.Native.Nat.{ℕ, zero, suc, _+_, _-_, _*_, _<_, _≤_}
+use Prim.Native.Nat.{ℕ, _+_, _-_, _<_, _≤_}
 use mathlib.Core.Path.{_≡_, refl, sym, ap, _∙_}
-use mathlib.Core.Bool.{Bool, true, false, cond, _&&_, _||_}
-use mathlib.Core.List.{List, [], _∷_, _++_, append-nil}
+use mathlib.Core.Bool.{Bool, true, false, cond, _&&_, _||_, and-true, and-false}
+use mathlib.Core.List.{List, [], _∷_, _++_}
 use native.Mathlib.Omega.{arith}
 use lib.Dec.{leb, eqb}
 use lib.ListN.{length, getD, take, drop, length-take, length-drop, drop-of-length-le}
 use lib.Seq.{take-nil, take-all, take-length, drop-length, length-take-le, drop-drop}
-use borrow.Author.Tests.{leb-true, leb-false, le-leb, lt-leb, eq-eqb, ne-eqb}
-use Rattle.laws.specs.Choice.{splitB, split≤, no-way}
+use borrow.Author.Tests.{le-leb, lt-leb, eq-eqb, ne-eqb}
+use Rattle.laws.specs.Choice.{split≤}
 use Rattle.laws.specs.Chop.{chop-eq}
 use Rattle.laws.specs.Numbers.{le16}
 use Rattle.words.specs.Fields.{fieldOf, field-value, field-none}
@@ -17,10 +17,9 @@ use Rattle.words.specs.declared.Field.the-variants.{Value, Missing}
 use Rattle.items.specs.Items.{rxOf}
 use Rattle.items.specs.declared.Direction.{Direction}
 use Rattle.items.specs.declared.Direction.the-variants.{Rx, Tx}
-use Rattle.channels.specs.Signals.{commandSize, isCommand, commands, code, body, triple, opposite, Signal, request, response, signalOf, signalsIn}
+use Rattle.channels.specs.Signals.{commandSize, isCommand, commands, code, body, opposite, signalOf, signalsIn}
 use Rattle.channels.specs.Channels.{any, asksRfcomm}
 use Rattle.channels.specs.Reading.{commandBytes, tripleOf, told}
-use Rattle.channels.specs.declared.Triple.{Triple}
 use Rattle.channels.specs.declared.Signal.the-variants.{Request, Response, Other}
 
 -- ---- the body of a command
@@ -62,14 +61,6 @@ body-room c h =
     (λ g. let z : length (body c) ≡ 0 = ap length (body-passes c g) in absurd (omega arith))
 
 -- ---- what a command asks and says
-
-and-false : (b : Bool) → (b && false) ≡ false
-and-false true = refl
-and-false false = refl
-
-and-true : (b : Bool) → (b && true) ≡ b
-and-true true = refl
-and-true false = refl
 
 pub rx-one : (d : Direction) → rxOf d ≤ 1
 unfolding rxOf

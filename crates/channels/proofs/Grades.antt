@@ -1,17 +1,16 @@
 -- Rows of the table of channels: what a raised grade does, and that what a signal says is told.
-use Prim.Native.Nat.{ℕ, zero, suc, _+_, _-_, _*_, _/_, _%_, _<_, _≤_, max}
-use mathlib.Core.Path.{_≡_, refl, sym, ap, _∙_}
-use mathlib.Core.Bool.{Bool, true, false, cond, _&&_, _||_}
-use mathlib.Core.List.{List, [], _∷_, _++_}
+use Prim.Native.Nat.{ℕ, suc, _+_, _-_, _*_, _/_, _%_, _<_, _≤_, max}
+use mathlib.Core.Path.{_≡_, refl, sym, _∙_}
+use mathlib.Core.Bool.{Bool, true, false, cond, _&&_, _||_, or-true, or-false, or-assoc, or-comm}
+use mathlib.Core.List.{List, [], _∷_}
 use native.Mathlib.Omega.{arith}
-use lib.Dec.{leb, ltb, eqb}
-use lib.ListN.{length}
-use borrow.Author.Tests.{ltb-true, ltb-false, lt-ltb, le-ltb, eq-eqb, ne-eqb, eqb-true, eqb-false}
-use Rattle.laws.specs.Choice.{splitB, split≤, split≡, no-way}
-use Rattle.laws.specs.Keys.{Key, eqK, eq-eqK, ne-eqK, eqK-true}
+use lib.Dec.{ltb, eqb}
+use borrow.Author.Tests.{lt-ltb, le-ltb, eq-eqb, ne-eqb}
+use Rattle.laws.specs.Choice.{split≤, split≡}
+use Rattle.laws.specs.Keys.{Key, eqK, eq-eqK, ne-eqK}
 use Rattle.words.specs.Words.{word}
-use Rattle.words.specs.Front.{Front, front-refl}
-use Rattle.table.specs.Table.{Slot, none, some, lookup, upd, Stored, findIn, lookup-found, lookup-nothing, found-below}
+use Rattle.words.specs.Front.{front-refl}
+use Rattle.table.specs.Table.{Slot, none, some, lookup, upd, Stored, findIn, lookup-found, lookup-nothing}
 use Rattle.table.specs.declared.Row.{Row}
 use Rattle.table.specs.declared.Row.the-variants.{At, Nothing}
 use Rattle.items.specs.Items.{rxOf}
@@ -20,29 +19,13 @@ use Rattle.channels.specs.Signals.{Signal, request, response, triple, op
 use Rattle.channels.specs.Channels.{any, names, named, asksFor, admits, admitted, admittedAfter}
 use Rattle.channels.specs.ChannelTable.{channelKey, saysNamed, saysAdmitted, Tells}
 use Rattle.channels.specs.Reading.{tripleOf, told}
-use Rattle.channels.specs.Noting.{gradeOf, requestGrade, responseGrade, Raised, Telling, Noted}
+use Rattle.channels.specs.Noting.{gradeOf, standingOf, requestGrade, responseGrade, Raised, Telling, Noted}
 use Rattle.channels.specs.declared.Triple.{Triple}
+use Rattle.channels.specs.declared.Standing.{Standing}
+use Rattle.channels.specs.declared.Standing.the-variants.{Named, Unnamed}
 use Rattle.channels.specs.declared.Signal.{Signal as Said}
 use Rattle.channels.specs.declared.Signal.the-variants.{Request, Response, Other}
 use Rattle.channels.proofs.Commands.{rx-one}
-
--- ---- tests
-
-or-true : (a : Bool) → (a || true) ≡ true
-or-true true = refl
-or-true false = refl
-
-or-false : (a : Bool) → (a || false) ≡ a
-or-false true = refl
-or-false false = refl
-
-or-assoc : (a b c : Bool) → ((a || b) || c) ≡ (a || (b || c))
-or-assoc true b c = refl
-or-assoc false b c = refl
-
-or-comm : (a b : Bool) → (a || b) ≡ (b || a)
-or-comm true b = sym (or-true b)
-or-comm false b = sym (or-false b)
 
 -- ---- keys
 
@@ -71,19 +54,31 @@ pub side-key : (side cid : ℕ) → channelKey (side / 2) (side % 2) cid ≡ sid
 unfolding channelKey
 side-key side cid = omega arith
 
-pub key-rx : (link : ℕ) (d : Direction) (cid x : ℕ) → rxOf d ≡ x → (2 * link + x) * 65536 + cid ≡ channelKey link (rxOf d) cid
-unfolding channelKey
-key-rx link d cid x e = rw e
-
 -- ---- the grade of a row
 
-pub grade-none : (w : List ℕ) (b k n : ℕ) (f : Row) → f ≡ findIn w b k n → f ≡ Nothing → 0 ≡ gradeOf (lookup w b n k)
-unfolding gradeOf
-grade-none w b k n f p q = rw (lookup-nothing w b k n (sym p ∙ q))
+pub standing-none : (w : List ℕ) (b k n : ℕ) (f : Row) → f ≡ findIn w b k n → f ≡ Nothing → Unnamed ≡ standingOf (lookup w b n k)
+unfolding standingOf
+standing-none w b k n f p q = rw (lookup-nothing w b k n (sym p ∙ q))
 
-pub grade-row : (w : List ℕ) (b k n i : ℕ) (f : Row) → f ≡ findIn w b k n → f ≡ At i → (x : ℕ) → x ≡ word w (b + 4 * i + 2) → x ≡ gradeOf (lookup w b n k)
-unfolding gradeOf
-grade-row w b k n i f p q x e = rw (lookup-found w b k n i (sym p ∙ q)) e
+pub standing-row : (w : List ℕ) (b k n i : ℕ) (f : Row) → f ≡ findIn w b k n → f ≡ At i → (x : ℕ) → x ≡ word w (b + 4 * i + 2) → Named x ≡ standingOf (lookup w b n k)
+unfolding standingOf
+standing-row w b k n i f p q x e = rw (lookup-found w b k n i (sym p ∙ q), e)
+
+-- what an answer says
+module _ (s : Slot) (g : Standing) (p : g ≡ standingOf s) where
+  pub standing-unnamed : g ≡ Unnamed → s ≡ none
+  unfolding standingOf
+  standing-unnamed q = go s (sym p ∙ q) where
+    go : (x : Slot) → standingOf x ≡ Unnamed → x ≡ none
+    go none e = refl
+    go (some v z) e = let y : _≡_ {A = ℕ} 0 1 = cc in absurd (omega arith)
+
+  pub standing-named : (v : ℕ) → g ≡ Named v → (saysNamed s ≡ true) × (gradeOf s ≡ v)
+  unfolding standingOf saysNamed gradeOf
+  standing-named v q = go s (sym p ∙ q) where
+    go : (x : Slot) → standingOf x ≡ Named v → (saysNamed x ≡ true) × (gradeOf x ≡ v)
+    go none e = let y : _≡_ {A = ℕ} 0 1 = cc in absurd (omega arith)
+    go (some x z) e = (refl, cc)
 
 pub request-three : (psm : ℕ) → psm ≡ 3 → 2 ≡ requestGrade psm
 unfolding requestGrade
@@ -98,13 +93,18 @@ module _ (ok : Bool) (s : Slot) where
   unfolding responseGrade
   response-fails e = rw e
 
-  pub response-admits : ok ≡ true → (x : ℕ) → x ≡ gradeOf s → 1 < x → 1 ≡ responseGrade ok s
-  unfolding responseGrade
-  response-admits e x q h = rw (e, ← q, lt-ltb 1 x h)
+  module _ (e : ok ≡ true) (g : Standing) (p : g ≡ standingOf s) where
+    pub response-unnamed : g ≡ Unnamed → 0 ≡ responseGrade ok s
+    unfolding responseGrade gradeOf
+    response-unnamed q = rw (e, standing-unnamed s g p q)
 
-  pub response-unasked : ok ≡ true → (x : ℕ) → x ≡ gradeOf s → x ≤ 1 → 0 ≡ responseGrade ok s
-  unfolding responseGrade
-  response-unasked e x q h = rw (e, ← q, le-ltb 1 x h)
+    pub response-admits : (v : ℕ) → g ≡ Named v → 1 < v → 1 ≡ responseGrade ok s
+    unfolding responseGrade
+    response-admits v q h = rw (e, standing-named s g p v q .1, lt-ltb 1 v h)
+
+    pub response-unasked : (v : ℕ) → g ≡ Named v → v ≤ 1 → 0 ≡ responseGrade ok s
+    unfolding responseGrade
+    response-unasked v q h = rw (e, standing-named s g p v q .1, le-ltb 1 v h)
 
 -- ---- a grade raised
 
@@ -119,22 +119,19 @@ module _ (w : List ℕ) (b n k v : ℕ) where
     size = s .size;
   }
 
-  module _ (f : Row) (p : f ≡ findIn w b k n) where
-    pub raised-new : f ≡ Nothing → (u : List ℕ) (r : ℕ) → Stored w b n k v 0 u r → Raised w b n k v u r
-    raised-new q u r s = stored-raised u r s (omega (arith, grade-none w b k n f p q))
+  module _ (g : Standing) (p : g ≡ standingOf (lookup w b n k)) where
+    pub raised-new : g ≡ Unnamed → (u : List ℕ) (r : ℕ) → Stored w b n k v 0 u r → Raised w b n k v u r
+    unfolding gradeOf
+    raised-new q u r s = stored-raised u r s (rw (standing-unnamed (lookup w b n k) g p q) (omega arith))
 
-    module _ (i : ℕ) (q : f ≡ At i) (x : ℕ) (e : x ≡ word w (b + 4 * i + 2)) where
+    module _ (x : ℕ) (q : g ≡ Named x) where
       pub raised-more : x < v → (u : List ℕ) (r : ℕ) → Stored w b n k v 0 u r → Raised w b n k v u r
-      raised-more h u r s = stored-raised u r s (omega (arith, grade-row w b k n i f p q x e))
-
-      found-named : saysNamed (lookup w b n k) ≡ true
-      unfolding saysNamed
-      found-named = rw (lookup-found w b k n i (sym p ∙ q))
+      raised-more h u r s = stored-raised u r s (rw (standing-named (lookup w b n k) g p x q .1) (omega arith))
 
       pub raised-same : v ≤ x → Raised w b n k v w n
       raised-same h = record {
-        named = λ j. split≡ k j (λ d. rw (eq-eqb k j d, ← d, found-named)) (λ d. rw (ne-eqb k j d) (sym (or-false (saysNamed (lookup w b n j)))));
-        grade = λ j. split≡ k j (λ d. rw (eq-eqb k j d, ← d) (omega (arith, grade-row w b k n i f p q x e))) (λ d. rw (ne-eqb k j d));
+        named = λ j. split≡ k j (λ d. rw (eq-eqb k j d, ← d, standing-named (lookup w b n k) g p x q .0)) (λ d. rw (ne-eqb k j d) (sym (or-false (saysNamed (lookup w b n j)))));
+        grade = λ j. split≡ k j (λ d. rw (eq-eqb k j d, ← d, standing-named (lookup w b n k) g p x q .1) (omega arith)) (λ d. rw (ne-eqb k j d));
         most = omega arith;
         front = front-refl (4 * b) w;
         size = refl;
@@ -142,7 +139,7 @@ module _ (w : List ℕ) (b n k v : ℕ) where
 
 -- ---- what is told after a signal
 
-admits-grade : (s : Slot) → saysAdmitted s ≡ ltb 0 (gradeOf s)
+pub admits-grade : (s : Slot) → saysAdmitted s ≡ ltb 0 (gradeOf s)
 unfolding saysAdmitted gradeOf
 admits-grade none = refl
 admits-grade (some v z) = refl

@@ -1,9 +1,8 @@
 -- The pass over the PDUs: one step, one PDU, all of them; and what becomes of a PDU.
-use Prim.Native.Nat.{ℕ, zero, suc, _+_, _-_, _*_, _/_, _%_, _<_, _≤_}
+use Prim.Native.Nat.{ℕ, _+_, _-_, _*_, _/_, _%_, _<_, _≤_}
 use mathlib.Core.Path.{_≡_, refl, sym, ap, _∙_}
-use mathlib.Core.Bool.{Bool, true, false, cond, not, _&&_, _||_}
+use mathlib.Core.Bool.{Bool, true, false, cond, not, _&&_, _||_, and-true, and-false, or-false}
 use mathlib.Core.List.{List, [], _∷_, _++_, append-assoc}
-use native.Mathlib.Nat.{add-zero}
 use native.Mathlib.Omega.{arith}
 use lib.Dec.{leb, ltb, eqb}
 use lib.ListN.{length, take, drop, length-take, drop-of-length-le}
@@ -11,24 +10,24 @@ use borrow.Author.Tests.{le-leb, lt-leb, eq-eqb, ne-eqb}
 use Rattle.laws.specs.Choice.{split≤}
 use Rattle.words.specs.Words.{word}
 use Rattle.words.specs.Front.{Front, front-refl, front-then, front-less, front-word}
-use Rattle.table.specs.Table.{Slot, none, some, lookup, Agree, findIn, lookup-found, lookup-nothing}
-use Rattle.table.specs.declared.Row.{Row}
-use Rattle.table.specs.declared.Row.the-variants.{At, Nothing}
+use Rattle.table.specs.Table.{lookup, Agree}
 use Rattle.items.specs.Items.{rxOf}
 use Rattle.items.specs.declared.Direction.{Direction}
 use Rattle.l2cap.specs.Pdus.{Pdu}
 use Rattle.l2cap.specs.PduTable.{pduAt, pdusFrom, paysOf, Inside, Reassembled}
 use Rattle.l2cap.specs.PduFrames.{Lent, Placed, link-at, rx-at, cid-at, inside-top, payload-length, placed-agree, pdus-agree, pdus-next, pdus-none, pays-next, pays-mono, reassembled-front}
-use Rattle.channels.specs.Signals.{Signal, commands, code, body, triple, request, response, signalOf, signalsIn, pduSignals, signals}
-use Rattle.channels.specs.Channels.{any, named, admitted, channelOf, isTried, asksRfcomm, asksSession}
-use Rattle.channels.specs.ChannelTable.{channelKey, saysNamed, saysAdmitted, Tells}
+use Rattle.channels.specs.Signals.{Signal, commands, code, body, signalOf, signalsIn, pduSignals, signals}
+use Rattle.channels.specs.Channels.{any, isTried, asksRfcomm, asksSession}
+use Rattle.channels.specs.ChannelTable.{saysNamed, saysAdmitted}
 use Rattle.channels.specs.Reading.{commandBytes, told}
-use Rattle.channels.specs.Noting.{Telling, Noted}
-use Rattle.channels.specs.Passing.{StepIs, PduStepPre, NotePre, PduNoted, Signalled, ReadChannels, Judged}
+use Rattle.channels.specs.Noting.{standingOf, Telling, Noted}
+use Rattle.channels.specs.Passing.{StepIs, PduStepPre, NotePre, PduNoted, ReadChannels, Judged}
+use Rattle.channels.specs.declared.Standing.{Standing}
+use Rattle.channels.specs.declared.Standing.the-variants.{Named, Unnamed}
 use Rattle.channels.specs.declared.Signal.{Signal as Said}
 use Rattle.channels.specs.declared.Step.{Step}
-use Rattle.channels.proofs.Commands.{First, body-room, command-first, command-more, command-within, commands-end}
-use Rattle.channels.proofs.Grades.{side-key, telling-start, telling-end}
+use Rattle.channels.proofs.Commands.{body-room, command-first, command-more, command-within, commands-end}
+use Rattle.channels.proofs.Grades.{side-key, admits-grade, standing-unnamed, standing-named, telling-start, telling-end}
 
 -- ---- one step
 
@@ -237,26 +236,20 @@ module _ (f w : List ℕ) (row c : ℕ) (e : c ≡ word w (row + 1)) where
   asks-there n part p r q = rw (cid-at f w row, eq-eqb (word w (row + 1)) 1 (sym e ∙ n), ← p) q
 
 module _ (w : List ℕ) (b n side cid : ℕ) where
-  tried-by : (s : Slot) → lookup w b n (side * 65536 + cid) ≡ s → (r : Bool) → r ≡ (saysAdmitted s || (leb 0x40 cid && not (saysNamed s))) → Judged w b n side cid r
+  tried-by : (r : Bool) → r ≡ (saysAdmitted (lookup w b n (side * 65536 + cid)) || (leb 0x40 cid && not (saysNamed (lookup w b n (side * 65536 + cid))))) → Judged w b n side cid r
   unfolding isTried
-  tried-by s se r e = record {
+  tried-by r e = record {
     right = λ ss p t l x c h.
-        let a : lookup w b n (channelKey (side / 2) (side % 2) cid) ≡ s = rw (side-key side cid) se in
-        rw (l, x, c, ← (t .names (side / 2) (side % 2) cid (omega arith) h), ← (t .admits (side / 2) (side % 2) cid (omega arith) h), a) e;
+        rw (l, x, c, ← (t .names (side / 2) (side % 2) cid (omega arith) h), ← (t .admits (side / 2) (side % 2) cid (omega arith) h), side-key side cid) e;
   }
 
-  module _ (f : Row) (p : f ≡ findIn w b (side * 65536 + cid) n) where
-    pub tried-unnamed : f ≡ Nothing → Judged w b n side cid (leb 0x40 cid)
+  module _ (g : Standing) (p : g ≡ standingOf (lookup w b n (side * 65536 + cid))) where
+    pub tried-unnamed : g ≡ Unnamed → Judged w b n side cid (leb 0x40 cid)
     unfolding saysNamed saysAdmitted
-    tried-unnamed q = tried-by none (lookup-nothing w b (side * 65536 + cid) n (sym p ∙ q)) (leb 0x40 cid) (sym (and-true (leb 0x40 cid))) where
-      and-true : (t : Bool) → (t && true) ≡ t
-      and-true true = refl
-      and-true false = refl
+    tried-unnamed q = tried-by (leb 0x40 cid) (rw (standing-unnamed (lookup w b n (side * 65536 + cid)) g p q) (sym (and-true (leb 0x40 cid))))
 
-    pub tried-named : (i : ℕ) → f ≡ At i → (x : ℕ) → x ≡ word w (b + 4 * i + 2) → Judged w b n side cid (ltb 0 x)
-    unfolding saysNamed saysAdmitted
-    tried-named i q x e = tried-by (some (word w (b + 4 * i + 2)) (word w (b + 4 * i + 3))) (lookup-found w b (side * 65536 + cid) n i (sym p ∙ q)) (ltb 0 x) (rw (← e) (sym (or-none (ltb 0 x) (leb 0x40 cid)))) where
-      or-none : (s t : Bool) → (s || (t && false)) ≡ s
-      or-none true t = refl
-      or-none false true = refl
-      or-none false false = refl
+    pub tried-named : (v : ℕ) → g ≡ Named v → Judged w b n side cid (ltb 0 v)
+    tried-named v q =
+        tried-by (ltb 0 v)
+        (rw (admits-grade (lookup w b n (side * 65536 + cid)), standing-named (lookup w b n (side * 65536 + cid)) g p v q .0, standing-named (lookup w b n (side * 65536 + cid)) g p v q .1, and-false (leb 0x40 cid))
+        (sym (or-false (ltb 0 v))))

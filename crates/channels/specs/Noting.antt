@@ -12,11 +12,18 @@ use Rattle.channels.specs.Channels.{any, named, asksFor, admitted, admit
 use Rattle.channels.specs.ChannelTable.{channelKey, saysNamed, saysAdmitted}
 use Rattle.channels.specs.Reading.{told}
 use Rattle.channels.specs.declared.Signal.{Signal as Said}
+use Rattle.channels.specs.declared.Standing.{Standing}
+use Rattle.channels.specs.declared.Standing.the-variants.{Named, Unnamed}
 
 -- 2 if a PSM 3 request admitted the channel, 1 if a response did, else 0
 unfoldable pub gradeOf : Slot → ℕ
 gradeOf none = 0
 gradeOf (some v z) = v
+
+-- what the code reads of a row
+unfoldable pub standingOf : Slot → Standing
+standingOf none = Unnamed
+standingOf (some v z) = Named v
 
 unfoldable pub requestGrade : ℕ → ℕ
 requestGrade psm = cond (eqb psm 3) 2 0

@@ -1,10 +1,7 @@
 -- How the code reads signalling: the first command, and what a signal of the code's enum says.
-use Prim.Native.Nat.{ℕ, _+_, _-_, _<_, _≤_}
-use mathlib.Core.Path.{_≡_, refl}
-use mathlib.Core.Bool.{Bool, true, false, cond}
+use Prim.Native.Nat.{ℕ}
 use mathlib.Core.List.{List, [], _∷_}
-use lib.ListN.{length, take}
-use lib.Dec.{leb}
+use lib.ListN.{take}
 use Rattle.laws.specs.Keys.{Key}
 use Rattle.items.specs.Items.{rxOf}
 use Rattle.channels.specs.Signals.{commandSize, triple, opposite, Signal, request, response}

@@ -13,7 +13,7 @@ ghost use Rattle.channels.specs.Signals.{commands, body, opposite, signa
 ghost use Rattle.channels.specs.Channels.{any, asksRfcomm, asksSession};
 ghost use Rattle.channels.specs.ChannelTable.{channelKey};
 ghost use Rattle.channels.specs.Reading.{commandBytes, told};
-ghost use Rattle.channels.specs.Noting.{gradeOf, requestGrade, responseGrade, Raised, Noted};
+ghost use Rattle.channels.specs.Noting.{standingOf, requestGrade, responseGrade, Raised, Noted};
 ghost use Rattle.channels.specs.Passing.{StepIs, PduStepPre, NotePre, PduNoted, ReadChannels, Judged};
 use items::Direction;
 use l2cap::payload;
@@ -186,16 +186,23 @@ fn key_of(link: u32, direction: Direction, cid: u16) -> u64
     }
 }
 
-// The grade of a channel: 2 if a PSM 3 request admitted it, 1 if a response did, else 0.
-fn grade(w: &[u8], base: usize, rows: usize, key: u64) -> u32
+// What the table says of a channel: it is named, with its grade, 2 if a PSM 3 request admitted it, 1 if a response did,
+// else 0; or nothing names it.
+enum Standing {
+    Named(u32),
+    Unnamed,
+}
+
+// What the table says of the channel of this key.
+fn look(w: &[u8], base: usize, rows: usize, key: u64) -> Standing
     requires { ⌜ 4 * (base + 4 * rows) ≤ length (now w) ⌝ }
-    ensures { λ r. ⌜ r ≡ gradeOf (lookup (now (w .entry)) base rows key) ⌝ }
+    ensures { λ r. ⌜ r ≡ standingOf (lookup (now (w .entry)) base rows key) ⌝ }
 {
     let found = find(w, base, rows, key);
     let Row::At(i) = found else {
-        return 0;
+        return Standing::Unnamed;
     };
-    get32(w, base + 4 * i + 2)
+    Standing::Named(get32(w, base + 4 * i + 2))
 }
 
 // The grade that a request gives the channel that it names.
@@ -214,7 +221,11 @@ fn response_grade(w: &[u8], base: usize, rows: usize, asked: u64, ok: bool) -> u
     ensures { λ r. ⌜ r ≡ responseGrade ok (lookup (now (w .entry)) base rows asked) ⌝ }
 {
     if ok {
-        if 1 < grade(w, base, rows, asked) {
+        let standing = look(w, base, rows, asked);
+        let Standing::Named(grade) = standing else {
+            return 0;
+        };
+        if 1 < grade {
             return 1;
         }
     }
@@ -226,17 +237,14 @@ fn raise(w: &mut [u8], base: usize, rows: usize, key: u64, v: u32) -> usize
     requires { ⌜ 4 * (base + 4 * rows) + 16 ≤ length (now w) ⌝ }
     ensures { λ r. ⌜ Raised (now (w .entry)) base rows key v (now (w .exit)) r ⌝ }
 {
-    let found = find(w, base, rows, key);
-    match found {
-        Row::At(i) => {
-            let old = get32(w, base + 4 * i + 2);
-            if v <= old {
-                return rows;
-            }
-            store(w, base, rows, key, v, 0)
-        }
-        Row::Nothing => store(w, base, rows, key, v, 0),
+    let standing = look(w, base, rows, key);
+    let Standing::Named(old) = standing else {
+        return store(w, base, rows, key, v, 0);
+    };
+    if v <= old {
+        return rows;
     }
+    store(w, base, rows, key, v, 0)
 }
 
 // Notes what a command says. Returns the count of rows.
@@ -355,9 +363,9 @@ pub fn is_tried(w: &[u8], base: usize, rows: usize, side: u32, cid: u32) -> bool
     requires { ⌜ 4 * (base + 4 * rows) ≤ length (now w) ⌝ }
     ensures { λ r. ⌜ Judged (now (w .entry)) base rows side cid r ⌝ }
 {
-    let found = find(w, base, rows, (side as u64) * 65536 + (cid as u64));
-    let Row::At(i) = found else {
+    let standing = look(w, base, rows, (side as u64) * 65536 + (cid as u64));
+    let Standing::Named(grade) = standing else {
         return 0x40 <= cid;
     };
-    0 < get32(w, base + 4 * i + 2)
+    0 < grade
 }

@@ -1,5 +1,4 @@
 use Rattle.channels.proofs.Walk.{asks-not, asks-there}
-use native.Mathlib.Omega.{arith}
 use borrow.Author.Needs.{needs}
 use Rattle.channels.proofs.asks.Statement.{statement}
 use Rattle.channels.proofs.asks.Tie as tie

@@ -1,5 +1,4 @@
 use Rattle.channels.proofs.Commands.{some-command, asks-missing, asks-other, asks-request}
-use native.Mathlib.Omega.{arith}
 use borrow.Author.Needs.{needs}
 use Rattle.channels.proofs.asks_rfcomm.Statement.{statement}
 use Rattle.channels.proofs.asks_rfcomm.Tie as tie

@@ -1,5 +1,6 @@
-use Rattle.channels.proofs.Commands.{body-missing, body-past, body-there}
 use native.Mathlib.Omega.{arith}
+use Rattle.words.specs.Fields.{field-value}
+use Rattle.channels.proofs.Commands.{body-missing, body-past, body-there}
 use borrow.Author.Needs.{needs}
 use Rattle.channels.proofs.body_of.Statement.{statement}
 use Rattle.channels.proofs.body_of.Tie as tie
@@ -46,11 +47,11 @@ add-end c = search needs
 
 -- src/lib.rt:63:16
 sub-result-2 : tie.Need-sub-result-2
-sub-result-2 c = search needs
+sub-result-2 c = omega (arith, field-value _ _ _ _ (c .before .before .before .before .before .field16 .ensures) (c .before .before .before .field .given .1) .0)
 
 -- src/lib.rt:63:16
 part-result-start-2 : tie.Need-part-result-start-2
-part-result-start-2 c = search needs
+part-result-start-2 c = omega (arith, field-value _ _ _ _ (c .before .before .before .before .before .field16 .ensures) (c .before .before .before .field .given .1) .0)
 
 -- src/lib.rt:63:16
 part-result-end-2 : tie.Need-part-result-end-2

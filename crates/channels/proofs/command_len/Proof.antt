@@ -1,5 +1,4 @@
 use Rattle.channels.proofs.Commands.{bytes-missing, bytes-past, bytes-there}
-use native.Mathlib.Omega.{arith}
 use borrow.Author.Needs.{needs}
 use Rattle.channels.proofs.command_len.Statement.{statement}
 use Rattle.channels.proofs.command_len.Tie as tie

@@ -1,6 +1,5 @@
 use mathlib.Core.Path.{sym}
 use Rattle.items.specs.Items.{rxOf}
-use borrow.Author.Needs.{needs}
 use native.Mathlib.Omega.{arith}
 use Rattle.channels.proofs.direction_of.Statement.{statement}
 use Rattle.channels.proofs.direction_of.Tie as tie

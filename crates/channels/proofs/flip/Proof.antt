@@ -1,5 +1,4 @@
 use Rattle.items.specs.Items.{rxOf}
-use native.Mathlib.Omega.{arith}
 use borrow.Author.Needs.{needs}
 use Rattle.channels.proofs.flip.Statement.{statement}
 use Rattle.channels.proofs.flip.Tie as tie

@@ -1,5 +1,4 @@
 use Rattle.channels.proofs.Commands.{no-success, success-is}
-use native.Mathlib.Omega.{arith}
 use borrow.Author.Needs.{needs}
 use Rattle.channels.proofs.is_success.Statement.{statement}
 use Rattle.channels.proofs.is_success.Tie as tie

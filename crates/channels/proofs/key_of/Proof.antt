@@ -1,6 +1,5 @@
 use Rattle.items.specs.Items.{rxOf}
 use Rattle.channels.specs.ChannelTable.{channelKey}
-use Rattle.channels.proofs.Grades.{key-rx}
 use native.Mathlib.Omega.{arith}
 use borrow.Author.Needs.{needs}
 use Rattle.channels.proofs.key_of.Statement.{statement}

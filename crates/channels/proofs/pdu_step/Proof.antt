@@ -1,5 +1,4 @@
 use Rattle.channels.proofs.Walk.{step-inside, pdu-step-is}
-use native.Mathlib.Omega.{arith}
 use borrow.Author.Needs.{needs}
 use Rattle.channels.proofs.pdu_step.Statement.{statement}
 use Rattle.channels.proofs.pdu_step.Tie as tie

@@ -1,7 +1,6 @@
 use Prim.Native.Nat.{_-_}
 use Rattle.channels.proofs.Walk.{Running, running-start, running-pre, running-turn, running-end}
 use borrow.Author.Needs.{needs}
-use native.Mathlib.Omega.{arith}
 use Rattle.channels.proofs.read_channels.Statement.{statement}
 use Rattle.channels.proofs.read_channels.Tie as tie
 use Rattle.channels.proofs.read_channels.Reads as reads

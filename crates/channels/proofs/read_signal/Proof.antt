@@ -1,5 +1,4 @@
 use Rattle.channels.proofs.Commands.{some-command, says-missing, says-missing₂, says-other, says-request, says-response}
-use native.Mathlib.Omega.{arith}
 use borrow.Author.Needs.{needs}
 use Rattle.channels.proofs.read_signal.Statement.{statement}
 use Rattle.channels.proofs.read_signal.Tie as tie

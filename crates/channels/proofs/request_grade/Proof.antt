@@ -1,6 +1,4 @@
 use Rattle.channels.proofs.Grades.{request-three, request-other}
-use borrow.Author.Needs.{needs}
-use native.Mathlib.Omega.{arith}
 use Rattle.channels.proofs.request_grade.Statement.{statement}
 use Rattle.channels.proofs.request_grade.Tie as tie
 use Rattle.channels.proofs.request_grade.Reads as reads
