@@ -20,7 +20,7 @@ use Rattle.spans.specs.Parts.{tagged}
 use Rattle.split.specs.Last.{lastn}
 use Rattle.split.specs.Rows.{piece, dlciAt, tailAt, keyAt, heldIn, streamOf, opened, Fits, joined, ahead, keysTo, liveTo, Laid}
 use Rattle.split.specs.Walks.{Moved}
-use Rattle.split.specs.Fronts.{pieces-front}
+use Rattle.split.specs.Fronts.{table-front}
 use Rattle.split.specs.declared.Plan.{Plan}
 use Rattle.split.proofs.Lasts.{lastn-zero}
 use Rattle.split.proofs.Tables.{piece-key, piece-bytes}
@@ -51,7 +51,7 @@ module _ (f w : List ℕ) (p : Plan) (i : ℕ) (h : i < p .n) (d : dlciAt w p i 
 
   module _ (u : List ℕ) (l : Laid f w p) (m : Moved f w p i u) where
     next-ahead : ahead f u p (i + 1) ≡ ahead f w p (i + 1)
-    next-ahead = rw (pieces-front f u w p l (m .front) (p .n - (i + 1)) (i + 1) (omega arith))
+    next-ahead = rw (table-front f u w p l (m .front) (i + 1) (p .n - (i + 1)) (omega arith))
 
     pub next-run : run scanner (opened f w p i) (ahead f w p i) ≡ tagged (piece f w p i .rx) (piece f w p i .time) (spansOf (joined f w p i)) ++ run scanner (opened f u p (i + 1)) (ahead f u p (i + 1))
     next-run = rw (next-ahead, m .opens) first-run

@@ -12,8 +12,8 @@ use Rattle.laws.specs.Keys.{Key, eqK, eq-eqK, eqK-true}
 use Rattle.words.specs.Front.{Front, front-refl, front-then, front-sets, part-take}
 use Rattle.rfcomm.specs.PieceTable.{infosOf}
 use Rattle.split.specs.Last.{lastn}
-use Rattle.split.specs.Rows.{keyAt, lenAt, startAt, inWork, bytesAt, streamOf, streamTo, Inside, Laid}
-use Rattle.split.specs.Walks.{Row, TwoRows, Within, PutPre, GatherPre}
+use Rattle.split.specs.Rows.{keyAt, lenAt, startAt, inWork, bytesAt, streamOf, streamTo, Laid}
+use Rattle.split.specs.Walks.{Row, TwoRows, PutPre, GatherPre}
 use Rattle.split.specs.Fronts.{key-front, bytes-front, laid-front}
 use Rattle.split.specs.declared.Plan.{Plan}
 use Rattle.split.proofs.Backs.{sets-back}
@@ -59,21 +59,15 @@ module _ (f w : List ℕ) (p : Plan) (j : ℕ) (t : Bool) (et : t ≡ inWork w p
   unfolding bytesAt
   part-of skip m h = rw (← et, ← part-take skip m (lenAt w p j) (drop (startAt w p j) (cond t w f)) h, drop-drop skip (startAt w p j) (cond t w f))
 
-  inside-is : Inside f w p j → startAt w p j + lenAt w p j ≤ cond t (4 * p .held) (length f)
-  inside-is h = rw (← et) at h
-
   module _ (l : Laid f w p) (o : j < p .n) where
+    inside : startAt w p j + lenAt w p j ≤ cond t (4 * p .held) (length f)
+    inside = rw (← et) at (l .within j o .inside)
+
     pub within-work : t ≡ true → startAt w p j + lenAt w p j ≤ 4 * p .held
-    within-work e = rw e at (inside-is (l .inside j o))
+    within-work e = rw e at inside
 
     pub within-file : t ≡ false → startAt w p j + lenAt w p j ≤ length f
-    within-file e = rw e at (inside-is (l .inside j o))
-
-    pub within-either : startAt w p j + lenAt w p j ≤ 4 * p .held + length f
-    within-either = either t (inside-is (l .inside j o)) where
-      either : (t : Bool) → startAt w p j + lenAt w p j ≤ cond t (4 * p .held) (length f) → startAt w p j + lenAt w p j ≤ 4 * p .held + length f
-      either true h = omega arith
-      either false h = omega arith
+    within-file e = rw e at inside
 
     module _ (s n : ℕ) (es : s ≡ startAt w p j) (en : n ≡ lenAt w p j) where
       pub whole-work : t ≡ true → take (s + n - s) (drop s w) ≡ bytesAt f w p j

@@ -15,7 +15,7 @@ use Rattle.laws.specs.Count.{mem}
 use Rattle.words.specs.Words.{word}
 use Rattle.rfcomm.specs.Pieces.{Piece}
 use Rattle.rfcomm.specs.PieceTable.{pieceAt, infosOf}
-use Rattle.split.specs.Rows.{rowOf, piece, dlciAt, tailAt, keyAt, lenAt, startAt, inWork, bytesAt, streamOf, heldIn, heldOf, streamTo, Fits, keysTo, Inside, Laid}
+use Rattle.split.specs.Rows.{rowOf, piece, dlciAt, tailAt, keyAt, lenAt, startAt, inWork, bytesAt, streamOf, heldIn, heldOf, streamTo, Fits, keysTo, Laid}
 use Rattle.split.specs.Walks.{Row, TwoRows}
 use Rattle.split.specs.declared.Plan.{Plan}
 
@@ -158,7 +158,7 @@ module _ (f w : List ℕ) (p : Plan) (l : Laid f w p) where
 
   pub length-bytes : (i : ℕ) → i < p .n → length (bytesAt f w p i) ≡ lenAt w p i
   unfolding bytesAt
-  length-bytes i h = part-long (inWork w p i) (startAt w p i) (lenAt w p i) (l .inside i h)
+  length-bytes i h = part-long (inWork w p i) (startAt w p i) (lenAt w p i) (l .within i h .inside)
 
   pub stream-infos : (i : ℕ) (k : Key) → i ≤ p .n → length (streamOf f w p i k) ≤ infosOf w (p .rows) i
   unfolding streamOf infosOf

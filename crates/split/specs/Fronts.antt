@@ -1,54 +1,44 @@
 -- What lies below the lengths held stays, and so does what is read from it.
-use Prim.Native.Nat.{ℕ, zero, suc, _+_, _-_, _*_, _/_, _%_, _<_, _≤_}
-use mathlib.Core.Path.{_≡_, refl, sym, ap, _∙_}
-use mathlib.Core.Bool.{Bool, true, false, cond}
+use Prim.Native.Nat.{ℕ, zero, suc, _+_, _-_, _*_, _<_, _≤_}
+use mathlib.Core.Path.{_≡_, refl, ap}
 use mathlib.Core.List.{List, [], _∷_, _++_}
 use native.Mathlib.Omega.{arith}
-use lib.ListN.{length, take, drop}
+use lib.ListN.{length}
 use Rattle.laws.specs.Keys.{Key}
-use Rattle.words.specs.Words.{word, long}
-use Rattle.words.specs.Front.{Front, front-word, front-part}
+use Rattle.words.specs.Words.{word}
+use Rattle.words.specs.Front.{Front, front-word}
+use Rattle.rfcomm.specs.Pieces.{Piece}
 use Rattle.rfcomm.specs.PieceTable.{pieceAt, piecesFrom, infosOf}
-use Rattle.split.specs.Rows.{rowOf, piece, dlciAt, tailAt, keyAt, lenAt, startAt, inWork, bytesAt, streamOf, heldIn, keysTo, Inside, Laid}
+use Rattle.rfcomm.specs.PieceRows.{piece-front, pieces-front, infos-front, within-front}
+use Rattle.split.specs.Rows.{rowOf, piece, dlciAt, tailAt, keyAt, lenAt, bytesAt, streamOf, heldIn, ahead, keysTo, Laid}
 use Rattle.split.specs.declared.Plan.{Plan}
 
 module _ (f u w : List ℕ) (p : Plan) (l : Laid f w p) (s : Front (4 * p .held) u w) where
-  cell : (i c : ℕ) → i < p .n → c < 8 → word u (rowOf p i + c) ≡ word w (rowOf p i + c)
-  cell i c h g = front-word (4 * p .held) u w (rowOf p i + c) (omega (arith, l .rows)) s
+  piece-same : (i : ℕ) → i < p .n → piece f u p i ≡ piece f w p i
+  piece-same i h = piece-front (4 * p .held) f u w (rowOf p i) (omega (arith, l .rows)) s (4 * p .held) (omega arith) (l .within i h)
 
   pub dlci-front : (i : ℕ) → i < p .n → dlciAt u p i ≡ dlciAt w p i
-  dlci-front i h = front-word (4 * p .held) u w (rowOf p i) (omega (arith, l .rows)) s
+  unfolding pieceAt
+  dlci-front i h = ap (λ (x : Piece). x .dlci) (piece-same i h)
 
   pub tail-front : (i : ℕ) → i < p .n → tailAt u p i ≡ tailAt w p i
-  unfolding tailAt
-  tail-front i h = rw (cell i 1 h (omega arith), cell i 2 h (omega arith), cell i 3 h (omega arith))
+  unfolding pieceAt tailAt
+  tail-front i h = ap (λ (x : Piece). x .key) (piece-same i h)
 
   pub key-front : (i : ℕ) → i < p .n → keyAt u p i ≡ keyAt w p i
   unfolding keyAt
   key-front i h = rw (dlci-front i h, tail-front i h)
 
   pub len-front : (i : ℕ) → i < p .n → lenAt u p i ≡ lenAt w p i
-  len-front i h = rw (cell i 5 h (omega arith))
-
-  -- a part of the file or of work
-  part-front : (t : Bool) (a n : ℕ) → a + n ≤ cond t (4 * p .held) (length f) → take n (drop a (cond t u f)) ≡ take n (drop a (cond t w f))
-  part-front true a n h = front-part (4 * p .held) u w a n h s
-  part-front false a n h = refl
+  len-front i h = rw (front-word (4 * p .held) u w (rowOf p i + 5) (omega (arith, l .rows)) s)
 
   pub bytes-front : (i : ℕ) → i < p .n → bytesAt f u p i ≡ bytesAt f w p i
-  unfolding bytesAt
-  bytes-front i h = rw (cell i 4 h (omega arith), cell i 5 h (omega arith)) (part-front (inWork w p i) (startAt w p i) (lenAt w p i) (l .inside i h))
+  unfolding pieceAt bytesAt
+  bytes-front i h = ap (λ (x : Piece). x .bytes) (piece-same i h)
 
-  pub piece-front : (i : ℕ) → i < p .n → piece f u p i ≡ piece f w p i
-  unfolding pieceAt long
-  piece-front i h =
-      let a : rowOf p i + 6 + 1 ≡ rowOf p i + 7 = omega arith in
-      rw (a, dlci-front i h, cell i 1 h (omega arith), cell i 2 h (omega arith), cell i 3 h (omega arith), cell i 6 h (omega arith), cell i 7 h (omega arith), cell i 4 h (omega arith), cell i 5 h (omega arith), part-front (inWork w p i) (startAt w p i) (lenAt w p i) (l .inside i h))
-
-  pub pieces-front : (k i : ℕ) → i + k ≤ p .n → piecesFrom f u (p .rows) i k ≡ piecesFrom f w (p .rows) i k
-  unfolding piecesFrom
-  pieces-front zero i h = refl
-  pieces-front (suc k) i h = rw (piece-front i (omega arith), pieces-front k (suc i) (omega arith))
+  -- the pieces from the i-th on
+  pub table-front : (i k : ℕ) → i + k ≤ p .n → piecesFrom f u (p .rows) i k ≡ piecesFrom f w (p .rows) i k
+  table-front i k h = pieces-front (4 * p .held) f u w (p .rows) i k (4 * p .held) (omega (arith, l .rows)) s (omega arith) (λ j o. l .within j (omega arith))
 
   pub stream-front : (i : ℕ) (k : Key) → i ≤ p .n → streamOf f u p i k ≡ streamOf f w p i k
   unfolding streamOf
@@ -66,17 +56,14 @@ module _ (f u w : List ℕ) (p : Plan) (l : Laid f w p) (s : Front (4 * p .held)
   held-front zero k h g = refl
   held-front (suc i) k h g = rw (held-front i k (omega arith) (λ j q. g j (omega arith)), key-front i (omega arith), g i (omega arith))
 
-  infos-front : (i : ℕ) → i ≤ p .n → infosOf u (p .rows) i ≡ infosOf w (p .rows) i
-  unfolding infosOf
-  infos-front zero h = refl
-  infos-front (suc i) h = rw (infos-front i (omega arith), cell i 5 (omega arith) (omega arith))
-
   pub laid-front : length u ≡ length w → Laid f u p
-  laid-front e = record {
-    rows = l .rows;
-    area = l .area;
-    many = l .many;
-    sum = rw (infos-front (p .n) (omega arith)) (l .sum);
-    room = rw (infos-front (p .n) (omega arith), e) (l .room);
-    inside = λ i h. rw (cell i 4 h (omega arith), cell i 5 h (omega arith)) (l .inside i h);
-  }
+  laid-front e =
+      let z : infosOf u (p .rows) (p .n) ≡ infosOf w (p .rows) (p .n) = infos-front (4 * p .held) u w (p .rows) (p .n) (omega (arith, l .rows)) s in
+      record {
+        rows = l .rows;
+        area = l .area;
+        many = l .many;
+        sum = rw z (l .sum);
+        room = rw (z, e) (l .room);
+        within = λ i h. within-front (4 * p .held) f u w (rowOf p i) (4 * p .held) (omega (arith, l .rows)) s (l .within i h);
+      }

@@ -10,7 +10,7 @@ use Rattle.laws.specs.Keys.{Key, eqK}
 use Rattle.laws.specs.Count.{count, nub}
 use Rattle.words.specs.Words.{word}
 use Rattle.rfcomm.specs.Pieces.{Piece}
-use Rattle.rfcomm.specs.PieceTable.{pieceAt, piecesFrom, infosOf}
+use Rattle.rfcomm.specs.PieceTable.{pieceAt, piecesFrom, infosOf, Within}
 use Rattle.spans.specs.Spans.{onDlci}
 use Rattle.split.specs.Last.{lastn}
 use Rattle.split.specs.declared.Plan.{Plan}
@@ -100,9 +100,6 @@ sign n = cond (ltb 0 n) 1 0
 
 -- ---- where the tables lie
 
-abbrev pub Inside : List ℕ → List ℕ → Plan → ℕ → Type 0
-Inside f w p i = startAt w p i + lenAt w p i ≤ cond (inWork w p i) (4 * p .held) (length f)
-
 -- the pieces below the lengths held, these below the area, and the area has room for all information
 pub record Laid (f w : List ℕ) (p : Plan) : Type 0 where
   pub rows : p .rows + 8 * p .n ≤ p .held
@@ -110,4 +107,4 @@ pub record Laid (f w : List ℕ) (p : Plan) : Type 0 where
   pub many : p .n ≤ 1048576
   pub sum : infosOf w (p .rows) (p .n) ≤ 1048576
   pub room : p .area + infosOf w (p .rows) (p .n) ≤ length w
-  pub inside : (i : ℕ) → i < p .n → Inside f w p i
+  pub within : (i : ℕ) → i < p .n → Within f w (rowOf p i) (4 * p .held)

@@ -38,7 +38,7 @@ pub record StartIs (w : List ℕ) (p : Plan) (i r : ℕ) : Type 0 where
   pub at : r ≡ startAt w p i
   pub small : r < 4294967296
 
-pub record Within (f w : List ℕ) (p : Plan) (i : ℕ) : Type 0 where
+pub record Placed (f w : List ℕ) (p : Plan) (i : ℕ) : Type 0 where
   pub laid : Laid f w p
   pub row : i < p .n
 

@@ -11,7 +11,7 @@ ghost use Rattle.items.specs.Items.{rxOf};
 ghost use Rattle.spans.specs.Scan.{ended};
 ghost use Rattle.split.specs.Last.{lastn};
 ghost use Rattle.split.specs.Rows.{keyAt, lenAt, inWork, bytesAt, heldOf, streamTo, cappedLength, sign, Laid};
-ghost use Rattle.split.specs.Walks.{Row, TwoRows, StartIs, Within, PutPre, GatherPre, JoinPre, Joined, Says, HoldPre, HeldMore, CountPre, CountHeld, Stepped, CountIs, WritePre, WriteHeld, WroteStep, ListPre, WriteIs};
+ghost use Rattle.split.specs.Walks.{Row, TwoRows, StartIs, Placed, PutPre, GatherPre, JoinPre, Joined, Says, HoldPre, HeldMore, CountPre, CountHeld, Stepped, CountIs, WritePre, WriteHeld, WroteStep, ListPre, WriteIs};
 use items::Direction;
 use spans::Counted;
 use spans::Tally;
@@ -95,7 +95,7 @@ fn held_before(w: &[u8], p: Plan, i: usize) -> usize
 
 // Whether a piece has a 3C.
 fn piece_ends(file: &[u8], w: &[u8], p: Plan, i: usize) -> bool
-    requires { ⌜ Within (now file) (now w) p i ⌝ }
+    requires { ⌜ Placed (now file) (now w) p i ⌝ }
     ensures { λ r. ⌜ r ≡ ended (bytesAt (now (file .entry)) (now (w .entry)) p i) ⌝ }
 {
     let start = start_of(w, p, i);
@@ -187,7 +187,7 @@ fn capped(n: usize) -> u32
 
 // Whether something is held and piece i has no 3C.
 fn is_silent(file: &[u8], w: &[u8], p: Plan, i: usize, h: usize) -> bool
-    requires { ⌜ Within (now file) (now w) p i ⌝ }
+    requires { ⌜ Placed (now file) (now w) p i ⌝ }
     ensures { λ r. ⌜ Says (now (file .entry)) (now (w .entry)) p i h r ⌝ }
 {
     if h == 0 {

@@ -1,5 +1,5 @@
 use Rattle.split.proofs.Tables.{laid-row}
-use Rattle.split.proofs.Gathers.{within-work, within-file, within-either, whole-work, whole-file}
+use Rattle.split.proofs.Gathers.{within-work, within-file, whole-work, whole-file}
 use Rattle.spans.specs.Scan.{ended}
 use mathlib.Core.Path.{_∙_, ap}
 use native.Mathlib.Omega.{arith}
