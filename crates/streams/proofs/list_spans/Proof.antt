@@ -1,3 +1,4 @@
+use Rattle.streams.proofs.Listing.{lists-none, lists-short, lists-pre, lists-all}
 use native.Mathlib.Omega.{arith}
 use borrow.Author.Needs.{needs}
 use Rattle.streams.proofs.list_spans.Statement.{statement}
@@ -26,7 +27,7 @@ same-length c = search needs
 
 -- src/lib.rt:126:17
 returns : tie.Need-returns
-returns c = ?
+returns c = lists-short _ _ _ _ _ _ (c .before .before .before .before .before .before .before .choose-dlci .ensures) _ _ (c .before .before .before .c .given .1) (c .if1 .taken)
 
 -- src/lib.rt:129:32
 cast-plan : tie.Need-cast-plan
@@ -34,11 +35,11 @@ cast-plan c = search needs
 
 -- src/lib.rt:129:17
 plan-requires : tie.Need-plan-requires
-plan-requires c κs = search needs
+plan-requires c κs = omega (arith, c .before .before .before .before .before .before .before .before .before .before .before .before .before .pre .small)
 
 -- src/lib.rt:130:13
 write-spans-requires : tie.Need-write-spans-requires
-write-spans-requires c κs = ?
+write-spans-requires c κs = lists-pre _ _ _ _ _ _ (c .before .before .before .before .before .before .before .before .before .before .before .choose-dlci .ensures) (c .before .before .before .before .before .before .before .before .before .before .before .before .before .before .before .before .args .out .now) _ (c .before .before .before .before .before .before .before .c .given .1) (c .before .before .before .before .before .before .before .before .before .before .before .before .before .before .before .before .pre) (c .before .before .before .before .if1 .left) (omega arith) _ (c .before .before .plan .ensures)
 
 -- src/lib.rt:117:1
 same-length-2 : tie.Need-same-length-2
@@ -46,7 +47,7 @@ same-length-2 c = search needs
 
 -- src/lib.rt:117:1
 returns-2 : tie.Need-returns-2
-returns-2 c = ?
+returns-2 c = lists-none _ _ _ _ _ _ (c .before .before .before .before .choose-dlci .ensures) _ (c .enum-told .given .1)
 
 -- src/lib.rt:117:1
 same-length-3 : tie.Need-same-length-3
@@ -58,7 +59,7 @@ same-length-4 c = search needs
 
 -- src/lib.rt:117:1
 returns-3 : tie.Need-returns-3
-returns-3 c = ?
+returns-3 c = lists-all _ _ _ _ _ _ (c .before .before .before .before .before .before .before .before .before .before .before .before .before .before .before .before .choose-dlci .ensures) (c .before .before .before .before .before .before .before .before .before .before .before .before .before .before .before .before .before .before .before .before .before .args .out .now) _ (c .before .before .before .before .before .before .before .before .before .before .before .before .c .given .1) (c .before .before .before .before .before .before .before .before .before .before .before .before .before .before .before .before .before .before .before .before .before .pre) (c .before .before .before .before .before .before .before .before .before .if1 .left) (omega arith) _ (c .before .before .before .before .before .before .before .plan .ensures) _ _ _ (c .before .before .before .before .write-spans .ensures)
 
 pub list-spans-spec : {M : Type 1} → statement M
 list-spans-spec =
