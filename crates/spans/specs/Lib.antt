@@ -1,2 +1,5 @@
 pub mod Scan
+pub mod Scanning
+pub mod Parts
 pub mod Spans
+pub mod Bytewise

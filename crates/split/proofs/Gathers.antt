@@ -1,0 +1,174 @@
+-- The bytes of a piece, read or copied from the file or from work; and what a key holds, put together by walking the pieces back.
+use Prim.Native.Nat.{ℕ, zero, suc, _+_, _-_, _*_, _<_, _≤_, min}
+use mathlib.Core.Path.{_≡_, refl, sym, ap, _∙_}
+use mathlib.Core.Bool.{Bool, true, false, cond}
+use mathlib.Core.List.{List, [], _∷_, _++_}
+use mathlib.Core.Logic.{_≢_}
+use native.Mathlib.Omega.{arith}
+use lib.ListN.{length, getD, set, take, drop, length-append, length-drop, length-set}
+use lib.Seq.{sets, length-sets, take-all, drop-drop, take-take, drop-cons, getD-set-other}
+use Rattle.laws.specs.Choice.{split≡, no-way}
+use Rattle.laws.specs.Keys.{Key, eqK, eq-eqK, eqK-true}
+use Rattle.words.specs.Front.{Front, front-refl, front-then, front-sets, part-take}
+use Rattle.rfcomm.specs.PieceTable.{infosOf}
+use Rattle.split.specs.Last.{lastn}
+use Rattle.split.specs.Rows.{keyAt, lenAt, startAt, inWork, bytesAt, streamOf, streamTo, Laid}
+use Rattle.split.specs.Walks.{Row, TwoRows, PutPre, GatherPre}
+use Rattle.split.specs.Fronts.{key-front, bytes-front, laid-front}
+use Rattle.split.specs.declared.Plan.{Plan}
+use Rattle.split.proofs.Backs.{sets-back}
+use Rattle.split.proofs.Lasts.{length-lastn, lastn-zero, lastn-append}
+use Rattle.split.proofs.Tables.{laid-row, stream-mine, stream-other, length-bytes, stream-infos, infos-mono}
+
+-- ---- a copy inside work, upwards
+
+pub record Moving (w₀ : List ℕ) (a n to : ℕ) (w : List ℕ) (i : ℕ) : Type 0 where
+  pub within : i ≤ n
+  pub long : length w ≡ length w₀
+  pub low : (k : ℕ) → k < to → getD w k 0 ≡ getD w₀ k 0
+  pub done : sets w (to + i) (take (n - i) (drop (a + i) w₀)) ≡ sets w₀ to (take n (drop a w₀))
+
+pub moving-start : (w : List ℕ) (a n to : ℕ) → Moving w a n to w 0
+moving-start w a n to =
+    let x : to + 0 ≡ to = omega arith in
+    let y : n - 0 ≡ n = omega arith in
+    let z : a + 0 ≡ a = omega arith in
+    record { within = omega arith; long = refl; low = λ k h. refl; done = rw (x, y, z) }
+
+module _ (w₀ : List ℕ) (a n to : ℕ) (w : List ℕ) (i : ℕ) (m : Moving w₀ a n to w i) where
+  pub moving-turn : i < n → a + n ≤ to → to + n ≤ length w₀ → Moving w₀ a n to (set w (to + i) (getD w (a + i) 0)) (i + 1)
+  moving-turn h g l =
+      let x : to + (i + 1) ≡ suc (to + i) = omega arith in
+      let y : n - i ≡ suc (n - (i + 1)) = omega arith in
+      let z : a + (i + 1) ≡ suc (a + i) = omega arith in
+      record {
+        within = omega arith;
+        long = simp length-set (m .long);
+        low = λ k o. (let ne : k ≢ to + i = λ e. omega arith in getD-set-other w (to + i) k (getD w (a + i) 0) 0 ne ∙ m .low k o);
+        done = rw (x, z, m .low (a + i) (omega arith)) (rw (y, drop-cons w₀ (a + i) 0 (omega arith)) at (m .done));
+      }
+
+  pub moving-end : n ≤ i → w ≡ sets w₀ to (take n (drop a w₀))
+  moving-end h = let z : n - i ≡ 0 = omega arith in rw z at (m .done)
+
+-- ---- the bytes of a piece
+
+module _ (f w : List ℕ) (p : Plan) (j : ℕ) (t : Bool) (et : t ≡ inWork w p j) where
+  -- m bytes from skip on
+  part-of : (skip m : ℕ) → skip + m ≤ lenAt w p j → take m (drop skip (bytesAt f w p j)) ≡ take m (drop (startAt w p j + skip) (cond t w f))
+  unfolding bytesAt
+  part-of skip m h = rw (← et, ← part-take skip m (lenAt w p j) (drop (startAt w p j) (cond t w f)) h, drop-drop skip (startAt w p j) (cond t w f))
+
+  module _ (l : Laid f w p) (o : j < p .n) where
+    inside : startAt w p j + lenAt w p j ≤ cond t (4 * p .held) (length f)
+    inside = rw (← et) at (l .within j o .inside)
+
+    pub within-work : t ≡ true → startAt w p j + lenAt w p j ≤ 4 * p .held
+    within-work e = rw e at inside
+
+    pub within-file : t ≡ false → startAt w p j + lenAt w p j ≤ length f
+    within-file e = rw e at inside
+
+    module _ (s n : ℕ) (es : s ≡ startAt w p j) (en : n ≡ lenAt w p j) where
+      pub whole-work : t ≡ true → take (s + n - s) (drop s w) ≡ bytesAt f w p j
+      unfolding bytesAt
+      whole-work e = let y : s + n - s ≡ n = omega arith in rw (y, es, en, ← et, e)
+
+      pub whole-file : t ≡ false → take (s + n - s) (drop s f) ≡ bytesAt f w p j
+      unfolding bytesAt
+      whole-file e = let y : s + n - s ≡ n = omega arith in rw (y, es, en, ← et, e)
+
+  module _ (skip m to : ℕ) (q : PutPre f w p j skip m to) (s : ℕ) (es : s ≡ startAt w p j) where
+    pub put-work : t ≡ true → (u : List ℕ) → u ≡ sets w to (take m (drop (s + skip) w)) → u ≡ sets w to (take m (drop skip (bytesAt f w p j)))
+    put-work e u eu = eu ∙ rw (part-of skip m (q .part), e, es)
+
+    pub put-file : t ≡ false → (u : List ℕ) → u ≡ sets w to (take (s + skip + m - (s + skip)) (drop (s + skip) f)) → u ≡ sets w to (take m (drop skip (bytesAt f w p j)))
+    put-file e u eu = let y : s + skip + m - (s + skip) ≡ m = omega arith in eu ∙ rw (y, part-of skip m (q .part), e, es)
+
+-- ---- the walk back
+
+pub record Gathering (f w₀ : List ℕ) (p : Plan) (i h : ℕ) (w : List ℕ) (j left : ℕ) : Type 0 where
+  pub low : j ≤ i
+  pub most : left ≤ h
+  pub come : left ≤ length (streamOf f w₀ p j (keyAt w₀ p i))
+  pub long : length w ≡ length w₀
+  pub front : Front (4 * p .held) w w₀
+  pub done : sets w (p .area) (lastn left (streamOf f w₀ p j (keyAt w₀ p i))) ≡ sets w₀ (p .area) (lastn h (streamTo f w₀ p i))
+
+pub gathering-start : (f w : List ℕ) (p : Plan) (i h : ℕ) → GatherPre f w p i h → Gathering f w p i h w i h
+gathering-start f w p i h q = record { low = omega arith; most = omega arith; come = q .fits; long = refl; front = front-refl (4 * p .held) w; done = refl }
+
+module _ (f w₀ : List ℕ) (p : Plan) (i h : ℕ) (w : List ℕ) (j left : ℕ) (g : Gathering f w₀ p i h w j left) where
+  pub gathering-end : left ≤ 0 → w ≡ sets w₀ (p .area) (lastn h (streamTo f w₀ p i))
+  gathering-end l = rw (lastn-zero left (streamOf f w₀ p j (keyAt w₀ p i)) (omega arith)) at (g .done)
+
+  -- something is left only if there are pieces
+  pub gathering-more : 0 < left → 0 < j
+  unfolding streamOf
+  gathering-more l = split≡ j 0 (λ e. let z = rw e at (g .come) in absurd (omega (arith, z))) (λ e. omega arith)
+
+  module _ (q : GatherPre f w₀ p i h) where
+    pub gathering-laid : Laid f w p
+    gathering-laid = laid-front f w w₀ p (q .laid) (g .front) (g .long)
+
+    pub gathering-room : p .area + left ≤ length w
+    gathering-room =
+        let a = stream-infos f w₀ p (q .laid) j (keyAt w₀ p i) (omega (arith, g .low, q .row)) in
+        let b = infos-mono w₀ (p .rows) j (p .n) (omega (arith, g .low, q .row)) in
+        omega (arith, g .come, g .long, q .laid .room)
+
+    module _ (r : 0 < left) where
+      pub gathering-row : Row w p (j - 1)
+      gathering-row = laid-row f w p (j - 1) gathering-laid (omega (arith, gathering-more r, g .low, q .row))
+
+      pub gathering-rows : TwoRows w p (j - 1) i
+      gathering-rows = record { rows = gathering-row .rows; words = gathering-row .words; first = gathering-row .row; second = q .row }
+
+      own : keyAt w p (j - 1) ≡ keyAt w₀ p (j - 1)
+      own = key-front f w w₀ p (q .laid) (g .front) (j - 1) (gathering-row .row)
+
+      mine : keyAt w p i ≡ keyAt w₀ p i
+      mine = key-front f w w₀ p (q .laid) (g .front) i (q .row)
+
+      back-one : suc (j - 1) ≡ j
+      back-one = omega (arith, gathering-more r)
+
+      module _ (t : Bool) (et : t ≡ eqK (keyAt w p (j - 1)) (keyAt w p i)) where
+        pub gathering-miss : t ≡ false → Gathering f w₀ p i h w (j - 1) left
+        gathering-miss e =
+            let k : eqK (keyAt w₀ p (j - 1)) (keyAt w₀ p i) ≡ false = rw (own, mine) at (sym et ∙ e) in
+            let s : streamOf f w₀ p j (keyAt w₀ p i) ≡ streamOf f w₀ p (j - 1) (keyAt w₀ p i) = rw back-one at (stream-other f w₀ p (j - 1) (keyAt w₀ p i) (λ z. no-way (eq-eqK (keyAt w₀ p (j - 1)) (keyAt w₀ p i) z) k)) in
+            record { low = omega (arith, g .low); most = g .most; come = rw s at (g .come); long = g .long; front = g .front; done = rw s at (g .done) }
+
+        module _ (e : t ≡ true) (n m : ℕ) (en : n ≡ lenAt w p (j - 1)) (em : m ≡ min left n) where
+          pub gathering-put : PutPre f w p (j - 1) (n - m) m (p .area + left - m)
+          gathering-put = record {
+            laid = gathering-laid;
+            row = gathering-row .row;
+            part = omega arith;
+            above = omega (arith, q .laid .area);
+            fits = omega (arith, gathering-room);
+          }
+
+          pub gathering-hit : (u : List ℕ) → u ≡ sets w (p .area + left - m) (take m (drop (n - m) (bytesAt f w p (j - 1)))) → Gathering f w₀ p i h u (j - 1) (left - m)
+          gathering-hit u eu =
+              let k : keyAt w₀ p (j - 1) ≡ keyAt w₀ p i = eqK-true (keyAt w₀ p (j - 1)) (keyAt w₀ p i) (rw (own, mine) at (sym et ∙ e)) in
+              let S : List ℕ = streamOf f w₀ p (j - 1) (keyAt w₀ p i) in
+              let B : List ℕ = bytesAt f w₀ p (j - 1) in
+              let s : streamOf f w₀ p j (keyAt w₀ p i) ≡ S ++ B = rw back-one at (stream-mine f w₀ p (j - 1) (keyAt w₀ p i) k) in
+              let b : bytesAt f w p (j - 1) ≡ B = bytes-front f w w₀ p (q .laid) (g .front) (j - 1) (gathering-row .row) in
+              let o : length B ≡ n = ap length (sym b) ∙ length-bytes f w p gathering-laid (j - 1) (gathering-row .row) ∙ sym en in
+              let c : left ≤ length S + length B = rw (s, length-append) at (g .come) in
+              let x : take m (drop (n - m) (bytesAt f w p (j - 1))) ≡ drop (n - m) B = rw b (take-all m (drop (n - m) B) (simp length-drop (omega arith))) in
+              let v : lastn left (streamOf f w₀ p j (keyAt w₀ p i)) ≡ lastn (left - m) S ++ drop (n - m) B = rw (s, ← o) (lastn-append left m S B c (omega arith)) in
+              let y : length (lastn (left - m) S) ≡ left - m = length-lastn (left - m) S (omega arith) in
+              let a : p .area + left - m ≡ p .area + (left - m) = omega arith in
+              let eu′ : u ≡ sets w (p .area + (left - m)) (drop (n - m) B) = rw (x, a) at eu in
+              record {
+                low = omega (arith, g .low);
+                most = omega (arith, g .most);
+                come = omega arith;
+                long = ap length eu′ ∙ length-sets w (p .area + (left - m)) (drop (n - m) B) ∙ g .long;
+                front = rw eu′ (front-then (4 * p .held) _ w w₀ (front-sets (4 * p .held) (drop (n - m) B) w (p .area + (left - m)) (omega (arith, q .laid .area))) (g .front));
+                done = rw eu′ (sym (rw y at (sets-back w (p .area) (lastn (left - m) S) (drop (n - m) B)))) ∙ rw v at (g .done);
+              }

@@ -1,0 +1,367 @@
+// The pieces of one DLCI split into spans: counted, or written as a list of items.
+//
+// Nothing is stored but one word for each piece: how many bytes its key holds after it. The buffer of a key is then the
+// last that many bytes of all that came under the key, and is put together where a 3C may close something.
+ghost use mathlib.Core.Path.{_≡_};
+ghost use Prim.Native.Nat.{_+_, _%_, _≤_, _<_, min};
+ghost use lib.ListN.{length, take, drop};
+ghost use lib.Seq.{sets};
+ghost use Rattle.laws.specs.Keys.{eqK};
+ghost use Rattle.items.specs.Items.{rxOf};
+ghost use Rattle.spans.specs.Scan.{ended};
+ghost use Rattle.split.specs.Last.{lastn};
+ghost use Rattle.split.specs.Rows.{keyAt, lenAt, inWork, bytesAt, heldOf, streamTo, cappedLength, sign, Laid};
+ghost use Rattle.split.specs.Walks.{Row, TwoRows, StartIs, Placed, PutPre, GatherPre, JoinPre, Joined, Says, HoldPre, HeldMore, CountPre, CountHeld, Stepped, CountIs, WritePre, WriteHeld, WroteStep, ListPre, WriteIs};
+use items::Direction;
+use spans::Counted;
+use spans::Tally;
+use spans::Wrote;
+use spans::count_part;
+use spans::has_end;
+use spans::write_part;
+use words::copy_to;
+use words::get32;
+use words::get64;
+use words::put32;
+
+// Where the tables lie in work: the pieces and the lengths held by words, the area by bytes. And the DLCI.
+pub struct Plan {
+    pub rows: usize,
+    pub n: usize,
+    pub held: usize,
+    pub area: usize,
+    pub dlci: u32,
+}
+
+// ---- the table of pieces
+
+// Whether two pieces have the same DLCI, stretch and direction.
+fn same_key(w: &[u8], p: Plan, i: usize, j: usize) -> bool
+    requires { ⌜ TwoRows (now w) p i j ⌝ }
+    ensures { λ r. ⌜ r ≡ eqK (keyAt (now (w .entry)) p i) (keyAt (now (w .entry)) p j) ⌝ }
+{
+    let a = p.rows + 8 * i;
+    let b = p.rows + 8 * j;
+    if get32(w, a) != get32(w, b) {
+        return false;
+    }
+    if get32(w, a + 1) != get32(w, b + 1) {
+        return false;
+    }
+    if get32(w, a + 2) != get32(w, b + 2) {
+        return false;
+    }
+    get32(w, a + 3) == get32(w, b + 3)
+}
+
+// The length of a piece.
+fn length_of(w: &[u8], p: Plan, i: usize) -> usize
+    requires { ⌜ Row (now w) p i ⌝ }
+    ensures { λ r. ⌜ r ≡ lenAt (now (w .entry)) p i ⌝ }
+{
+    (get32(w, p.rows + 8 * i + 5) % 65536) as usize
+}
+
+// Where a piece starts, in the file or in work.
+fn start_of(w: &[u8], p: Plan, i: usize) -> usize
+    requires { ⌜ Row (now w) p i ⌝ }
+    ensures { λ r. ⌜ StartIs (now (w .entry)) p i r ⌝ }
+{
+    get32(w, p.rows + 8 * i + 4) as usize
+}
+
+// Whether a piece lies in work.
+fn is_joined(w: &[u8], p: Plan, i: usize) -> bool
+    requires { ⌜ Row (now w) p i ⌝ }
+    ensures { λ r. ⌜ r ≡ inWork (now (w .entry)) p i ⌝ }
+{
+    get32(w, p.rows + 8 * i + 5) / 65536 == 1
+}
+
+// The length held after the newest piece before i that has the key of i.
+fn held_before(w: &[u8], p: Plan, i: usize) -> usize
+    requires { ⌜ Row (now w) p i ⌝ }
+    ensures { λ r. ⌜ r ≡ heldOf (now (w .entry)) p i ⌝ }
+{
+    let mut j = i;
+    while 0 < j {
+        j -= 1;
+        if same_key(w, p, j, i) {
+            return get32(w, p.held + j) as usize;
+        }
+    }
+    0
+}
+
+// Whether a piece has a 3C.
+fn piece_ends(file: &[u8], w: &[u8], p: Plan, i: usize) -> bool
+    requires { ⌜ Placed (now file) (now w) p i ⌝ }
+    ensures { λ r. ⌜ r ≡ ended (bytesAt (now (file .entry)) (now (w .entry)) p i) ⌝ }
+{
+    let start = start_of(w, p, i);
+    let end = start + length_of(w, p, i);
+    if is_joined(w, p, i) {
+        return has_end(&w[start..end]);
+    }
+    has_end(&file[start..end])
+}
+
+// ---- the buffer of a key, put together in the area
+
+// Copies n bytes inside w, upwards.
+fn copy_in(w: &mut [u8], from: usize, n: usize, to: usize)
+    requires { ⌜ from + n ≤ to ⌝ }
+    requires { ⌜ to + n ≤ length (now w) ⌝ }
+    ensures { λ _. ⌜ now (w .exit) ≡ sets (now (w .entry)) to (take n (drop from (now (w .entry)))) ⌝ }
+{
+    let mut i = 0;
+    while i < n {
+        w[to + i] = w[from + i];
+        i += 1;
+    }
+}
+
+// Copies m bytes of piece j, from skip on, to a place.
+fn put_bytes(file: &[u8], w: &mut [u8], p: Plan, j: usize, skip: usize, m: usize, to: usize)
+    requires { ⌜ PutPre (now file) (now w) p j skip m to ⌝ }
+    ensures { λ _. ⌜ now (w .exit) ≡ sets (now (w .entry)) to (take m (drop skip (bytesAt (now (file .entry)) (now (w .entry)) p j))) ⌝ }
+{
+    let start = start_of(w, p, j) + skip;
+    if is_joined(w, p, j) {
+        copy_in(w, start, m, to);
+        return;
+    }
+    let end = start + m;
+    copy_to(&file[start..end], w, to);
+}
+
+fn least(a: usize, b: usize) -> usize
+    ensures { λ r. ⌜ r ≡ min a b ⌝ }
+{
+    if a < b {
+        return a;
+    }
+    b
+}
+
+// Puts the last h bytes of what came under the key of i before i into the area: piece by piece, the newest first.
+fn gather(file: &[u8], w: &mut [u8], p: Plan, i: usize, h: usize)
+    requires { ⌜ GatherPre (now file) (now w) p i h ⌝ }
+    ensures { λ _. ⌜ now (w .exit) ≡ sets (now (w .entry)) (p .area) (lastn h (streamTo (now (file .entry)) (now (w .entry)) p i)) ⌝ }
+{
+    let mut j = i;
+    let mut left = h;
+    while 0 < left {
+        j -= 1;
+        if same_key(w, p, j, i) {
+            let n = length_of(w, p, j);
+            let m = least(left, n);
+            put_bytes(file, w, p, j, n - m, m, p.area + left - m);
+            left -= m;
+        }
+    }
+}
+
+// Puts the buffer of the key of i and piece i behind it into the area, and returns how long they are.
+fn join(file: &[u8], w: &mut [u8], p: Plan, i: usize, h: usize) -> usize
+    requires { ⌜ JoinPre (now file) (now w) p i h ⌝ }
+    ensures { λ r. ⌜ Joined (now (file .entry)) (now (w .entry)) p i (now (w .exit)) r ⌝ }
+{
+    gather(file, w, p, i, h);
+    let n = length_of(w, p, i);
+    put_bytes(file, w, p, i, 0, n, p.area + h);
+    h + n
+}
+
+// What is held of a rest of n bytes: over 65,536 it is cleared.
+fn capped(n: usize) -> u32
+    ensures { λ r. ⌜ r ≡ cappedLength n ⌝ }
+{
+    if 65536 < n {
+        return 0;
+    }
+    n as u32
+}
+
+// ---- a piece with no 3C, where something is held: only the length held grows
+
+// Whether something is held and piece i has no 3C.
+fn is_silent(file: &[u8], w: &[u8], p: Plan, i: usize, h: usize) -> bool
+    requires { ⌜ Placed (now file) (now w) p i ⌝ }
+    ensures { λ r. ⌜ Says (now (file .entry)) (now (w .entry)) p i h r ⌝ }
+{
+    if h == 0 {
+        return false;
+    }
+    if piece_ends(file, w, p, i) {
+        return false;
+    }
+    true
+}
+
+// Sets the length held after piece i, which comes behind h bytes.
+fn hold_more(w: &mut [u8], p: Plan, i: usize, h: usize) -> u32
+    requires { ⌜ HoldPre (now w) p i h ⌝ }
+    ensures { λ r. ⌜ HeldMore (now (w .entry)) p i h (now (w .exit)) r ⌝ }
+{
+    let n = length_of(w, p, i);
+    let r = capped(h + n);
+    put32(w, p.held + i, r);
+    r
+}
+
+// ---- counting
+
+// What is counted: the spans, and how many buffers are not empty.
+pub struct Sums {
+    pub tally: Tally,
+    pub unfinished: usize,
+}
+
+// 1 if something is held.
+fn sign_of(n: usize) -> usize
+    ensures { λ r. ⌜ r ≡ sign n ⌝ }
+{
+    if 0 < n {
+        return 1;
+    }
+    0
+}
+
+// Counts the spans that piece i brings, behind the h bytes held.
+fn count_joined(file: &[u8], w: &mut [u8], p: Plan, i: usize, s: Sums, h: usize) -> Sums
+    requires { ⌜ CountHeld (now file) (now w) p i s h ⌝ }
+    ensures { λ r. ⌜ Stepped (now (file .entry)) (now (w .entry)) p i s (now (w .exit)) r ⌝ }
+{
+    let n = join(file, w, p, i, h);
+    let area = p.area;
+    let end = area + n;
+    let t = s.tally;
+    let c = count_part(&w[area..end], t);
+    let r = capped(c.rest);
+    put32(w, p.held + i, r);
+    let a = sign_of(r as usize);
+    let b = sign_of(h);
+    let sum = c.tally;
+    Sums {
+        tally: sum,
+        unfinished: s.unfinished + a - b,
+    }
+}
+
+// Counts the spans that piece i brings.
+fn count_piece(file: &[u8], w: &mut [u8], p: Plan, i: usize, s: Sums) -> Sums
+    requires { ⌜ CountPre (now file) (now w) p i s ⌝ }
+    ensures { λ r. ⌜ Stepped (now (file .entry)) (now (w .entry)) p i s (now (w .exit)) r ⌝ }
+{
+    let h = held_before(w, p, i);
+    if is_silent(file, w, p, i, h) {
+        let r = hold_more(w, p, i, h);
+        let a = sign_of(r as usize);
+        let b = sign_of(h);
+        let t = s.tally;
+        return Sums {
+            tally: t,
+            unfinished: s.unfinished + a - b,
+        };
+    }
+    count_joined(file, w, p, i, s, h)
+}
+
+// Counts the spans of the DLCI, and its buffers that are not empty at the end.
+pub fn count_spans(file: &[u8], w: &mut [u8], p: Plan) -> Sums
+    requires { ⌜ Laid (now file) (now w) p ⌝ }
+    ensures { λ r. ⌜ CountIs (now (file .entry)) (now (w .entry)) p (now (w .exit)) r ⌝ }
+{
+    let n = p.n;
+    let rows = p.rows;
+    let dlci = p.dlci;
+    let none = Tally {
+        count: 0,
+        bytes: 0,
+        frame: false,
+    };
+    let mut s = Sums {
+        tally: none,
+        unfinished: 0,
+    };
+    let mut i = 0;
+    while i < n {
+        let j = i;
+        i += 1;
+        if get32(w, rows + 8 * j) == dlci {
+            s = count_piece(file, w, p, j, s);
+        }
+    }
+    s
+}
+
+// ---- writing
+
+// The direction in the second word of a row.
+fn direction_of(word: u32) -> Direction
+    ensures { λ r. ⌜ rxOf r ≡ word % 2 ⌝ }
+{
+    if word % 2 == 1 {
+        return Direction::Rx;
+    }
+    Direction::Tx
+}
+
+// Writes the spans that piece i brings, behind the h bytes held.
+fn write_joined(
+    file: &[u8],
+    w: &mut [u8],
+    p: Plan,
+    i: usize,
+    out: &mut [u8],
+    at: usize,
+    h: usize,
+) -> usize
+    requires { ⌜ WriteHeld (now file) (now w) p i (now out) at h ⌝ }
+    ensures { λ r. ⌜ WroteStep (now (file .entry)) (now (w .entry)) p i (now (out .entry)) at (now (w .exit)) r (now (out .exit)) ⌝ }
+{
+    let row = p.rows + 8 * i;
+    let direction = direction_of(get32(w, row + 1));
+    let ms = get64(w, row + 6);
+    let n = join(file, w, p, i, h);
+    let area = p.area;
+    let end = area + n;
+    let c = write_part(&w[area..end], direction, ms, out, at);
+    let r = capped(c.rest);
+    put32(w, p.held + i, r);
+    c.at
+}
+
+// Writes the spans that piece i brings.
+fn write_piece(file: &[u8], w: &mut [u8], p: Plan, i: usize, out: &mut [u8], at: usize) -> usize
+    requires { ⌜ WritePre (now file) (now w) p i (now out) at ⌝ }
+    ensures { λ r. ⌜ WroteStep (now (file .entry)) (now (w .entry)) p i (now (out .entry)) at (now (w .exit)) r (now (out .exit)) ⌝ }
+{
+    let h = held_before(w, p, i);
+    if is_silent(file, w, p, i, h) {
+        hold_more(w, p, i, h);
+        return at;
+    }
+    write_joined(file, w, p, i, out, at, h)
+}
+
+// Writes the list of the DLCI's spans, and returns its length.
+pub fn write_spans(file: &[u8], w: &mut [u8], p: Plan, out: &mut [u8]) -> usize
+    requires { ⌜ ListPre (now file) (now w) p (now out) ⌝ }
+    ensures { λ r. ⌜ WriteIs (now (file .entry)) (now (w .entry)) p (now (out .entry)) (now (w .exit)) r (now (out .exit)) ⌝ }
+{
+    let n = p.n;
+    let rows = p.rows;
+    let dlci = p.dlci;
+    let mut at = 0;
+    let mut i = 0;
+    while i < n {
+        let j = i;
+        i += 1;
+        if get32(w, rows + 8 * j) == dlci {
+            at = write_piece(file, w, p, j, out, at);
+        }
+    }
+    at
+}

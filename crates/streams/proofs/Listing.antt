@@ -1,0 +1,76 @@
+-- What the call that lists the spans answers, from the choice.
+use Prim.Native.Nat.{ℕ, _+_, _*_, _/_, _<_, _≤_}
+use mathlib.Core.Path.{_≡_, refl, sym, ap, _∙_}
+use mathlib.Core.List.{List, [], _∷_}
+use mathlib.Core.Option.{Option, none, some}
+use native.Mathlib.Omega.{arith}
+use lib.ListN.{length}
+use Rattle.laws.specs.Answers.{Outcome, gives, Meets, meets-refused, meets-short, meets-wrote}
+use Rattle.laws.specs.Stores.{Writes}
+use Rattle.words.specs.Front.{Front, front-then}
+use Rattle.items.specs.Items.{spanList}
+use Rattle.rfcomm.specs.Pieces.{Piece}
+use Rattle.spans.specs.Spans.{spans, unfinished, onDlci}
+use Rattle.split.specs.Rows.{all}
+use Rattle.split.specs.Walks.{ListPre, WriteIs}
+use Rattle.split.specs.declared.Plan.{Plan}
+use Rattle.outcome.specs.Import.{chosen, listed, given}
+use Rattle.streams.specs.Streams.{channelOf, planOf, tablePieces, Tabled, streamOf, choiceOf, Chooses, told, ListsSpans}
+use Rattle.streams.specs.declared.Channel.{Channel}
+use Rattle.streams.specs.declared.Stream.{Stream}
+use Rattle.streams.specs.declared.Choice.{Choice}
+use Rattle.streams.specs.declared.Choice.the-variants.{Nothing, Chosen}
+use Rattle.streams.specs.declared.Listed.the-variants.{NoStream, OutShort, Spans}
+use Rattle.streams.proofs.Choosing.{laid-later, all-same, front-plan}
+
+choice-none : (ps : List Piece) (o : Option ℕ) → Nothing ≡ choiceOf ps o → o ≡ none
+unfolding choiceOf
+choice-none ps none e = refl
+choice-none ps (some d) e = let z : _≡_ {A = ℕ} 0 1 = cc in absurd (omega arith)
+
+choice-some : (ps : List Piece) (o : Option ℕ) (s : Stream) → Chosen s ≡ choiceOf ps o → (o ≡ some (s .dlci)) × (s ≡ streamOf ps (s .dlci))
+unfolding choiceOf streamOf
+choice-some ps none s e = let z : _≡_ {A = ℕ} 0 1 = cc in absurd (omega arith)
+choice-some ps (some d) s e = let z : s ≡ streamOf ps d = cc in (rw z, rw z)
+
+module _ (f w : List ℕ) (n : ℕ) (channel : Channel) (u : List ℕ) (c : Choice) (q : Chooses f w n channel u c) (out : List ℕ) where
+  pub lists-none : c ≡ Nothing → ListsSpans f w n channel out NoStream u out
+  unfolding listed given told
+  lists-none e =
+      let z : chosen (channelOf channel) (tablePieces f w n) ≡ none = choice-none (tablePieces f w n) (chosen (channelOf channel) (tablePieces f w n)) (sym e ∙ q .chooses) in
+      record { meets = λ tail. meets-refused (given (listed (tablePieces f w n) tail (chosen (channelOf channel) (tablePieces f w n)))) out 6 [] (rw z); front = q .front }
+
+  module _ (s : Stream) (e : c ≡ Chosen s) where
+    of-stream : (chosen (channelOf channel) (tablePieces f w n) ≡ some (s .dlci)) × (s ≡ streamOf (tablePieces f w n) (s .dlci))
+    of-stream = choice-some (tablePieces f w n) (chosen (channelOf channel) (tablePieces f w n)) s (sym e ∙ q .chooses)
+
+    abbrev list : List ℕ
+    list = spanList (spans (onDlci (s .dlci) (tablePieces f w n)))
+
+    needed : s .bytes ≡ length list
+    unfolding streamOf
+    needed = ap (λ (x : Stream). x .bytes) (of-stream .1)
+
+    gives-list : (tail : ℕ) → given (listed (tablePieces f w n) tail (chosen (channelOf channel) (tablePieces f w n))) ≡ gives (s .dlci ∷ s .spans ∷ s .unfinished ∷ tail ∷ s .bytes ∷ []) list
+    unfolding given listed streamOf
+    gives-list tail =
+        let a : s .spans ≡ length (spans (onDlci (s .dlci) (tablePieces f w n))) = ap (λ (x : Stream). x .spans) (of-stream .1) in
+        let b : s .unfinished ≡ unfinished (onDlci (s .dlci) (tablePieces f w n)) = ap (λ (x : Stream). x .unfinished) (of-stream .1) in
+        rw (of-stream .0, a, b, needed)
+
+    pub lists-short : length out < s .bytes → ListsSpans f w n channel out (OutShort (s .bytes)) u out
+    unfolding told
+    lists-short h = record { meets = λ tail. meets-short _ out _ list (s .bytes) (gives-list tail) needed h; front = q .front }
+
+    module _ (t : Tabled f w n) (h : s .bytes ≤ length out) (k : length u ≡ length w) (p : Plan) (ep : p ≡ planOf (length f / 4) n (s .dlci)) where
+      pub lists-pre : ListPre f u p out
+      lists-pre = record { laid = laid-later f w n t u (q .front) k p (s .dlci) ep; room = rw (all-same f w n t u (q .front) p (s .dlci) ep) (omega (arith, needed)) }
+
+      pub lists-all : (v : List ℕ) (r : ℕ) (out′ : List ℕ) → WriteIs f u p out v r out′ → ListsSpans f w n channel out (Spans s) v out′
+      unfolding told
+      lists-all v r out′ y =
+          let x : Writes out 0 list r out′ = rw (all-same f w n t u (q .front) p (s .dlci) ep) at (y .writes) in
+          record {
+            meets = λ tail. meets-wrote _ out _ list r out′ (gives-list tail) (omega (arith, needed)) x;
+            front = front-then (24 * (length f / 4)) v u w (front-plan f v u n (s .dlci) p ep (y .front)) (q .front);
+          }

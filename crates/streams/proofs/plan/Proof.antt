@@ -1,0 +1,28 @@
+use Rattle.streams.specs.Streams.{planOf}
+use mathlib.Core.Path.{refl}
+use native.Mathlib.Omega.{arith}
+use borrow.Author.Needs.{needs}
+use Rattle.streams.proofs.plan.Statement.{statement}
+use Rattle.streams.proofs.plan.Tie as tie
+use Rattle.streams.proofs.plan.Reads as reads
+use Rattle.streams.proofs.plan.Lts as lts
+
+-- src/lib.rt:69:15
+mul-t4 : tie.Need-mul-t4
+mul-t4 c = search needs
+
+-- src/lib.rt:71:15
+mul-t5 : tie.Need-mul-t5
+mul-t5 c = search needs
+
+-- src/lib.rt:72:15
+mul-t6 : tie.Need-mul-t6
+mul-t6 c = search needs
+
+-- src/lib.rt:64:1
+returns : tie.Need-returns
+unfolding planOf
+returns c = refl
+
+pub plan-spec : {M : Type 1} → statement M
+plan-spec = tie.close (tie.spec mul-t4 mul-t5 mul-t6 returns)

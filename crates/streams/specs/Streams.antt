@@ -1,0 +1,74 @@
+-- The DLCI chosen, with what is counted of it; and what the call that lists its spans answers.
+use Prim.Native.Nat.{ℕ, _+_, _*_, _/_, _<_, _≤_}
+use mathlib.Core.Path.{_≡_, refl}
+use mathlib.Core.List.{List, [], _∷_}
+use mathlib.Core.Option.{Option, none, some}
+use lib.ListN.{length}
+use Rattle.laws.specs.Answers.{Answer, accepted, refused, Meets}
+use Rattle.words.specs.Front.{Front}
+use Rattle.items.specs.Items.{spanList}
+use Rattle.rfcomm.specs.Pieces.{Piece}
+use Rattle.rfcomm.specs.PieceTable.{piecesFrom, Pieced}
+use Rattle.spans.specs.Spans.{spans, unfinished, onDlci}
+use Rattle.split.specs.declared.Plan.{Plan}
+use Rattle.outcome.specs.Import.{chosen, listed, given}
+use Rattle.streams.specs.declared.Channel.{Channel}
+use Rattle.streams.specs.declared.Channel.the-variants.{Any, Only}
+use Rattle.streams.specs.declared.Stream.{Stream}
+use Rattle.streams.specs.declared.Choice.{Choice}
+use Rattle.streams.specs.declared.Choice.the-variants.{Nothing, Chosen}
+use Rattle.streams.specs.declared.Listed.{Listed}
+use Rattle.streams.specs.declared.Listed.the-variants.{NoStream, OutShort, Spans}
+
+unfoldable pub channelOf : Channel → Option ℕ
+channelOf Any = none
+channelOf (Only c) = some c
+
+-- ---- the table of pieces in work
+
+-- for a file of n bytes words of 4 are counted in quarters: the pieces from word 5 * n / 4 on, the lengths held from word 6 * n / 4 on,
+-- and from byte 7 * n on, all rounded down, what a key holds
+unfoldable pub planOf : ℕ → ℕ → ℕ → Plan
+planOf q n d = record { rows = 5 * q; n = n; held = 6 * q; area = 28 * q; dlci = d }
+
+-- the pieces that the table holds
+abbrev pub tablePieces : List ℕ → List ℕ → ℕ → List Piece
+tablePieces f w n = piecesFrom f w (5 * (length f / 4)) 0 n
+
+abbrev pub Tabled : List ℕ → List ℕ → ℕ → Type 0
+Tabled f w n = Pieced f w n (tablePieces f w n)
+
+-- a table that holds a list of pieces is such a table
+pub tabled : (f w : List ℕ) (n : ℕ) (ps : List Piece) → Pieced f w n ps → Tabled f w n
+tabled f w n ps p = record { list = refl; within = p .within; few = p .few; small = p .small; room = p .room }
+
+-- ---- the choice
+
+unfoldable pub streamOf : List Piece → ℕ → Stream
+streamOf ps d = record {
+  dlci = d;
+  spans = length (spans (onDlci d ps));
+  bytes = length (spanList (spans (onDlci d ps)));
+  unfinished = unfinished (onDlci d ps);
+}
+
+unfoldable pub choiceOf : List Piece → Option ℕ → Choice
+choiceOf ps none = Nothing
+choiceOf ps (some d) = Chosen (streamOf ps d)
+
+pub record Chooses (f w : List ℕ) (n : ℕ) (channel : Channel) (u : List ℕ) (r : Choice) : Type 0 where
+  pub chooses : r ≡ choiceOf (tablePieces f w n) (chosen (channelOf channel) (tablePieces f w n))
+  pub front : Front (24 * (length f / 4)) u w
+
+-- ---- the list
+
+-- 6, 7, or DLCI, spans, unfinished, the tail offset that the caller knows, and the bytes written
+unfoldable pub told : ℕ → Listed → Answer
+told tail NoStream = refused 6 []
+told tail (OutShort n) = refused 7 (n ∷ [])
+told tail (Spans s) = accepted (s .dlci ∷ s .spans ∷ s .unfinished ∷ tail ∷ s .bytes ∷ [])
+
+-- the answer and the output are those of the list of the DLCI chosen, whatever the tail offset is
+pub record ListsSpans (f w : List ℕ) (n : ℕ) (channel : Channel) (out : List ℕ) (r : Listed) (u out′ : List ℕ) : Type 0 where
+  pub meets : (tail : ℕ) → Meets (given (listed (tablePieces f w n) tail (chosen (channelOf channel) (tablePieces f w n)))) out (told tail r) out′
+  pub front : Front (24 * (length f / 4)) u w

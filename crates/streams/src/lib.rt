@@ -1,0 +1,134 @@
+// The DLCI chosen, and the list of its spans.
+ghost use mathlib.Core.Path.{_≡_};
+ghost use Prim.Native.Nat.{_*_, _/_, _≤_, _<_};
+ghost use lib.ListN.{length, getD, set};
+ghost use Rattle.outcome.specs.Import.{onChannel};
+ghost use Rattle.streams.specs.Streams.{channelOf, planOf, Tabled, Chooses, ListsSpans};
+use spans::Tally;
+use split::Plan;
+use split::Sums;
+use split::count_spans;
+use split::write_spans;
+use words::get32;
+
+// The channel that is asked for: any, or one.
+pub enum Channel {
+    Any,
+    Only(u8),
+}
+
+// A DLCI with what is counted of it: its spans, the bytes of their list, and its buffers that are not empty at the end.
+pub struct Stream {
+    pub dlci: u8,
+    pub spans: usize,
+    pub bytes: usize,
+    pub unfinished: usize,
+}
+
+pub enum Choice {
+    Nothing,
+    Chosen(Stream),
+}
+
+// Whether the channel, if one is given, is the DLCI divided by 2.
+fn on_channel(channel: Channel, dlci: u32) -> bool
+    ensures { λ r. ⌜ r ≡ onChannel (channelOf channel) dlci ⌝ }
+{
+    match channel {
+        Channel::Any => true,
+        Channel::Only(c) => dlci / 2 == c as u32,
+    }
+}
+
+// 1 if the DLCI was tried before.
+fn was_tried(tried: &[u8], dlci: u32) -> u8
+    ensures { λ r. ⌜ r ≡ getD (now (tried .entry)) dlci 0 ⌝ }
+{
+    let k = dlci as usize;
+    if k < tried.len() {
+        return tried[k];
+    }
+    0
+}
+
+fn mark(tried: &mut [u8], dlci: u32)
+    ensures { λ _. ⌜ now (tried .exit) ≡ set (now (tried .entry)) dlci 1 ⌝ }
+{
+    let k = dlci as usize;
+    if k < tried.len() {
+        tried[k] = 1;
+    }
+}
+
+// Where the tables lie in work, for a file of 4 * q bytes or a little more.
+fn plan(q: usize, n: usize, dlci: u32) -> Plan
+    requires { ⌜ q ≤ 1048576 ⌝ }
+    ensures { λ r. ⌜ r ≡ planOf q n dlci ⌝ }
+{
+    Plan {
+        rows: 5 * q,
+        n: n,
+        held: 6 * q,
+        area: 28 * q,
+        dlci: dlci,
+    }
+}
+
+// The first DLCI seen, on the channel, that has a span which unpacks.
+pub fn choose_dlci(file: &[u8], w: &mut [u8], n: usize, channel: Channel) -> Choice
+    requires { ⌜ Tabled (now file) (now w) n ⌝ }
+    ensures { λ r. ⌜ Chooses (now (file .entry)) (now (w .entry)) n channel (now (w .exit)) r ⌝ }
+{
+    let q = file.len() / 4;
+    let mut tried = [0u8; 64];
+    let mut i = 0;
+    while i < n {
+        let d = get32(w, 5 * q + 8 * i);
+        i += 1;
+        if on_channel(channel, d) {
+            if was_tried(&tried, d) == 0 {
+                mark(&mut tried, d);
+                let p = plan(q, n, d);
+                let s = count_spans(file, w, p);
+                let t = s.tally;
+                if t.frame {
+                    let found = Stream {
+                        dlci: d as u8,
+                        spans: t.count,
+                        bytes: t.bytes,
+                        unfinished: s.unfinished,
+                    };
+                    return Choice::Chosen(found);
+                }
+            }
+        }
+    }
+    Choice::Nothing
+}
+
+// What the call answers: 6 and 7 by number, or the DLCI with its spans, unfinished, and the bytes written.
+pub enum Listed {
+    NoStream,
+    OutShort(usize),
+    Spans(Stream),
+}
+
+// Lists the spans of the DLCI chosen, for the n pieces in the table.
+pub fn list_spans(file: &[u8], w: &mut [u8], n: usize, channel: Channel, out: &mut [u8]) -> Listed
+    requires { ⌜ Tabled (now file) (now w) n ⌝ }
+    ensures { λ r. ⌜ ListsSpans (now (file .entry)) (now (w .entry)) n channel (now (out .entry)) r (now (w .exit)) (now (out .exit)) ⌝ }
+{
+    let c = choose_dlci(file, w, n, channel);
+    match c {
+        Choice::Nothing => Listed::NoStream,
+        Choice::Chosen(s) => {
+            if out.len() < s.bytes {
+                return Listed::OutShort(s.bytes);
+            }
+            let q = file.len() / 4;
+            let p = plan(q, n, s.dlci as u32);
+            write_spans(file, w, p, out);
+            Listed::Spans(s)
+        }
+    }
+}
