@@ -1,0 +1,330 @@
+-- Walking a list in code: what a step reads, what a check answers, and, once a list is checked, what stands at each place of it.
+use Prim.Native.Nat.{ℕ, zero, suc, _+_, _-_, _*_, _<_, _≤_}
+use mathlib.Core.Path.{_≡_, refl, sym, ap, _∙_}
+use mathlib.Core.Bool.{Bool, true, false, cond, _||_}
+use mathlib.Core.List.{List, [], _∷_, _++_, map}
+use native.Mathlib.Nat.{add-zero, zero-add, sub-zero}
+use native.Mathlib.Omega.{arith}
+use lib.Dec.{leb, eqb}
+use lib.ListN.{length, getD, take, drop, length-drop, length-map}
+use lib.Seq.{drop-drop, getD-take, drop-nil, take-nil, length-take-le}
+use borrow.Author.Tests.{leb-true, leb-false, le-leb, lt-leb, eqb-true, eq-eqb}
+use Rattle.laws.specs.Choice.{splitB, split≤, no-way}
+use Rattle.laws.specs.Numbers.{le16, le32, le64}
+use Rattle.items.specs.Items.{Span, span, rxOf, Item, itemAt, endAt, Test, isItem, Listed, wellFormed, illFormed, more, mapped, passing, readItems, spanTest, spanOf, spansIn, nameTest, namesIn}
+use Rattle.items.specs.Reading.{readFrom, read-good, read-bad, read-end, le32-drop}
+use Rattle.items.specs.declared.Direction.{Direction}
+use Rattle.items.specs.declared.Direction.the-variants.{Rx, Tx}
+use Rattle.items.specs.declared.Listing.{Listing}
+use Rattle.items.specs.declared.Listing.the-variants.{Spans, Names}
+use Rattle.items.specs.declared.Step.{Step}
+use Rattle.items.specs.declared.Step.the-variants.{Whole, Passes, End}
+use Rattle.items.specs.declared.Checked.{Checked}
+use Rattle.items.specs.declared.Checked.the-variants.{Well, Ill}
+use Rattle.items.specs.declared.SpanPart.{SpanPart}
+use Rattle.items.specs.declared.NamePart.{NamePart}
+
+-- the kinds and bodies of a list
+abbrev pub testOf : Listing → Test
+testOf Spans = spanTest
+testOf Names = nameTest
+
+-- what stands at a place: an item, with its kind and the start and the end of its body; one that passes the end; or the list's end
+unfoldable pub stepAt : List ℕ → ℕ → Step
+stepAt l at = cond (leb (length l) at) End (cond (leb (endAt l at) (length l)) (Whole (itemAt l at .kind) (at + 6) (endAt l at)) Passes)
+
+-- the place after the item there, or 0 where the list is ill-formed
+unfoldable pub passAt : Test → List ℕ → ℕ → ℕ
+passAt ok l at = cond (isItem ok l at) (endAt l at) 0
+
+-- the number of items, or the offset at which the list is ill-formed
+unfoldable pub checkOf : {A : Type 0} → Listed A → Checked
+checkOf (wellFormed xs) = Well (length xs)
+checkOf (illFormed n) = Ill n
+
+-- ---- a list that is well-formed from a place on, and its items from there on
+
+abbrev pub held : {A : Type 0} → Listed A → List A
+held (wellFormed xs) = xs
+held (illFormed n) = []
+
+unfoldable pub itemsFrom : Test → List ℕ → ℕ → List Item
+itemsFrom ok l at = held (readFrom ok l at)
+
+unfoldable pub spansFrom : List ℕ → ℕ → List Span
+spansFrom l at = map spanOf (itemsFrom spanTest l at)
+
+unfoldable pub namesFrom : List ℕ → ℕ → List (List ℕ)
+namesFrom l at = map (λ (x : Item). x .body) (itemsFrom nameTest l at)
+
+pub record Walks (ok : Test) (l : List ℕ) (at : ℕ) : Type 0 where
+  pub within : at ≤ length l
+  pub well : readFrom ok l at ≡ wellFormed (itemsFrom ok l at)
+
+-- a turn of a walk: the item at a place is the first of those from there on, and the rest are those from its end on
+pub record Turn (ok : Test) (l : List ℕ) (at : ℕ) : Type 0 where
+  pub past : at + 6 ≤ endAt l at
+  pub passes : ok (itemAt l at .kind) (itemAt l at .body) ≡ true
+  pub head : itemsFrom ok l at ≡ itemAt l at ∷ itemsFrom ok l (endAt l at)
+  pub next : Walks ok l (endAt l at)
+
+pub good-fits : (ok : Test) (l : List ℕ) (at : ℕ) → isItem ok l at ≡ true → endAt l at ≤ length l
+unfolding isItem
+good-fits ok l at e =
+    splitB (leb (endAt l at) (length l))
+    (λ h. leb-true (endAt l at) (length l) h)
+    (λ h. no-way e (rw h))
+
+good-passes : (ok : Test) (l : List ℕ) (at : ℕ) → isItem ok l at ≡ true → ok (itemAt l at .kind) (itemAt l at .body) ≡ true
+unfolding isItem
+good-passes ok l at e = rw (le-leb (endAt l at) (length l) (good-fits ok l at e)) at e
+
+pub end-past : (l : List ℕ) (at : ℕ) → at + 6 ≤ endAt l at
+unfolding endAt
+end-past l at = omega arith
+
+end-is : (l : List ℕ) (at : ℕ) → endAt l at ≡ at + 6 + le32 l at
+unfolding endAt
+end-is l at = refl
+
+kind-is : (l : List ℕ) (at : ℕ) → itemAt l at .kind ≡ le16 l (at + 4)
+unfolding itemAt
+kind-is l at = refl
+
+rest-well : (x : Item) (r : Listed Item) (xs : List Item) → more x r ≡ wellFormed xs → r ≡ wellFormed (held r)
+rest-well x (wellFormed ys) xs e = refl
+rest-well x (illFormed n) xs e = let z : _≡_ {A = ℕ} 0 1 = cc in absurd (omega arith)
+
+rest-held : (x : Item) (r : Listed Item) (xs : List Item) → more x r ≡ wellFormed xs → held (more x r) ≡ x ∷ held r
+rest-held x (wellFormed ys) xs e = refl
+rest-held x (illFormed n) xs e = let z : _≡_ {A = ℕ} 0 1 = cc in absurd (omega arith)
+
+module _ (ok : Test) (l : List ℕ) (at : ℕ) (w : Walks ok l at) where
+  pub walks-turn : at < length l → Turn ok l at
+  unfolding itemsFrom
+  walks-turn h =
+      splitB (isItem ok l at)
+      (λ g.
+      let e = read-good ok l at h g in
+      let q : more (itemAt l at) (readFrom ok l (endAt l at)) ≡ wellFormed (itemsFrom ok l at) = sym e ∙ w .well in
+      record {
+        past = end-past l at;
+        passes = good-passes ok l at g;
+        head = rw e (rest-held (itemAt l at) (readFrom ok l (endAt l at)) (itemsFrom ok l at) q);
+        next = record { within = good-fits ok l at g; well = rest-well (itemAt l at) (readFrom ok l (endAt l at)) (itemsFrom ok l at) q };
+      })
+      (λ g. let e : illFormed at ≡ wellFormed (itemsFrom ok l at) = sym (read-bad ok l at h g) ∙ w .well in
+      let z : _≡_ {A = ℕ} 0 1 = cc in absurd (omega arith))
+
+  pub walks-end : length l ≤ at → itemsFrom ok l at ≡ []
+  unfolding itemsFrom
+  walks-end h = rw (read-end ok l at h)
+
+few-by : (ok : Test) (l : List ℕ) (k at : ℕ) → Walks ok l at → length l ≤ at + k → at + 6 * length (itemsFrom ok l at) ≤ length l
+few-by ok l zero at w h = rw (walks-end ok l at w (omega arith)) (omega (arith, w .within))
+few-by ok l (suc k) at w h =
+    split≤ (length l) at
+    (λ g. rw (walks-end ok l at w g) (omega (arith, w .within)))
+    (λ g.
+    let t = walks-turn ok l at w g in
+    rw (t .head) (omega (arith, t .past, few-by ok l k (endAt l at) (t .next) (omega (arith, t .past)))))
+
+-- an item takes at least 6 bytes
+pub items-few : (ok : Test) (l : List ℕ) (at : ℕ) → Walks ok l at → at + 6 * length (itemsFrom ok l at) ≤ length l
+items-few ok l at w = few-by ok l (length l) at w (omega arith)
+
+-- ---- what a check says
+
+-- a list that passed, with so many items
+pub record Good (ok : Test) (l : List ℕ) (n : ℕ) : Type 0 where
+  pub reads : readItems ok l ≡ wellFormed (itemsFrom ok l 0)
+  pub walks : Walks ok l 0
+  pub count : n ≡ length (itemsFrom ok l 0)
+  pub small : length l ≤ 16777216
+
+well-held : {A : Type 0} (r : Listed A) (n : ℕ) → checkOf r ≡ Well n → r ≡ wellFormed (held r)
+unfolding checkOf
+well-held (wellFormed xs) n e = refl
+well-held (illFormed m) n e = let z : _≡_ {A = ℕ} 0 1 = cc in absurd (omega arith)
+
+well-count : {A : Type 0} (r : Listed A) (n : ℕ) → checkOf r ≡ Well n → n ≡ length (held r)
+unfolding checkOf
+well-count (wellFormed xs) n e = cc
+well-count (illFormed m) n e = let z : _≡_ {A = ℕ} 0 1 = cc in absurd (omega arith)
+
+ill-at : {A : Type 0} (r : Listed A) (n : ℕ) → checkOf r ≡ Ill n → r ≡ illFormed n
+unfolding checkOf
+ill-at (wellFormed xs) n e = let z : _≡_ {A = ℕ} 0 1 = cc in absurd (omega arith)
+ill-at (illFormed m) n e = cc
+
+no-well : {G : Type 0} (m n : ℕ) → checkOf {A = Item} (illFormed m) ≡ Well n → G
+unfolding checkOf
+no-well m n e = let z : _≡_ {A = ℕ} 0 1 = cc in absurd (omega arith)
+
+module _ (ok : Test) (l : List ℕ) (r : Checked) (n : ℕ) (c : r ≡ checkOf (readItems ok l)) where
+  pub checked-good : r ≡ Well n → Good ok l n
+  unfolding readItems readFrom itemsFrom
+  checked-good e =
+      splitB (leb (length l) 16777216)
+      (λ h.
+      let q : checkOf (readFrom ok l 0) ≡ Well n = rw h at (sym c ∙ e) in
+      let w = well-held (readFrom ok l 0) n q in
+      record {
+        reads = rw h w;
+        walks = record { within = omega arith; well = w };
+        count = well-count (readFrom ok l 0) n q;
+        small = leb-true (length l) 16777216 h;
+      })
+      (λ h. no-well 0 n (rw h at (sym c ∙ e)))
+
+  pub checked-ill : r ≡ Ill n → readItems ok l ≡ illFormed n
+  checked-ill e = ill-at (readItems ok l) n (sym c ∙ e)
+
+-- ---- spans
+
+pub spans-in : (l : List ℕ) (n : ℕ) → Good spanTest l n → spansIn l ≡ wellFormed (spansFrom l 0)
+unfolding spansIn spansFrom
+spans-in l n g = rw (g .reads)
+
+pub spans-ill : (l : List ℕ) (n : ℕ) → readItems spanTest l ≡ illFormed n → spansIn l ≡ illFormed n
+unfolding spansIn
+spans-ill l n e = rw e
+
+pub spans-end : (l : List ℕ) (at : ℕ) → Walks spanTest l at → length l ≤ at → spansFrom l at ≡ []
+unfolding spansFrom
+spans-end l at w h = rw (walks-end spanTest l at w h)
+
+-- the span at a place of a list that is well-formed from there on
+pub record SpanIs (l : List ℕ) (at : ℕ) (s : SpanPart) : Type 0 where
+  pub head : spansFrom l at ≡ span (rxOf (s .direction)) (s .ms) (take (s .end - s .start) (drop (s .start) l)) ∷ spansFrom l (s .end)
+  pub start : s .start ≡ at + 14
+  pub end : s .end ≡ endAt l at
+  pub long : s .start ≤ s .end
+  pub next : Walks spanTest l (s .end)
+
+-- kind 1 is Rx and 2 is Tx
+unfoldable pub directionOf : ℕ → Direction
+directionOf kind = cond (eqb kind 1) Rx Tx
+
+drop-take : (a n : ℕ) (l : List ℕ) → drop a (take n l) ≡ take (n - a) (drop a l)
+drop-take zero n l = rw sub-zero
+drop-take (suc a) zero l = let e : 0 - suc a ≡ 0 = omega arith in rw e
+drop-take (suc a) (suc n) [] = rw take-nil
+drop-take (suc a) (suc n) (x ∷ l) = let e : suc n - suc a ≡ n - a = omega arith in rw e (drop-take a n l)
+
+le32-take : (l : List ℕ) (n i : ℕ) → i + 4 ≤ n → le32 (take n l) i ≡ le32 l i
+unfolding le32
+le32-take l n i h = rw (getD-take n l i 0 (omega arith), getD-take n l (i + 1) 0 (omega arith), getD-take n l (i + 2) 0 (omega arith), getD-take n l (i + 3) 0 (omega arith))
+
+module _ (l : List ℕ) (at : ℕ) where
+  body-long : endAt l at ≤ length l → length (itemAt l at .body) ≡ le32 l at
+  unfolding itemAt endAt
+  body-long h = length-take-le (le32 l at) (drop (at + 6) l) (omega (arith, length-drop (at + 6) l))
+
+  body-time : 8 ≤ le32 l at → le64 (itemAt l at .body) 0 ≡ le64 l (at + 6)
+  unfolding itemAt le64
+  body-time h =
+      let e : at + 6 + 0 ≡ at + 6 = omega arith in
+      rw (le32-take (drop (at + 6) l) (le32 l at) 0 (omega arith), le32-take (drop (at + 6) l) (le32 l at) (0 + 4) (omega arith), le32-drop l (at + 6) 0, le32-drop l (at + 6) 4, e)
+
+  body-wire : drop 8 (itemAt l at .body) ≡ take (endAt l at - (at + 14)) (drop (at + 14) l)
+  unfolding itemAt endAt
+  body-wire =
+      let e : at + 6 + 8 ≡ at + 14 = omega arith in
+      let n : le32 l at - 8 ≡ at + 6 + le32 l at - (at + 14) = omega arith in
+      drop-take 8 (le32 l at) (drop (at + 6) l) ∙ rw (drop-drop 8 (at + 6) l, e, n)
+
+  test-long : (body : List ℕ) (kind : ℕ) → spanTest kind body ≡ true → 8 ≤ length body
+  unfolding spanTest
+  test-long body kind e = splitB (leb 8 (length body)) (λ h. leb-true 8 (length body) h) (λ h. no-way e (rw h))
+
+  test-rx : (body : List ℕ) (kind : ℕ) → spanTest kind body ≡ true → rxOf (directionOf kind) ≡ 2 - kind
+  unfolding spanTest directionOf rxOf
+  test-rx body kind e =
+      let f : (eqb kind 1 || eqb kind 2) ≡ true = rw (le-leb 8 (length body) (test-long body kind e)) at e in
+      splitB (eqb kind 1)
+      (λ g. rw (g, eqb-true kind 1 g))
+      (λ g. let k : kind ≡ 2 = eqb-true kind 2 (rw g at f) in rw k)
+
+  module _ (w : Walks spanTest l at) (h : at < length l) where
+    span-long : at + 14 ≤ endAt l at
+    span-long =
+        let t = walks-turn spanTest l at w h in
+        let a : length (itemAt l at .body) ≡ le32 l at = body-long (t .next .within) in
+        let b = test-long (itemAt l at .body) (itemAt l at .kind) (t .passes) in
+        let e = end-is l at in
+        omega arith
+
+    span-head : spansFrom l at ≡ spanOf (itemAt l at) ∷ spansFrom l (endAt l at)
+    unfolding spansFrom
+    span-head = rw (walks-turn spanTest l at w h .head)
+
+    span-of : spanOf (itemAt l at) ≡ span (rxOf (directionOf (le16 l (at + 4)))) (le64 l (at + 6)) (take (endAt l at - (at + 14)) (drop (at + 14) l))
+    unfolding spanOf
+    span-of =
+        let t = walks-turn spanTest l at w h in
+        let n : 8 ≤ le32 l at = omega (arith, span-long, end-is l at) in
+        rw (body-time n, body-wire, ← test-rx (itemAt l at .body) (itemAt l at .kind) (t .passes), kind-is l at)
+
+    pub span-room : at + 14 ≤ length l
+    span-room = omega (arith, span-long, walks-turn spanTest l at w h .next .within)
+
+    -- from what is read there
+    pub span-is : (d : Direction) (x size kind ms : ℕ) → x ≡ le32 l at → size ≡ x → kind ≡ le16 l (at + 4) → d ≡ directionOf kind → ms ≡ le64 l (at + 6) → SpanIs l at (record { direction = d; ms = ms; start = at + 14; end = at + 6 + size })
+    span-is d x size kind ms r s k p q =
+        let t = walks-turn spanTest l at w h in
+        let e : at + 6 + size ≡ endAt l at = rw (s, r) (sym (end-is l at)) in
+        record {
+          head = rw (e, p, k, q) (span-head ∙ rw span-of);
+          start = refl;
+          end = e;
+          long = omega (arith, span-long);
+          next = rw e (t .next);
+        }
+
+-- ---- names
+
+pub names-in : (l : List ℕ) (n : ℕ) → Good nameTest l n → namesIn l ≡ wellFormed (namesFrom l 0)
+unfolding namesIn namesFrom
+names-in l n g = rw (g .reads)
+
+pub names-ill : (l : List ℕ) (n : ℕ) → readItems nameTest l ≡ illFormed n → namesIn l ≡ illFormed n
+unfolding namesIn
+names-ill l n e = rw e
+
+pub names-end : (l : List ℕ) (at : ℕ) → Walks nameTest l at → length l ≤ at → namesFrom l at ≡ []
+unfolding namesFrom
+names-end l at w h = rw (walks-end nameTest l at w h)
+
+-- the name at a place of a list that is well-formed from there on
+pub record NameIs (l : List ℕ) (at : ℕ) (n : NamePart) : Type 0 where
+  pub head : namesFrom l at ≡ take (n .end - n .start) (drop (n .start) l) ∷ namesFrom l (n .end)
+  pub start : n .start ≡ at + 6
+  pub end : n .end ≡ endAt l at
+  pub long : n .start ≤ n .end
+  pub next : Walks nameTest l (n .end)
+
+body-name : (l : List ℕ) (at : ℕ) → itemAt l at .body ≡ take (endAt l at - (at + 6)) (drop (at + 6) l)
+unfolding itemAt endAt
+body-name l at = let n : at + 6 + le32 l at - (at + 6) ≡ le32 l at = omega arith in rw n
+
+module _ (l : List ℕ) (at : ℕ) (w : Walks nameTest l at) (h : at < length l) where
+  name-head : namesFrom l at ≡ itemAt l at .body ∷ namesFrom l (endAt l at)
+  unfolding namesFrom
+  name-head = rw (walks-turn nameTest l at w h .head)
+
+  pub name-room : at + 6 ≤ length l
+  name-room = let t = walks-turn nameTest l at w h in omega (arith, t .past, t .next .within)
+
+  -- from what is read there
+  pub name-is : (x size : ℕ) → x ≡ le32 l at → size ≡ x → NameIs l at (record { start = at + 6; end = at + 6 + size })
+  name-is x size r s =
+      let t = walks-turn nameTest l at w h in
+      let e : at + 6 + size ≡ endAt l at = rw (s, r) (sym (end-is l at)) in
+      record {
+        head = rw e (name-head ∙ rw (body-name l at));
+        start = refl;
+        end = e;
+        long = omega (arith, t .past);
+        next = rw e (t .next);
+      }
