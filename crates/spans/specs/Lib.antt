@@ -1,2 +1,4 @@
 pub mod Scan
+pub mod Scanning
 pub mod Spans
+pub mod Bytewise
