@@ -1,0 +1,4 @@
+pub mod Recording
+pub mod Left
+pub mod Honest
+pub mod Claim
