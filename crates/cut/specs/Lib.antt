@@ -5,3 +5,5 @@ pub mod Claim
 pub mod Kept
 pub mod Wires
 pub mod Streams
+pub mod Counts
+pub mod Links
