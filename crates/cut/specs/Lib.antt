@@ -7,3 +7,5 @@ pub mod Wires
 pub mod Streams
 pub mod Counts
 pub mod Links
+pub mod Traces
+pub mod Calm
