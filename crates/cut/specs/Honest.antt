@@ -22,7 +22,7 @@ use Rattle.channels.specs.Channels.{named, admitted}
 use Rattle.rfcomm.specs.Frames.{frameOf}
 use Rattle.rfcomm.specs.Pieces.{Kind, asks, opens, carries, passed, frameKind, kindOf}
 use Rattle.cut.specs.Recording.{Frame, wire, Link, Mark, free, part, last, Record, Recording, rows, file}
-use Rattle.cut.specs.Left.{recordsLeft, Sent, sentIn, dataKey, linkKey, informationOf, dataOf, dataLeft}
+use Rattle.cut.specs.Left.{recordsLeft, Sent, sentIn, dataKey, linkKey, informationOf, dataOf, dataLeft, wires}
 
 -- ---- the PDUs of some records, and what each of them is there
 
@@ -150,7 +150,7 @@ pub record Honest (R : Recording) : Type 0 where
   -- ending with the PDU, no other packet of that handle and direction between. (The file may end before a data PDU does.)
   pub fragments : Fragments R nothingOpen (sentIn R (R .records))
   -- Each direction's information is packed frames, one after another; the last may be partial,
-  pub information : All (λ l. (t : Direction) → informationOf (linkKey l t) (dataOf (sentIn R (R .records))) ≡ flat (map wire (l .frames t)) ++ l .partial t) (R .links)
+  pub information : All (λ l. (t : Direction) → informationOf (linkKey l t) (dataOf (sentIn R (R .records))) ≡ flat (wires l t) ++ l .partial t) (R .links)
   -- of at most 65,536 wire bytes;
   pub sizes : All (λ l. (t : Direction) → All (λ f. length (wire f) ≤ 65536) (l .frames t)) (R .links)
   -- a beginning without its end.

@@ -90,10 +90,17 @@ abbrev pub directionOf : ℕ → Direction
 directionOf zero = Tx
 directionOf (suc r) = Rx
 
+-- what the link of a handle has in a direction, or else nothing
+unfoldable pub ofHandle : {A : Type 0} → A → (Link → Direction → A) → List Link → ℕ → ℕ → A
+ofHandle else f [] h rx = else
+ofHandle else f (l ∷ ls) h rx = cond (eqb (l .handle) h) (f l (directionOf rx)) (ofHandle else f ls h rx)
+
 -- the wires of the frames of a link direction
-unfoldable pub wiresOf : List Link → ℕ → ℕ → List (List ℕ)
-wiresOf [] h rx = []
-wiresOf (l ∷ ls) h rx = cond (eqb (l .handle) h) (map wire (l .frames (directionOf rx))) (wiresOf ls h rx)
+abbrev pub wires : Link → Direction → List (List ℕ)
+wires l t = map wire (l .frames t)
+
+abbrev pub wiresOf : List Link → ℕ → ℕ → List (List ℕ)
+wiresOf ls h rx = ofHandle [] wires ls h rx
 
 -- the frames that each data PDU brings the closing 3C of, with that PDU's direction and time; the state is how many bytes of its link direction came before
 abbrev pub closing : List Link → Machine Data Span
@@ -118,7 +125,7 @@ midFrame at came (w ∷ ws) = (ltb at came && ltb came (at + length w)) || midFr
 
 -- a link direction ends mid-frame if its data PDUs left carry bytes of a frame but not its closing 3C
 unfoldable pub endsMid : Recording → ℕ → Link → Direction → Bool
-endsMid R n l t = midFrame 0 (length (informationOf (linkKey l t) (dataLeft R n))) (map wire (l .frames t))
+endsMid R n l t = midFrame 0 (length (informationOf (linkKey l t) (dataLeft R n))) (wires l t)
 
 unfoldable pub midIn : Recording → ℕ → List Link → ℕ
 midIn R n [] = 0

@@ -9,3 +9,5 @@ pub mod Counts
 pub mod Links
 pub mod Traces
 pub mod Calm
+pub mod Growing
+pub mod Rules

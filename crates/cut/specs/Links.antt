@@ -19,7 +19,7 @@ use Rattle.mdr.specs.Escaping.{Quiet}
 use Rattle.mdr.specs.Frame.{packed, unpacksOf}
 use Rattle.mdr.specs.Wire.{Framed as PackedAs, innerOf, packed-framed, packed-least, packed-unpacks}
 use Rattle.cut.specs.Recording.{Frame, wire, Link, Recording}
-use Rattle.cut.specs.Left.{Data, linkKey, dataLeft, informationOf, directionOf, wiresOf, midFrame, endsMid, midIn}
+use Rattle.cut.specs.Left.{Data, linkKey, dataLeft, informationOf, directionOf, ofHandle, wires, wiresOf, midFrame, endsMid, midIn}
 use Rattle.cut.specs.Honest.{Different, no-more, one-more, Beginning}
 use Rattle.cut.specs.Wires.{NoEnd, Wire, wired, Begun, nothing, wire-take}
 use Rattle.cut.specs.Streams.{partialOf, Framed}
@@ -57,24 +57,24 @@ all-wires : {T : List ℕ → Type 0} → ((f : Frame) → Sized f → T (wire f
 all-wires g all-nil = all-nil
 all-wires g (all-cons {x = f} s ss) = all-cons (g f s) (all-wires g ss)
 
-pub wires-all : {T : List ℕ → Type 0} → ((f : Frame) → Sized f → T (wire f)) → {ls : List Link} → All (λ (l : Link). (t : Direction) → All Sized (l .frames t)) ls → (h r : ℕ) → All T (wiresOf ls h r)
-unfolding wiresOf
-wires-all g all-nil h r = all-nil
-wires-all {T} g (all-cons {x = l} {xs = ls} s ss) h r =
+-- what holds of each link direction holds of what is found by handle and direction
+found-all : {A : Type 0} (T : A → Type 0) (else : A) (f : Link → Direction → A) → T else → {ls : List Link} → All (λ (l : Link). (t : Direction) → T (f l t)) ls → (h r : ℕ) → T (ofHandle else f ls h r)
+unfolding ofHandle
+found-all T else f z all-nil h r = z
+found-all T else f z (all-cons {x = l} {xs = ls} s ss) h r =
     splitB (eqb (l .handle) h)
-    (λ e. rw e (all-wires g (s (directionOf r))))
-    (λ e. rw e (wires-all g ss h r))
+    (λ e. rw e (s (directionOf r)))
+    (λ e. rw e (found-all T else f z ss h r))
 
-partials-begun : {ls : List Link} → All (λ (l : Link). (t : Direction) → Beginning (l .partial t)) ls → (h r : ℕ) → Begun (partialOf ls h r)
-unfolding partialOf
-partials-begun all-nil h r = nothing
-partials-begun (all-cons {x = l} {xs = ls} s ss) h r =
-    splitB (eqb (l .handle) h)
-    (λ e. rw e (beginning-begun (s (directionOf r))))
-    (λ e. rw e (partials-begun ss h r))
+all-map : {A : Type 0} {P Q : A → Type 0} → ((x : A) → P x → Q x) → {xs : List A} → All P xs → All Q xs
+all-map g all-nil = all-nil
+all-map g (all-cons {x = x} p ps) = all-cons (g x p) (all-map g ps)
+
+pub wires-all : (T : List ℕ → Type 0) → ((f : Frame) → Sized f → T (wire f)) → {ls : List Link} → All (λ (l : Link). (t : Direction) → All Sized (l .frames t)) ls → (h r : ℕ) → All T (wiresOf ls h r)
+wires-all T g s h r = found-all (λ (ws : List (List ℕ)). All T ws) [] wires all-nil (all-map (λ l a t. all-wires g (a t)) s) h r
 
 pub links-framed : {ls : List Link} → All (λ (l : Link). (t : Direction) → All Sized (l .frames t)) ls → All (λ (l : Link). (t : Direction) → Beginning (l .partial t)) ls → Framed ls
-links-framed s b = record { whole = wires-all packed-wire s; begun = partials-begun b }
+links-framed s b = record { whole = wires-all Wire packed-wire s; begun = found-all Begun [] (λ l t. l .partial t) nothing (all-map (λ l a t. beginning-begun (a t)) b) }
 
 -- ---- a link of the list, found by its handle
 
@@ -83,26 +83,19 @@ unfolding rxOf
 direction-back Rx = refl
 direction-back Tx = refl
 
-not-handle : (h : ℕ) (l : Link) {ls : List Link} → List·Memᴰ l ls → All (λ (k : ℕ). k ≢ h) (map (λ (x : Link). x .handle) ls) → l .handle ≢ h
+abbrev pub handles : List Link → List ℕ
+handles ls = map (λ (x : Link). x .handle) ls
+
+not-handle : (h : ℕ) (l : Link) {ls : List Link} → List·Memᴰ l ls → All (λ (k : ℕ). k ≢ h) (handles ls) → l .handle ≢ h
 not-handle h l (List·Memᴰ·head e) (all-cons p ps) = rw e p
 not-handle h l (List·Memᴰ·tail m) (all-cons p ps) = not-handle h l m ps
 
-abbrev handles : List Link → List ℕ
-handles ls = map (λ (x : Link). x .handle) ls
-
-pub wires-found : (l : Link) (t : Direction) {ls : List Link} → List·Memᴰ l ls → Different (handles ls) → wiresOf ls (l .handle) (rxOf t) ≡ map wire (l .frames t)
-unfolding wiresOf
-wires-found l t (List·Memᴰ·head {x = y} e) (one-more p ps) = rw (e, eq-eqb (y .handle) (y .handle) refl, direction-back t)
-wires-found l t (List·Memᴰ·tail {x = y} m) (one-more p ps) =
+pub found : {A : Type 0} (else : A) (f : Link → Direction → A) (l : Link) (t : Direction) {ls : List Link} → List·Memᴰ l ls → Different (handles ls) → ofHandle else f ls (l .handle) (rxOf t) ≡ f l t
+unfolding ofHandle
+found else f l t (List·Memᴰ·head {x = y} e) (one-more p ps) = rw (e, eq-eqb (y .handle) (y .handle) refl, direction-back t)
+found else f l t (List·Memᴰ·tail {x = y} m) (one-more p ps) =
     let n : l .handle ≢ y .handle = not-handle (y .handle) l m p in
-    rw (ne-eqb (y .handle) (l .handle) (λ q. n (sym q))) (wires-found l t m ps)
-
-pub partial-found : (l : Link) (t : Direction) {ls : List Link} → List·Memᴰ l ls → Different (handles ls) → partialOf ls (l .handle) (rxOf t) ≡ l .partial t
-unfolding partialOf
-partial-found l t (List·Memᴰ·head {x = y} e) (one-more p ps) = rw (e, eq-eqb (y .handle) (y .handle) refl, direction-back t)
-partial-found l t (List·Memᴰ·tail {x = y} m) (one-more p ps) =
-    let n : l .handle ≢ y .handle = not-handle (y .handle) l m p in
-    rw (ne-eqb (y .handle) (l .handle) (λ q. n (sym q))) (partial-found l t m ps)
+    rw (ne-eqb (y .handle) (l .handle) (λ q. n (sym q))) (found else f l t m ps)
 
 -- ---- the link directions
 
@@ -144,10 +137,10 @@ unfolding midIn endsMid count
 mid-count R n D [] sub = refl
 mid-count R n D (l ∷ ls) sub =
     let m : List·Memᴰ l (R .links) = sub l (List·Memᴰ·head refl) in
-    rw (mid-count R n D ls (λ x i. sub x (List·Memᴰ·tail i)), wires-found l Rx m D, wires-found l Tx m D)
-    (splitB (midFrame 0 (length (informationOf (linkKey l Rx) (dataLeft R n))) (map wire (l .frames Rx)))
-    (λ e. splitB (midFrame 0 (length (informationOf (linkKey l Tx) (dataLeft R n))) (map wire (l .frames Tx))) (λ f. rw (e, f) (omega arith)) (λ f. rw (e, f) (omega arith)))
-    (λ e. splitB (midFrame 0 (length (informationOf (linkKey l Tx) (dataLeft R n))) (map wire (l .frames Tx))) (λ f. rw (e, f) (omega arith)) (λ f. rw (e, f) (omega arith))))
+    rw (mid-count R n D ls (λ x i. sub x (List·Memᴰ·tail i)), found [] wires l Rx m D, found [] wires l Tx m D)
+    (splitB (midFrame 0 (length (informationOf (linkKey l Rx) (dataLeft R n))) (wires l Rx))
+    (λ e. splitB (midFrame 0 (length (informationOf (linkKey l Tx) (dataLeft R n))) (wires l Tx)) (λ f. rw (e, f) (omega arith)) (λ f. rw (e, f) (omega arith)))
+    (λ e. splitB (midFrame 0 (length (informationOf (linkKey l Tx) (dataLeft R n))) (wires l Tx)) (λ f. rw (e, f) (omega arith)) (λ f. rw (e, f) (omega arith))))
 
 pub mid-counted : (R : Recording) (n : ℕ) → Different (handles (R .links)) → midIn R n (R .links) ≡ count (midAt R n) (directions (R .links))
 mid-counted R n D = mid-count R n D (R .links) (λ l m. m)

@@ -19,7 +19,7 @@ use Rattle.spans.specs.Scan.{spansOf, restOf, capped}
 use Rattle.spans.specs.Bytewise.{held}
 use Rattle.spans.specs.Spans.{scanner}
 use Rattle.cut.specs.Recording.{Link}
-use Rattle.cut.specs.Left.{Data, dataKey, informationOf, closedIn, directionOf, wiresOf, closing, midFrame}
+use Rattle.cut.specs.Left.{Data, dataKey, informationOf, closedIn, ofHandle, wiresOf, closing, midFrame}
 use Rattle.cut.specs.Wires.{Wire, Begun, stream, held-mid, piece-next, piece-out}
 
 -- ---- lists of data PDUs in two parts
@@ -42,9 +42,8 @@ abbrev pub plain : ℕ → ℕ → Key
 plain h r = h ∷ r ∷ []
 
 -- the partial frame of a link direction
-unfoldable pub partialOf : List Link → ℕ → ℕ → List ℕ
-partialOf [] h rx = []
-partialOf (l ∷ ls) h rx = cond (eqb (l .handle) h) (l .partial (directionOf rx)) (partialOf ls h rx)
+abbrev pub partialOf : List Link → ℕ → ℕ → List ℕ
+partialOf ls h rx = ofHandle [] (λ l t. l .partial t) ls h rx
 
 -- what a link direction sends: wires, and perhaps a beginning
 abbrev pub streamOf : List Link → ℕ → ℕ → List ℕ
