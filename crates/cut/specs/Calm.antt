@@ -64,7 +64,7 @@ carries-none d e i = refl
 
 -- ---- the pieces of DLCI d
 
-pub judgedBy : (Pdu → Kind) → List Pdu → List Judged
+unfoldable pub judgedBy : (Pdu → Kind) → List Pdu → List Judged
 judgedBy K ps = map (λ p. record { pdu = p; kind = K p }) ps
 
 dlci-append : (d : ℕ) (xs ys : List Piece) → onDlci d (xs ++ ys) ≡ onDlci d xs ++ onDlci d ys

@@ -11,3 +11,4 @@ pub mod Traces
 pub mod Calm
 pub mod Growing
 pub mod Rules
+pub mod Theorem

@@ -102,7 +102,7 @@ closed-split at a b (all-cons {x = w} {xs = ws} W Ws) h =
     (λ g. rw (lt-ltb 0 (at + length w) (omega (arith, wire-some W)), lt-leb (at + length w) a g, lt-ltb a (at + length w) g, closed-none (at + length w) 0 a Ws (omega arith))
     (splitB (leb (at + length w) b) (λ q. rw (q, closed-split (at + length w) a b Ws h, closed-none (at + length w) 0 a Ws (omega arith))) (λ q. rw (q, closed-split (at + length w) a b Ws h, closed-none (at + length w) 0 a Ws (omega arith)))))
 
-mid-none : (at came : ℕ) (ws : List (List ℕ)) → came ≤ at → midFrame at came ws ≡ false
+pub mid-none : (at came : ℕ) (ws : List (List ℕ)) → came ≤ at → midFrame at came ws ≡ false
 unfolding midFrame
 mid-none at came [] h = le-ltb at came h
 mid-none at came (w ∷ ws) h = rw (le-ltb at came h, mid-none (at + length w) came ws (omega arith))
