@@ -30,6 +30,10 @@ size-take : (m : ℕ) (r : List ℕ) → 24 ≤ m → recordSize (take m r) ≡ 
 unfolding recordSize be32
 size-take m r h = rw (getD-take m r 4 0 (omega arith), getD-take m r 5 0 (omega arith), getD-take m r 6 0 (omega arith), getD-take m r 7 0 (omega arith))
 
+-- a whole record is not empty
+pub whole-some : (r : Record) → WholeRecord r → 0 < length (r .bytes)
+whole-some r w = omega (arith, size-least (r .bytes), w)
+
 none-in : recordsIn [] ≡ []
 unfolding isWhole recordSize be32
 none-in = records-eq []
@@ -45,7 +49,7 @@ cut-short m r w h =
     (λ g. rw (length-take m r) (omega (arith, size-least (take m r))))
 
 -- nothing ends within n once the offset is past it
-left-none : (at n : ℕ) (rs : List Record) → n < at → leftFrom at n rs ≡ []
+pub left-none : (at n : ℕ) (rs : List Record) → n < at → leftFrom at n rs ≡ []
 unfolding leftFrom
 left-none at n [] h = refl
 left-none at n (r ∷ rs) h = rw (lt-leb (at + length (r .bytes)) n (omega arith)) (left-none (at + length (r .bytes)) n rs (omega arith))
