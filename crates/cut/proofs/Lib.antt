@@ -1,1 +1,2 @@
 pub mod Ties
+pub mod Tests
