@@ -1,2 +1,5 @@
 pub mod Ties
 pub mod Tests
+pub mod Made
+pub mod Recordings
+pub mod Computed
