@@ -1,10 +1,9 @@
 -- The worked example and the recording with everything are honest, and import of their cuts is computed. Each rule that is broken alone breaks the claim.
-use Prim.Native.Nat.{ℕ, zero, suc, _+_, _-_, _*_, _/_, _%_}
+use Prim.Native.Nat.{ℕ, zero, suc, _/_}
 use mathlib.Core.Path.{_≡_, refl}
-use mathlib.Core.Bool.{Bool, true, false}
+use mathlib.Core.Bool.{Bool, false}
 use mathlib.Core.List.{List, [], _∷_, _++_, map}
-use mathlib.Core.Option.{Option, none, some}
-use lib.ListN.{length}
+use mathlib.Core.Option.{some}
 use Rattle.laws.specs.Answers.{isGiven}
 use Rattle.laws.specs.Chop.{chop, chopFrom}
 use Rattle.laws.specs.Keys.{eqK}
@@ -27,7 +26,7 @@ use Rattle.spans.specs.Scan.{seek, spansN, restN, spansOf, restOf, capped}
 use Rattle.spans.specs.Spans.{spans, unfinished, onDlci}
 use Rattle.outcome.specs.Import.{Found, found, missing, tolerant, onChannel, first, hasFrame, chosen, listed, filePieces, read, endsWell, outcome}
 use Rattle.outcome.specs.Examples.{sample}
-use Rattle.cut.specs.Recording.{wire, Recording, file, cut}
+use Rattle.cut.specs.Recording.{Recording, file, cut}
 use Rattle.cut.specs.Left.{leftFrom, recordsLeft, tailLeft, sent, dataOf, dataLeft, closedIn, ofHandle, framesLeft, midFrame, endsMid, midIn, midLeft}
 use Rattle.cut.specs.Honest.{pdusIn, kindIn, markedPdus, isDataOf, afterData, adds, carriesOn, Honest}
 use Rattle.cut.proofs.Tests.{every, ends, headerTest, wholeTest, smallTest, dlciTest, dynamicTest, channelTest, channelsTest, informationTest, sizesTest, beginningsTest, settledIn, settledTest, aloneIn, aloneTest, handlesTest, dataTest, markTest, fragmentsTest, rules, passed-all, honest}

@@ -6,7 +6,7 @@ use Rattle.laws.specs.Numbers.{le}
 use Rattle.items.specs.declared.Direction.{Direction}
 use Rattle.items.specs.declared.Direction.the-variants.{Rx, Tx}
 use Rattle.btsnoop.specs.Header.{magic}
-use Rattle.cut.specs.Recording.{Frame, wire, Link, Mark, free, part, last, Record}
+use Rattle.cut.specs.Recording.{Frame, free, part, last, Record}
 
 abbrev pub be : ℕ → ℕ → List ℕ
 be zero v = []

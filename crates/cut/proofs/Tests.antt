@@ -1,8 +1,8 @@
 -- The rules of honesty as tests that compute: a recording that passes all of them is honest.
-use Prim.Native.Nat.{ℕ, zero, suc, _+_, _≤_, _<_}
-use mathlib.Core.Path.{_≡_, refl, sym, ap, _∙_}
+use Prim.Native.Nat.{ℕ, _+_, _≤_, _<_}
+use mathlib.Core.Path.{_≡_, refl}
 use mathlib.Core.Logic.{_≢_}
-use mathlib.Core.Bool.{Bool, true, false, cond, not, _&&_, _||_}
+use mathlib.Core.Bool.{Bool, true, false, not, _&&_, _||_}
 use mathlib.Core.List.{List, [], _∷_, _++_, map, List·Memᴰ, List·Memᴰ·head, List·Memᴰ·tail}
 use mathlib.Core.Option.{Option, none, some}
 use native.Mathlib.Omega.{arith}
@@ -25,7 +25,7 @@ use Rattle.channels.specs.Signals.{triple, signals}
 use Rattle.channels.specs.Channels.{any, named, admitted}
 use Rattle.rfcomm.specs.Frames.{frameOf}
 use Rattle.rfcomm.specs.Pieces.{Kind, asks, opens, carries, passed, frameKind}
-use Rattle.cut.specs.Recording.{Frame, wire, Link, Mark, free, part, last, Record, Recording, rows, file}
+use Rattle.cut.specs.Recording.{Frame, wire, Link, Mark, free, part, last, Record, Recording, file}
 use Rattle.cut.specs.Left.{leftFrom, recordsLeft, Sent, sentIn, Data, dataKey, linkKey, informationOf, dataOf, dataLeft, directionOf, wires}
 use Rattle.cut.specs.Honest.{pdusIn, kindIn, MarkedPdu, marking, nothingOpen, markedPdus, isDataOf, afterData, adds, carriesOn, Joins, first, further, DataPdu, Fragments, stop, other, more, end, Different, no-more, one-more, Channel, before, unnamed, Beginning, Honest}
 use Rattle.cut.specs.Kept.{WholeRecord, whole-some, left-none}

@@ -1,31 +1,30 @@
 -- Document 01's words where a rule says it otherwise: a request and its response admit both directions; tried in the file or any cut of it.
-use Prim.Native.Nat.{ℕ, suc, _+_, _-_, _*_, _≤_, _<_}
+use Prim.Native.Nat.{ℕ, _+_, _*_}
 use mathlib.Core.Path.{_≡_, refl, sym, ap, _∙_}
-use mathlib.Core.Logic.{_≢_}
-use mathlib.Core.Bool.{Bool, true, false, cond, not, _&&_, _||_}
-use mathlib.Core.List.{List, [], _∷_, _++_, map, append-assoc, append-nil, nil≢cons, cons≢nil, head-eq-of-cons-eq, tail-eq-of-cons-eq}
+use mathlib.Core.Bool.{Bool, true, false, not, _&&_, _||_}
+use mathlib.Core.List.{List, [], _∷_, _++_, append-assoc, nil≢cons, head-eq-of-cons-eq, tail-eq-of-cons-eq}
 use mathlib.Core.Option.{Option, none, some}
 use native.Mathlib.Omega.{arith}
-use lib.ListN.{length, getD, take, drop, length-append}
-use lib.Dec.{leb, eqb}
+use lib.ListN.{length, length-append}
+use lib.Dec.{leb}
 use borrow.Author.Tests.{le-leb, lt-leb, leb-true}
 use Rattle.laws.specs.Choice.{splitB, no-way}
 use Rattle.laws.specs.Chop.{chop, chopFrom}
 use Rattle.laws.specs.Lists.{flat, All, all-nil, all-cons}
 use Rattle.laws.specs.Numbers.{le16}
-use Rattle.laws.specs.Keys.{Key, eqK, eq-eqK}
-use Rattle.laws.specs.Keyed.{of, run, after, step, run-append}
+use Rattle.laws.specs.Keys.{Key, eq-eqK}
+use Rattle.laws.specs.Keyed.{of, run, after, step}
 use Rattle.items.specs.declared.Direction.{Direction}
 use Rattle.items.specs.declared.Direction.the-variants.{Rx, Tx}
 use Rattle.items.specs.Items.{rxOf}
 use Rattle.btsnoop.specs.Header.{datalink}
-use Rattle.btsnoop.specs.Packets.{Packet, packetOf, orNone, packets}
+use Rattle.btsnoop.specs.Packets.{Packet, packetOf, packets}
 use Rattle.l2cap.specs.Pdus.{Pdu, joined, isComplete, pduOf, completed, packetKey, reassembly, pdus}
-use Rattle.channels.specs.Signals.{Signal, request, response, commandSize, isCommand, commands, code, body, triple, opposite, signalOf, signalsIn, pduSignals, signals}
+use Rattle.channels.specs.Signals.{Signal, request, response, commandSize, isCommand, commands, body, triple, opposite, signalOf, signalsIn, pduSignals, signals}
 use Rattle.channels.specs.Channels.{any, asksFor, named, admits, admittedAfter, admitted, channelOf, isTried}
 use Rattle.cut.specs.Recording.{Link, Record, Recording, rows, file}
 use Rattle.cut.specs.Left.{leftFrom, recordsLeft, dataKey, linkKey, dataLeft}
-use Rattle.cut.specs.Honest.{pdusIn, nothingOpen, Channel, before, Honest}
+use Rattle.cut.specs.Honest.{pdusIn, nothingOpen, Channel, before}
 use Rattle.cut.specs.Kept.{WholeRecord, whole-some, left-none, Front, records-front, records-all}
 use Rattle.cut.specs.Growing.{named-front, admitted-front, pdus-front, tried-admitted, tried-unnamed}
 

@@ -1,24 +1,22 @@
 -- Under the rules at the PDUs of one cut, the pieces on d are the data PDUs' information, one stretch for each link direction; and d is the DLCI chosen.
-use Prim.Native.Nat.{ℕ, zero, suc, _+_, _/_}
+use Prim.Native.Nat.{ℕ, zero, suc, _/_}
 use mathlib.Core.Path.{_≡_, refl, sym, ap, _∙_}
 use mathlib.Core.Logic.{_≢_}
-use mathlib.Core.Bool.{Bool, true, false, cond, _&&_, _||_}
+use mathlib.Core.Bool.{Bool, true, false, _&&_, _||_}
 use mathlib.Core.List.{List, [], _∷_, _++_, map}
-use mathlib.Core.Option.{Option, none, some}
-use native.Mathlib.Omega.{arith}
+use mathlib.Core.Option.{none, some}
 use lib.Dec.{eqb}
 use borrow.Author.Tests.{eq-eqb, ne-eqb, eqb-false}
 use Rattle.laws.specs.Choice.{splitB, no-way, split≡}
 use Rattle.laws.specs.Lists.{All, all-nil, all-cons}
-use Rattle.laws.specs.Keys.{Key, eqK, splitK, eq-eqK, ne-eqK}
-use Rattle.laws.specs.Keyed.{Machine, put, step, run, after}
+use Rattle.laws.specs.Keys.{Key, splitK, eq-eqK, ne-eqK}
+use Rattle.laws.specs.Keyed.{step, run, after}
 use Rattle.mdr.specs.Escaping.{all-append}
 use Rattle.l2cap.specs.Pdus.{Pdu}
 use Rattle.rfcomm.specs.Pieces.{Kind, asks, opens, carries, passed, Judged, Counts, counted, Piece, pieceOf, brought, counting}
 use Rattle.spans.specs.Spans.{onDlci}
 use Rattle.outcome.specs.Import.{onChannel, first}
-use Rattle.cut.specs.Recording.{Mark, free, part, last}
-use Rattle.cut.specs.Left.{Data}
+use Rattle.cut.specs.Recording.{free, last}
 use Rattle.cut.specs.Honest.{MarkedPdu, adds, carriesOn}
 use Rattle.cut.specs.Streams.{plain, asPiece, Apart}
 use Rattle.cut.specs.Traces.{pdusOf, dataIn}

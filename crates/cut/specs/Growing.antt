@@ -1,22 +1,19 @@
 -- What is named and admitted only grows with the records, so a data PDU is tried in every cut that has it.
-use Prim.Native.Nat.{ℕ, _+_, _≤_, _<_}
-use mathlib.Core.Path.{_≡_, refl, sym, ap, _∙_}
+use Prim.Native.Nat.{_≤_}
+use mathlib.Core.Path.{_≡_, refl}
 use mathlib.Core.Logic.{_≢_}
-use mathlib.Core.Bool.{Bool, true, false, cond, not, _&&_, _||_}
-use mathlib.Core.List.{List, [], _∷_, _++_, map, append-assoc}
-use mathlib.Core.Option.{Option, none, some}
-use native.Mathlib.Omega.{arith}
-use lib.Dec.{leb, eqb}
+use mathlib.Core.Bool.{Bool, true, false}
+use mathlib.Core.List.{List, [], _∷_, _++_, append-assoc}
 use borrow.Author.Tests.{ne-eqb, le-leb}
 use Rattle.laws.specs.Choice.{splitB, no-way}
 use Rattle.laws.specs.Keys.{Key}
 use Rattle.laws.specs.Keyed.{run, after, run-append}
 use Rattle.btsnoop.specs.Header.{datalink}
 use Rattle.l2cap.specs.Pdus.{Pdu}
-use Rattle.channels.specs.Signals.{Signal, pduSignals, signals}
+use Rattle.channels.specs.Signals.{Signal, signals}
 use Rattle.channels.specs.Channels.{any, names, named, admits, admittedAfter, admitted, channelOf, isTried, asksSession}
 use Rattle.cut.specs.Recording.{Record, Recording}
-use Rattle.cut.specs.Left.{sent, sentIn}
+use Rattle.cut.specs.Left.{sentIn}
 use Rattle.cut.specs.Honest.{pdusIn, marking, nothingOpen, markedPdus}
 use Rattle.cut.specs.Kept.{Front}
 use Rattle.cut.specs.Streams.{map-append}

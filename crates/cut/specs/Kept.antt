@@ -1,12 +1,10 @@
 -- The first bytes of whole records parse to the records that end within them; and these are a front of all records.
-use Prim.Native.Nat.{ℕ, zero, suc, _+_, _-_, _*_, _≤_, _<_, min}
-use mathlib.Core.Path.{_≡_, refl, sym, ap, _∙_}
-use mathlib.Core.Bool.{Bool, true, false, cond}
-use mathlib.Core.List.{List, [], _∷_, _++_, map, append-nil}
+use Prim.Native.Nat.{ℕ, _+_, _-_, _≤_, _<_}
+use mathlib.Core.Path.{_≡_, refl, ap}
+use mathlib.Core.List.{List, [], _∷_, _++_}
 use native.Mathlib.Omega.{arith}
-use lib.ListN.{length, getD, take, drop, length-append, length-take, length-drop, List·getD-append}
+use lib.ListN.{length, take, drop, length-append, length-take, List·getD-append}
 use lib.Seq.{take-nil, take-append-seam, drop-append-seam, take-append-le, take-append-add, getD-take, drop-at}
-use lib.Dec.{leb}
 use borrow.Author.Tests.{le-leb, lt-leb}
 use Rattle.laws.specs.Choice.{split≤}
 use Rattle.laws.specs.Lists.{flat, All, all-nil, all-cons}

@@ -1,29 +1,29 @@
 -- The links of a recording as a list: the wires of each direction, and the directions counted.
-use Prim.Native.Nat.{ℕ, suc, _+_, _≤_, _<_}
-use mathlib.Core.Path.{_≡_, refl, sym, ap, _∙_}
-use mathlib.Core.Logic.{_≢_, _⊎_, inl, inr, ⊎-elim}
-use mathlib.Core.Bool.{Bool, true, false, cond}
-use mathlib.Core.List.{List, [], _∷_, _++_, map, List·Memᴰ, List·Memᴰ·head, List·Memᴰ·tail}
+use Prim.Native.Nat.{ℕ, _≤_}
+use mathlib.Core.Path.{_≡_, refl, sym, ap}
+use mathlib.Core.Logic.{_≢_}
+use mathlib.Core.Bool.{Bool, true, false}
+use mathlib.Core.List.{List, [], _∷_, map, List·Memᴰ, List·Memᴰ·head, List·Memᴰ·tail}
 use native.Mathlib.Omega.{arith}
-use lib.ListN.{length, getD, take, length-append}
+use lib.ListN.{length, getD, length-append}
 use lib.Dec.{eqb}
 use borrow.Author.Tests.{eq-eqb, ne-eqb}
-use Rattle.laws.specs.Choice.{splitB, no-way}
+use Rattle.laws.specs.Choice.{splitB}
 use Rattle.laws.specs.Lists.{All, all-nil, all-cons}
-use Rattle.laws.specs.Keys.{Key, eqK, splitK, eq-eqK, ne-eqK}
+use Rattle.laws.specs.Keys.{Key, ne-eqK}
 use Rattle.laws.specs.Count.{mem, count}
 use Rattle.items.specs.declared.Direction.{Direction}
 use Rattle.items.specs.declared.Direction.the-variants.{Rx, Tx}
 use Rattle.items.specs.Items.{rxOf}
 use Rattle.mdr.specs.Escaping.{Quiet}
 use Rattle.mdr.specs.Frame.{packed, unpacksOf}
-use Rattle.mdr.specs.Wire.{Framed as PackedAs, innerOf, packed-framed, packed-least, packed-unpacks}
+use Rattle.mdr.specs.Wire.{innerOf, packed-framed, packed-least, packed-unpacks}
 use Rattle.cut.specs.Recording.{Frame, wire, Link, Recording}
-use Rattle.cut.specs.Left.{Data, linkKey, dataLeft, informationOf, directionOf, ofHandle, wires, wiresOf, midFrame, endsMid, midIn}
+use Rattle.cut.specs.Left.{linkKey, dataLeft, informationOf, directionOf, ofHandle, wires, wiresOf, midFrame, endsMid, midIn}
 use Rattle.cut.specs.Honest.{Different, no-more, one-more, Beginning}
 use Rattle.cut.specs.Wires.{NoEnd, Wire, wired, Begun, nothing, wire-take}
-use Rattle.cut.specs.Streams.{partialOf, Framed}
-use Rattle.cut.specs.Counts.{Once, once-nil, once-cons, mem-head, mem-tail, mem-not}
+use Rattle.cut.specs.Streams.{Framed}
+use Rattle.cut.specs.Counts.{Once, once-nil, once-cons, mem-head, mem-tail}
 
 pub all-at : {A : Type 0} {P : A → Type 0} {x : A} {xs : List A} → List·Memᴰ x xs → All P xs → P x
 all-at {P = P} (List·Memᴰ·head e) (all-cons p ps) = rw e p

@@ -1,6 +1,6 @@
 -- A recording: the bytes of a file, and beside them what was sent. Each record is marked with what it carries; import never sees a mark.
 use Prim.Native.Nat.{ℕ}
-use mathlib.Core.List.{List, [], _∷_, _++_, map}
+use mathlib.Core.List.{List, _++_, map}
 use lib.ListN.{take}
 use Rattle.laws.specs.Lists.{flat}
 use Rattle.items.specs.declared.Direction.{Direction}

@@ -1,18 +1,16 @@
 -- The rules of an honest recording give those at the PDUs of each cut.
-use Prim.Native.Nat.{ℕ, _+_, _≤_, _<_}
+use Prim.Native.Nat.{ℕ, _≤_}
 use mathlib.Core.Path.{_≡_, refl, sym, ap, _∙_}
 use mathlib.Core.Logic.{_≢_}
-use mathlib.Core.Bool.{Bool, true, false, cond}
-use mathlib.Core.List.{List, [], _∷_, _++_, map, append-assoc, nil≢cons, cons≢nil, List·Memᴰ}
+use mathlib.Core.Bool.{true, false}
+use mathlib.Core.List.{List, [], _∷_, _++_, map, append-assoc, cons≢nil}
 use mathlib.Core.Option.{Option, none, some}
 use native.Mathlib.Omega.{arith}
-use lib.ListN.{length}
-use lib.Dec.{eqb}
 use borrow.Author.Tests.{eq-eqb}
 use Rattle.laws.specs.Choice.{splitB, split≤}
-use Rattle.laws.specs.Lists.{All, all-nil, all-cons}
-use Rattle.laws.specs.Keys.{Key, eqK, eq-eqK}
-use Rattle.laws.specs.Keyed.{Machine, put, of, step, run, after, run-append, after-append}
+use Rattle.laws.specs.Lists.{All, all-cons}
+use Rattle.laws.specs.Keys.{Key, eq-eqK}
+use Rattle.laws.specs.Keyed.{put, of, step, run, after, run-append, after-append}
 use Rattle.items.specs.declared.Direction.{Direction}
 use Rattle.items.specs.Items.{rxOf}
 use Rattle.btsnoop.specs.Header.{datalink}
@@ -21,8 +19,8 @@ use Rattle.l2cap.specs.Pdus.{Pdu, joined, stillOpen, pduOf, completed, packetKe
 use Rattle.channels.specs.Signals.{triple, signals}
 use Rattle.channels.specs.Channels.{channelOf, isTried}
 use Rattle.rfcomm.specs.Pieces.{Kind, carries, kindOf}
-use Rattle.cut.specs.Recording.{Link, Mark, free, part, last, Record, Recording}
-use Rattle.cut.specs.Left.{recordsLeft, Sent, sentIn, Data, dataKey, linkKey, ifLast, dataOf, dataLeft, ofHandle}
+use Rattle.cut.specs.Recording.{Link, free, part, last, Recording}
+use Rattle.cut.specs.Left.{recordsLeft, Sent, sentIn, Data, dataKey, linkKey, dataOf, dataLeft, ofHandle}
 use Rattle.cut.specs.Honest.{pdusIn, kindIn, MarkedPdu, marking, nothingOpen, markedPdus, isDataOf, afterData, adds, carriesOn, DataPdu, Fragments, stop, other, more, end, Channel, before, unnamed, Honest}
 use Rattle.cut.specs.Kept.{Front, records-front, records-grow}
 use Rattle.cut.specs.Streams.{of-append}

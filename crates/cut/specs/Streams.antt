@@ -1,26 +1,22 @@
 -- The data PDUs of several link directions, interleaved: the scanner's spans are the frames closed, in order, and its buffers hold what is mid-frame.
-use Prim.Native.Nat.{ℕ, zero, suc, _+_, _-_, _≤_, _<_}
-use mathlib.Core.Path.{_≡_, refl, sym, ap, _∙_}
-use mathlib.Core.Logic.{_≢_}
-use mathlib.Core.Bool.{Bool, true, false, cond}
-use mathlib.Core.List.{List, [], _∷_, _++_, append-assoc, append-nil, map}
+use Prim.Native.Nat.{ℕ, _+_}
+use mathlib.Core.Path.{_≡_, refl, sym, _∙_}
+use mathlib.Core.List.{List, [], _∷_, _++_, append-assoc, map}
 use native.Mathlib.Omega.{arith}
-use native.Mathlib.Nat.{add-zero, zero-add}
-use lib.ListN.{length, take, drop, length-append, length-drop}
+use native.Mathlib.Nat.{add-zero}
+use lib.ListN.{length, take, drop, length-append}
 use lib.Seq.{drop-drop, drop-append-seam}
-use lib.Dec.{eqb, ltb}
 use Rattle.laws.specs.Choice.{splitB}
-use Rattle.laws.specs.Lists.{flat, flat-append, All}
+use Rattle.laws.specs.Lists.{flat-append, All}
 use Rattle.laws.specs.Keys.{Key, eqK, splitK, eq-eqK, ne-eqK}
-use Rattle.laws.specs.Keyed.{Machine, put, of, step, run, after}
-use Rattle.items.specs.Items.{Span}
+use Rattle.laws.specs.Keyed.{of, step, run, after}
 use Rattle.rfcomm.specs.Pieces.{Piece}
 use Rattle.spans.specs.Scan.{spansOf, restOf, capped}
 use Rattle.spans.specs.Bytewise.{held}
 use Rattle.spans.specs.Spans.{scanner}
 use Rattle.cut.specs.Recording.{Link}
-use Rattle.cut.specs.Left.{Data, dataKey, informationOf, closedIn, ofHandle, wiresOf, closing, midFrame}
-use Rattle.cut.specs.Wires.{Wire, Begun, stream, held-mid, piece-next, piece-out}
+use Rattle.cut.specs.Left.{Data, dataKey, informationOf, closedIn, ofHandle, wiresOf, closing}
+use Rattle.cut.specs.Wires.{Wire, Begun, stream, piece-next, piece-out}
 
 -- ---- lists of data PDUs in two parts
 

@@ -1,49 +1,48 @@
 -- The theorem: tolerant import of a cut of an honest recording finds exactly what is left of it.
-use Prim.Native.Nat.{ℕ, zero, suc, _+_, _-_, _*_, _/_, _≤_, _<_}
+use Prim.Native.Nat.{ℕ, _+_, _-_, _*_, _/_, _≤_, _<_}
 use mathlib.Core.Path.{_≡_, refl, sym, ap, _∙_}
 use mathlib.Core.Logic.{_≢_}
-use mathlib.Core.Bool.{Bool, true, false, cond, _&&_, _||_}
-use mathlib.Core.List.{List, [], _∷_, _++_, map, append-assoc, append-nil, nil≢cons, cons≢nil, List·Memᴰ}
-use mathlib.Core.Option.{Option, none, some}
+use mathlib.Core.Bool.{true, false, _&&_}
+use mathlib.Core.List.{List, [], _∷_, _++_, map, nil≢cons, List·Memᴰ}
+use mathlib.Core.Option.{Option, some}
 use native.Mathlib.Omega.{arith}
-use native.Mathlib.Nat.{add-zero, zero-add}
+use native.Mathlib.Nat.{zero-add}
 use lib.ListN.{length, getD, take, drop, length-append, length-take, List·getD-append}
 use lib.Seq.{take-append-le}
-use lib.Dec.{leb, ltb, eqb}
-use borrow.Author.Tests.{le-leb, lt-leb}
+use lib.Dec.{leb, ltb}
+use borrow.Author.Tests.{le-leb}
 use Rattle.laws.specs.Choice.{splitB, no-way, split≤}
 use Rattle.laws.specs.Lists.{flat, All, all-nil, all-cons}
 use Rattle.laws.specs.Numbers.{be32}
 use Rattle.laws.specs.Stores.{filled}
-use Rattle.laws.specs.Answers.{Answer, accepted, refused, Outcome, gives, refuses, answer, output, Meets}
-use Rattle.laws.specs.Keys.{Key, eqK, splitK, eq-eqK, ne-eqK}
-use Rattle.laws.specs.Keyed.{Machine, of, step, run, after}
-use Rattle.laws.specs.Count.{mem, nub, count}
+use Rattle.laws.specs.Answers.{Answer, Outcome, gives, refuses, answer, output, Meets}
+use Rattle.laws.specs.Keys.{Key, splitK, eq-eqK, ne-eqK}
+use Rattle.laws.specs.Keyed.{of, step, run, after}
+use Rattle.laws.specs.Count.{mem, nub}
 use Rattle.items.specs.declared.Direction.{Direction}
 use Rattle.items.specs.Items.{Span, span, rxOf, spanList}
 use Rattle.mdr.specs.Escaping.{all-append}
 use Rattle.mdr.specs.Frame.{unpacksOf}
-use Rattle.btsnoop.specs.Header.{isBtsnoop, datalink, isDatalink}
+use Rattle.btsnoop.specs.Header.{isBtsnoop, datalink}
 use Rattle.btsnoop.specs.Records.{records, tailOffset}
-use Rattle.btsnoop.specs.Packets.{packetOf, packets}
-use Rattle.l2cap.specs.Pdus.{Pdu, pdus}
-use Rattle.channels.specs.Signals.{signals}
+use Rattle.btsnoop.specs.Packets.{packets}
+use Rattle.l2cap.specs.Pdus.{Pdu}
 use Rattle.channels.specs.Channels.{any}
-use Rattle.rfcomm.specs.Pieces.{Piece, Kind, kindOf, judged, Counts, counting, noCounts, pieces}
+use Rattle.rfcomm.specs.Pieces.{Piece, Kind, judged, counting, noCounts, pieces}
 use Rattle.spans.specs.Bytewise.{held}
 use Rattle.spans.specs.Spans.{scanner, emptied, spans, unfinished, onDlci}
-use Rattle.outcome.specs.Import.{Tail, strict, tolerant, onChannel, first, hasFrame, chosen, Found, found as foundAs, missing, listed, filePieces, read, endsWell, outcome, given, fits, workSuffices, imported}
+use Rattle.outcome.specs.Import.{Tail, tolerant, hasFrame, chosen, listed, filePieces, read, endsWell, outcome, given, fits, workSuffices, imported}
 use Rattle.cut.specs.Recording.{Link, Record, Recording, rows, file, cut}
-use Rattle.cut.specs.Left.{recordsLeft, tailLeft, Sent, sentIn, Data, dataKey, linkKey, informationOf, dataOf, dataLeft, closedIn, ofHandle, wires, wiresOf, closing, framesLeft, midFrame, midIn, midLeft}
-use Rattle.cut.specs.Honest.{pdusIn, kindIn, MarkedPdu, marking, nothingOpen, markedPdus, Fragments, Honest}
-use Rattle.cut.specs.Claim.{answerLeft, listLeft, AsLeft, CutClaim}
-use Rattle.cut.specs.Kept.{Front, records-front, cut-records, take-past}
-use Rattle.cut.specs.Wires.{Wire, stream, held-mid, mid-none}
-use Rattle.cut.specs.Streams.{map-append, information-append, plain, partialOf, streamOf, Framed, asPiece, Apart, came-after, Fed, fed-run, fed-after}
-use Rattle.cut.specs.Counts.{Once, mem-nub, once-nub, count-same, count-respell}
+use Rattle.cut.specs.Left.{recordsLeft, tailLeft, sentIn, Data, dataKey, linkKey, informationOf, dataOf, dataLeft, closedIn, wires, wiresOf, closing, framesLeft, midLeft}
+use Rattle.cut.specs.Honest.{pdusIn, kindIn, MarkedPdu, nothingOpen, markedPdus, Fragments, Honest}
+use Rattle.cut.specs.Claim.{answerLeft, listLeft, CutClaim}
+use Rattle.cut.specs.Kept.{records-front, cut-records, take-past}
+use Rattle.cut.specs.Wires.{held-mid, mid-none}
+use Rattle.cut.specs.Streams.{information-append, plain, partialOf, streamOf, Framed, asPiece, Apart, came-after, Fed, fed-run, fed-after}
+use Rattle.cut.specs.Counts.{mem-nub, once-nub, count-same, count-respell}
 use Rattle.cut.specs.Links.{all-at, wires-all, links-framed, wire-unpacks, handles, found, directions, on-directions, directions-once, midAt, mid-counted}
 use Rattle.cut.specs.Traces.{pdusOf, pdus-in, dataIn, trace-data, under-none, fragments-front, sent-append, data-append, OnLink, trace-links}
-use Rattle.cut.specs.Calm.{Calm, judgedBy, stretch, stretch-apart, calm-pieces, Near, calm-near, wanted, chosen-yes, chosen-no}
+use Rattle.cut.specs.Calm.{judgedBy, stretch, stretch-apart, calm-pieces, Near, calm-near, chosen-yes, chosen-no}
 use Rattle.cut.specs.Rules.{cidOf, cut-calm}
 
 -- ---- the header

@@ -1,8 +1,8 @@
 -- Along an honest trace reassembly gives exactly the data PDUs, and what is free beside them.
-use Prim.Native.Nat.{ℕ, _+_, _≤_}
+use Prim.Native.Nat.{ℕ, _+_}
 use mathlib.Core.Path.{_≡_, refl, sym, ap, _∙_}
-use mathlib.Core.Bool.{Bool, true, false, cond}
-use mathlib.Core.List.{List, [], _∷_, _++_, map, append-assoc, List·Memᴰ}
+use mathlib.Core.Bool.{true}
+use mathlib.Core.List.{List, [], _∷_, _++_, map, List·Memᴰ}
 use mathlib.Core.Option.{Option, none, some}
 use native.Mathlib.Omega.{arith}
 use lib.ListN.{length}
@@ -10,14 +10,14 @@ use borrow.Author.Tests.{le-leb}
 use Rattle.laws.specs.Lists.{All, all-nil, all-cons}
 use Rattle.laws.specs.Numbers.{le16}
 use Rattle.laws.specs.Keys.{Key, splitK, eq-eqK, ne-eqK}
-use Rattle.laws.specs.Keyed.{Machine, put, step, run, after}
+use Rattle.laws.specs.Keyed.{put, step, run}
 use Rattle.items.specs.declared.Direction.{Direction}
 use Rattle.btsnoop.specs.Header.{datalink}
 use Rattle.btsnoop.specs.Packets.{Packet, packetOf, orNone, packets}
 use Rattle.l2cap.specs.Pdus.{Pdu, joined, isComplete, stillOpen, pduOf, completed, packetKey, reassembly, pdus}
 use Rattle.cut.specs.Recording.{Link, Mark, free, part, last, Record, Recording, rows}
 use Rattle.cut.specs.Left.{Sent, orNone as orPassed, sent, sentIn, Data, dataKey, linkKey, ifLast, dataOf}
-use Rattle.cut.specs.Honest.{pdusIn, MarkedPdu, marking, nothingOpen, markedPdus, Joins, first, further, DataPdu, Fragments, stop, other, more, end}
+use Rattle.cut.specs.Honest.{pdusIn, MarkedPdu, marking, nothingOpen, markedPdus, Joins, first, further, Fragments, stop, other, more, end}
 
 -- ---- in two parts
 

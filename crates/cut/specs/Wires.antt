@@ -3,13 +3,13 @@
 use Prim.Native.Nat.{ℕ, zero, suc, _+_, _-_, _≤_, _<_}
 use mathlib.Core.Path.{_≡_, refl, sym, ap, _∙_}
 use mathlib.Core.Logic.{_≢_}
-use mathlib.Core.Bool.{Bool, true, false, cond, _&&_, _||_}
+use mathlib.Core.Bool.{false}
 use mathlib.Core.List.{List, [], _∷_, _++_, append-assoc, append-nil, append-cancel-left}
 use native.Mathlib.Omega.{arith}
-use native.Mathlib.Nat.{add-zero, zero-add}
+use native.Mathlib.Nat.{zero-add}
 use lib.ListN.{length, take, drop, length-append, length-take}
-use lib.Seq.{take-nil, take-append-le, take-append-seam, take-add}
-use lib.Dec.{eqb, leb, ltb}
+use lib.Seq.{take-append-le, take-append-seam, take-add}
+use lib.Dec.{leb, ltb}
 use borrow.Author.Tests.{ne-eqb, le-leb, lt-leb, lt-ltb, le-ltb}
 use Rattle.laws.specs.Choice.{split≤, splitB}
 use Rattle.laws.specs.Lists.{flat, All, all-nil, all-cons}
