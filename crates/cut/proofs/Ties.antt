@@ -25,7 +25,8 @@ use Rattle.channels.specs.Channels.{any, asksFor, named, admits, admittedAfter,
 use Rattle.cut.specs.Recording.{Link, Record, Recording, rows, file}
 use Rattle.cut.specs.Left.{leftFrom, recordsLeft, dataKey, linkKey, dataLeft}
 use Rattle.cut.specs.Honest.{pdusIn, nothingOpen, Channel, before}
-use Rattle.cut.specs.Kept.{WholeRecord, whole-some, left-none, Front, records-front, records-all}
+use Rattle.cut.specs.Parts.{Front}
+use Rattle.cut.specs.Kept.{WholeRecord, whole-some, left-none, records-front, records-all}
 use Rattle.cut.specs.Growing.{named-front, admitted-front, pdus-front, tried-admitted, tried-unnamed}
 
 -- ---- a PSM 3 request and its successful response

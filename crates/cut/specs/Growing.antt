@@ -15,8 +15,7 @@ use Rattle.channels.specs.Channels.{any, names, named, admits, admittedAfter, a
 use Rattle.cut.specs.Recording.{Record, Recording}
 use Rattle.cut.specs.Left.{sentIn}
 use Rattle.cut.specs.Honest.{pdusIn, marking, nothingOpen, markedPdus}
-use Rattle.cut.specs.Kept.{Front}
-use Rattle.cut.specs.Streams.{map-append}
+use Rattle.cut.specs.Parts.{Front, map-append}
 use Rattle.cut.specs.Traces.{pdusOf, pdus-in, sent-append}
 
 signals-append : (a b : List Pdu) → signals (a ++ b) ≡ signals a ++ signals b

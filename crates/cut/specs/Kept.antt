@@ -4,7 +4,7 @@ use mathlib.Core.Path.{_≡_, refl, ap}
 use mathlib.Core.List.{List, [], _∷_, _++_}
 use native.Mathlib.Omega.{arith}
 use lib.ListN.{length, take, drop, length-append, length-take, List·getD-append}
-use lib.Seq.{take-nil, take-append-seam, drop-append-seam, take-append-le, take-append-add, getD-take, drop-at}
+use lib.Seq.{take-nil, take-append-seam, drop-append-seam, take-append-le, getD-take, drop-at}
 use borrow.Author.Tests.{le-leb, lt-leb}
 use Rattle.laws.specs.Choice.{split≤}
 use Rattle.laws.specs.Lists.{flat, All, all-nil, all-cons}
@@ -12,6 +12,7 @@ use Rattle.laws.specs.Numbers.{be32}
 use Rattle.btsnoop.specs.Records.{recordSize, isWhole, recordsIn, records-eq}
 use Rattle.cut.specs.Recording.{Record, Recording, rows, file, cut}
 use Rattle.cut.specs.Left.{leftFrom, recordsLeft}
+use Rattle.cut.specs.Parts.{Front, take-past}
 
 abbrev pub WholeRecord : Record → Type 0
 WholeRecord r = recordSize (r .bytes) ≡ length (r .bytes)
@@ -35,9 +36,6 @@ whole-some r w = omega (arith, size-least (r .bytes), w)
 none-in : recordsIn [] ≡ []
 unfolding isWhole recordSize be32
 none-in = records-eq []
-
-pub take-past : {A : Type 0} (m : ℕ) (r x : List A) → length r ≤ m → take m (r ++ x) ≡ r ++ take (m - length r) x
-take-past m r x h = let e : length r + (m - length r) ≡ m = omega arith in rw (← take-append-add r x (m - length r), e)
 
 -- a record that is cut is no whole record
 cut-short : (m : ℕ) (r : List ℕ) → recordSize r ≡ length r → m < length r → length (take m r) < recordSize (take m r)
@@ -66,10 +64,6 @@ left-in at m (all-cons {x = r} {xs = rs} w ws) =
     rw (take-append-le m b (flat (rows rs)) (omega arith), records-eq (take m b), lt-leb (at + length b) (at + m) (omega arith), lt-leb (recordSize (take m b)) (length (take m b)) (cut-short m b w h), left-none (at + length b) (at + m) rs (omega arith)))
 
 -- ---- fronts
-
-pub record Front {A : Type 0} (xs ys : List A) : Type 0 where
-  pub back : List A
-  pub whole : ys ≡ xs ++ back
 
 left-front : (at n : ℕ) (rs : List Record) → Front (leftFrom at n rs) rs
 unfolding leftFrom

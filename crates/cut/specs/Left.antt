@@ -102,19 +102,19 @@ wires l t = map wire (l .frames t)
 abbrev pub wiresOf : List Link → ℕ → ℕ → List (List ℕ)
 wiresOf ls h rx = ofHandle [] wires ls h rx
 
--- the frames that each data PDU brings the closing 3C of, with that PDU's direction and time; the state is how many bytes of its link direction came before
-abbrev pub closing : List Link → Machine Data Span
-closing ls = record {
+-- the frames that each data PDU brings the closing 3C of, with that PDU's direction and time, by the wires of each handle and direction; the state is how many bytes of it came before
+abbrev pub closing : (ℕ → ℕ → List (List ℕ)) → Machine Data Span
+closing wiresAt = record {
   S = ℕ;
   key = dataKey;
   next = λ came x. came + length (x .information);
-  out = λ came x. map (λ w. span (x .rx) (x .time) w) (closedIn 0 came (came + length (x .information)) (wiresOf ls (x .link) (x .rx)));
+  out = λ came x. map (λ w. span (x .rx) (x .time) w) (closedIn 0 came (came + length (x .information)) (wiresAt (x .link) (x .rx)));
 }
 
 -- a packed frame is left if its closing 3C lies in the information of a data PDU left.
 -- Frames complete in the order of the records completing those PDUs, and within one PDU in the order of their bytes.
 unfoldable pub framesLeft : Recording → ℕ → List Span
-framesLeft R n = run (closing (R .links)) (λ k. 0) (dataLeft R n)
+framesLeft R n = run (closing (wiresOf (R .links))) (λ k. 0) (dataLeft R n)
 
 -- ---- link directions that end mid-frame
 

@@ -2,6 +2,7 @@ pub mod Recording
 pub mod Left
 pub mod Honest
 pub mod Claim
+pub mod Parts
 pub mod Kept
 pub mod Wires
 pub mod Streams

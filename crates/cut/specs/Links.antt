@@ -21,13 +21,10 @@ use Rattle.mdr.specs.Wire.{innerOf, packed-framed, packed-least, packed-unpacks
 use Rattle.cut.specs.Recording.{Frame, wire, Link, Recording}
 use Rattle.cut.specs.Left.{linkKey, dataLeft, informationOf, directionOf, ofHandle, wires, wiresOf, midFrame, endsMid, midIn}
 use Rattle.cut.specs.Honest.{Different, no-more, one-more, Beginning}
+use Rattle.cut.specs.Parts.{all-map}
 use Rattle.cut.specs.Wires.{NoEnd, Wire, wired, Begun, nothing, wire-take}
 use Rattle.cut.specs.Streams.{Framed}
 use Rattle.cut.specs.Counts.{Once, once-nil, once-cons, mem-head, mem-tail}
-
-pub all-at : {A : Type 0} {P : A → Type 0} {x : A} {xs : List A} → List·Memᴰ x xs → All P xs → P x
-all-at {P = P} (List·Memᴰ·head e) (all-cons p ps) = rw e p
-all-at (List·Memᴰ·tail m) (all-cons p ps) = all-at m ps
 
 -- ---- packed frames
 
@@ -66,14 +63,14 @@ found-all T else f z (all-cons {x = l} {xs = ls} s ss) h r =
     (λ e. rw e (s (directionOf r)))
     (λ e. rw e (found-all T else f z ss h r))
 
-all-map : {A : Type 0} {P Q : A → Type 0} → ((x : A) → P x → Q x) → {xs : List A} → All P xs → All Q xs
-all-map g all-nil = all-nil
-all-map g (all-cons {x = x} p ps) = all-cons (g x p) (all-map g ps)
-
 pub wires-all : (T : List ℕ → Type 0) → ((f : Frame) → Sized f → T (wire f)) → {ls : List Link} → All (λ (l : Link). (t : Direction) → All Sized (l .frames t)) ls → (h r : ℕ) → All T (wiresOf ls h r)
 wires-all T g s h r = found-all (λ (ws : List (List ℕ)). All T ws) [] wires all-nil (all-map (λ l a t. all-wires g (a t)) s) h r
 
-pub links-framed : {ls : List Link} → All (λ (l : Link). (t : Direction) → All Sized (l .frames t)) ls → All (λ (l : Link). (t : Direction) → Beginning (l .partial t)) ls → Framed ls
+-- the partial frame of a handle and direction
+abbrev pub partialOf : List Link → ℕ → ℕ → List ℕ
+partialOf ls h rx = ofHandle [] (λ l t. l .partial t) ls h rx
+
+pub links-framed : {ls : List Link} → All (λ (l : Link). (t : Direction) → All Sized (l .frames t)) ls → All (λ (l : Link). (t : Direction) → Beginning (l .partial t)) ls → Framed (wiresOf ls) (partialOf ls)
 links-framed s b = record { whole = wires-all Wire packed-wire s; begun = found-all Begun [] (λ l t. l .partial t) nothing (all-map (λ l a t. beginning-begun (a t)) b) }
 
 -- ---- a link of the list, found by its handle

@@ -22,21 +22,12 @@ use Rattle.rfcomm.specs.Pieces.{Kind, carries, kindOf}
 use Rattle.cut.specs.Recording.{Link, free, part, last, Recording}
 use Rattle.cut.specs.Left.{recordsLeft, Sent, sentIn, Data, dataKey, linkKey, dataOf, dataLeft, ofHandle}
 use Rattle.cut.specs.Honest.{pdusIn, kindIn, MarkedPdu, marking, nothingOpen, markedPdus, isDataOf, afterData, adds, carriesOn, DataPdu, Fragments, stop, other, more, end, Channel, before, unnamed, Honest}
-use Rattle.cut.specs.Kept.{Front, records-front, records-grow}
-use Rattle.cut.specs.Streams.{of-append}
-use Rattle.cut.specs.Links.{all-at, found}
+use Rattle.cut.specs.Parts.{Front, of-append, all-at, all-back, all-rest}
+use Rattle.cut.specs.Kept.{records-front, records-grow}
+use Rattle.cut.specs.Links.{found}
 use Rattle.cut.specs.Traces.{sent-append, data-append, fragments-front, Under, under-none, under-put, under-free, joins-open, whole-complete}
 use Rattle.cut.specs.Calm.{Calm, calm, calm-data, calm-other}
 use Rattle.cut.specs.Growing.{named-front, admitted-front, pdus-front, tried-admitted, tried-unnamed, asks-not}
-
--- ---- of lists in two parts
-
-all-back : {A : Type 0} {P : A → Type 0} (xs : List A) {ys : List A} → All P (xs ++ ys) → All P ys
-all-back [] a = a
-all-back (x ∷ xs) (all-cons p a) = all-back xs a
-
-all-rest : {A : Type 0} {P : A → Type 0} {x : A} {xs : List A} → All P (x ∷ xs) → All P xs
-all-rest (all-cons p a) = a
 
 -- the data PDUs of a longer cut are more
 pub data-front : (R : Recording) (m n : ℕ) → m ≤ n → Front (dataLeft R m) (dataLeft R n)

@@ -6,7 +6,6 @@ use native.Mathlib.Omega.{arith}
 use native.Mathlib.Nat.{add-zero}
 use lib.ListN.{length, take, drop, length-append}
 use lib.Seq.{drop-drop, drop-append-seam}
-use Rattle.laws.specs.Choice.{splitB}
 use Rattle.laws.specs.Lists.{flat-append, All}
 use Rattle.laws.specs.Keys.{Key, eqK, splitK, eq-eqK, ne-eqK}
 use Rattle.laws.specs.Keyed.{of, step, run, after}
@@ -14,20 +13,11 @@ use Rattle.rfcomm.specs.Pieces.{Piece}
 use Rattle.spans.specs.Scan.{spansOf, restOf, capped}
 use Rattle.spans.specs.Bytewise.{held}
 use Rattle.spans.specs.Spans.{scanner}
-use Rattle.cut.specs.Recording.{Link}
-use Rattle.cut.specs.Left.{Data, dataKey, informationOf, closedIn, ofHandle, wiresOf, closing}
+use Rattle.cut.specs.Left.{Data, dataKey, informationOf, closedIn, closing}
+use Rattle.cut.specs.Parts.{map-append, of-append}
 use Rattle.cut.specs.Wires.{Wire, Begun, stream, piece-next, piece-out}
 
 -- ---- lists of data PDUs in two parts
-
-pub of-append : {X : Type 0} (key : X → Key) (k : Key) (xs ys : List X) → of key k (xs ++ ys) ≡ of key k xs ++ of key k ys
-unfolding of
-of-append key k [] ys = refl
-of-append key k (x ∷ xs) ys = splitB (eqK (key x) k) (λ e. rw (e, of-append key k xs ys)) (λ e. rw (e, of-append key k xs ys))
-
-pub map-append : {A B : Type 0} (f : A → B) (xs ys : List A) → map f (xs ++ ys) ≡ map f xs ++ map f ys
-map-append f [] ys = refl
-map-append f (x ∷ xs) ys = rw (map-append f xs ys)
 
 pub information-append : (k : Key) (xs ys : List Data) → informationOf k (xs ++ ys) ≡ informationOf k xs ++ informationOf k ys
 information-append k xs ys = rw (of-append dataKey k xs ys, map-append (λ (x : Data). x .information) (of dataKey k xs) (of dataKey k ys), flat-append)
@@ -37,17 +27,10 @@ information-append k xs ys = rw (of-append dataKey k xs ys, map-append (λ (x : 
 abbrev pub plain : ℕ → ℕ → Key
 plain h r = h ∷ r ∷ []
 
--- the partial frame of a link direction
-abbrev pub partialOf : List Link → ℕ → ℕ → List ℕ
-partialOf ls h rx = ofHandle [] (λ l t. l .partial t) ls h rx
-
--- what a link direction sends: wires, and perhaps a beginning
-abbrev pub streamOf : List Link → ℕ → ℕ → List ℕ
-streamOf ls h r = stream (wiresOf ls h r) (partialOf ls h r)
-
-pub record Framed (ls : List Link) : Type 0 where
-  pub whole : (h r : ℕ) → All Wire (wiresOf ls h r)
-  pub begun : (h r : ℕ) → Begun (partialOf ls h r)
+-- what each link direction sends: the wires W, and perhaps a beginning P
+pub record Framed (W : ℕ → ℕ → List (List ℕ)) (P : ℕ → ℕ → List ℕ) : Type 0 where
+  pub whole : (h r : ℕ) → All Wire (W h r)
+  pub begun : (h r : ℕ) → Begun (P h r)
 
 -- the piece that a data PDU brings, with a stretch for each link direction
 abbrev pub asPiece : ℕ → (ℕ → ℕ → Key) → Data → Piece
@@ -57,41 +40,41 @@ asPiece d F x = record { dlci = d; key = F (x .link) (x .rx); rx = x .rx; time =
 abbrev pub Apart : (ℕ → ℕ → Key) → Type 0
 Apart F = (h r h′ r′ : ℕ) → eqK (F h r) (F h′ r′) ≡ eqK (plain h r) (plain h′ r′)
 
-pub came-after : (ls : List Link) (came : Key → ℕ) (xs : List Data) (k : Key) → after (closing ls) came xs k ≡ came k + length (informationOf k xs)
+pub came-after : (W : ℕ → ℕ → List (List ℕ)) (came : Key → ℕ) (xs : List Data) (k : Key) → after (closing W) came xs k ≡ came k + length (informationOf k xs)
 unfolding after of
-came-after ls came [] k = sym (add-zero (came k))
-came-after ls came (x ∷ xs) k =
-    rw (came-after ls (step (closing ls) came x) xs k)
+came-after W came [] k = sym (add-zero (came k))
+came-after W came (x ∷ xs) k =
+    rw (came-after W (step (closing W) came x) xs k)
     (splitK (dataKey x) k
     (λ e. rw (eq-eqK k (dataKey x) (sym e), eq-eqK (dataKey x) k e, ← e, length-append) (omega arith))
     (λ n. rw (ne-eqK k (dataKey x) (λ q. n (sym q)), ne-eqK (dataKey x) k n)))
 
-module _ (ls : List Link) (S : Framed ls) (d : ℕ) (F : ℕ → ℕ → Key) (apart : Apart F) where
+module _ (W : ℕ → ℕ → List (List ℕ)) (P : ℕ → ℕ → List ℕ) (S : Framed W P) (d : ℕ) (F : ℕ → ℕ → Key) (apart : Apart F) where
   -- the buffers hold what has come; what is still to come is in the data PDUs, and perhaps more behind them
   pub record Fed (m : Key → List ℕ) (came : Key → ℕ) (xs : List Data) : Type 0 where
-    pub holds : (h r : ℕ) → m (F h r) ≡ held [] (take (came (plain h r)) (streamOf ls h r))
+    pub holds : (h r : ℕ) → m (F h r) ≡ held [] (take (came (plain h r)) (stream (W h r) (P h r)))
     pub rest : ℕ → ℕ → List ℕ
-    pub comes : (h r : ℕ) → drop (came (plain h r)) (streamOf ls h r) ≡ informationOf (plain h r) xs ++ rest h r
+    pub comes : (h r : ℕ) → drop (came (plain h r)) (stream (W h r) (P h r)) ≡ informationOf (plain h r) xs ++ rest h r
 
   module _ (m : Key → List ℕ) (came : Key → ℕ) (x : Data) (xs : List Data) (f : Fed m came (x ∷ xs)) where
-    comes-here : drop (came (dataKey x)) (streamOf ls (x .link) (x .rx)) ≡ x .information ++ (informationOf (dataKey x) xs ++ f .rest (x .link) (x .rx))
+    comes-here : drop (came (dataKey x)) (stream (W (x .link) (x .rx)) (P (x .link) (x .rx))) ≡ x .information ++ (informationOf (dataKey x) xs ++ f .rest (x .link) (x .rx))
     unfolding of
     comes-here = f .comes (x .link) (x .rx) ∙ rw (eq-eqK (dataKey x) (dataKey x) refl, append-assoc)
 
-    out-here : spansOf (m (F (x .link) (x .rx)) ++ x .information) ≡ closedIn 0 (came (dataKey x)) (came (dataKey x) + length (x .information)) (wiresOf ls (x .link) (x .rx))
+    out-here : spansOf (m (F (x .link) (x .rx)) ++ x .information) ≡ closedIn 0 (came (dataKey x)) (came (dataKey x) + length (x .information)) (W (x .link) (x .rx))
     out-here =
         rw (f .holds (x .link) (x .rx))
-        (piece-out (wiresOf ls (x .link) (x .rx)) (partialOf ls (x .link) (x .rx)) (S .whole (x .link) (x .rx)) (S .begun (x .link) (x .rx)) (came (dataKey x)) (x .information) (informationOf (dataKey x) xs ++ f .rest (x .link) (x .rx)) comes-here)
+        (piece-out (W (x .link) (x .rx)) (P (x .link) (x .rx)) (S .whole (x .link) (x .rx)) (S .begun (x .link) (x .rx)) (came (dataKey x)) (x .information) (informationOf (dataKey x) xs ++ f .rest (x .link) (x .rx)) comes-here)
 
-    next-here : capped (restOf (m (F (x .link) (x .rx)) ++ x .information)) ≡ held [] (take (came (dataKey x) + length (x .information)) (streamOf ls (x .link) (x .rx)))
+    next-here : capped (restOf (m (F (x .link) (x .rx)) ++ x .information)) ≡ held [] (take (came (dataKey x) + length (x .information)) (stream (W (x .link) (x .rx)) (P (x .link) (x .rx))))
     next-here =
         rw (f .holds (x .link) (x .rx))
-        (piece-next (wiresOf ls (x .link) (x .rx)) (partialOf ls (x .link) (x .rx)) (S .whole (x .link) (x .rx)) (S .begun (x .link) (x .rx)) (came (dataKey x)) (x .information) (informationOf (dataKey x) xs ++ f .rest (x .link) (x .rx)) comes-here)
+        (piece-next (W (x .link) (x .rx)) (P (x .link) (x .rx)) (S .whole (x .link) (x .rx)) (S .begun (x .link) (x .rx)) (came (dataKey x)) (x .information) (informationOf (dataKey x) xs ++ f .rest (x .link) (x .rx)) comes-here)
 
-    rest-here : drop (came (dataKey x) + length (x .information)) (streamOf ls (x .link) (x .rx)) ≡ informationOf (dataKey x) xs ++ f .rest (x .link) (x .rx)
-    rest-here = sym (drop-drop (length (x .information)) (came (dataKey x)) (streamOf ls (x .link) (x .rx))) ∙ rw comes-here (drop-append-seam (x .information) _)
+    rest-here : drop (came (dataKey x) + length (x .information)) (stream (W (x .link) (x .rx)) (P (x .link) (x .rx))) ≡ informationOf (dataKey x) xs ++ f .rest (x .link) (x .rx)
+    rest-here = sym (drop-drop (length (x .information)) (came (dataKey x)) (stream (W (x .link) (x .rx)) (P (x .link) (x .rx)))) ∙ rw comes-here (drop-append-seam (x .information) _)
 
-    fed-next : Fed (step scanner m (asPiece d F x)) (step (closing ls) came x) xs
+    fed-next : Fed (step scanner m (asPiece d F x)) (step (closing W) came x) xs
     unfolding of
     fed-next = record {
       holds = λ h r.
@@ -107,13 +90,13 @@ module _ (ls : List Link) (S : Framed ls) (d : ℕ) (F : ℕ → ℕ → Key) (a
     }
 
   -- the spans are the frames closed
-  pub fed-run : (m : Key → List ℕ) (came : Key → ℕ) (xs : List Data) → Fed m came xs → run scanner m (map (asPiece d F) xs) ≡ run (closing ls) came xs
+  pub fed-run : (m : Key → List ℕ) (came : Key → ℕ) (xs : List Data) → Fed m came xs → run scanner m (map (asPiece d F) xs) ≡ run (closing W) came xs
   unfolding run
   fed-run m came [] f = refl
-  fed-run m came (x ∷ xs) f = rw (fed-run (step scanner m (asPiece d F x)) (step (closing ls) came x) xs (fed-next m came x xs f), out-here m came x xs f)
+  fed-run m came (x ∷ xs) f = rw (fed-run (step scanner m (asPiece d F x)) (step (closing W) came x) xs (fed-next m came x xs f), out-here m came x xs f)
 
   -- the buffers at the end
-  pub fed-after : (m : Key → List ℕ) (came : Key → ℕ) (xs : List Data) → Fed m came xs → (h r : ℕ) → after scanner m (map (asPiece d F) xs) (F h r) ≡ held [] (take (after (closing ls) came xs (plain h r)) (streamOf ls h r))
+  pub fed-after : (m : Key → List ℕ) (came : Key → ℕ) (xs : List Data) → Fed m came xs → (h r : ℕ) → after scanner m (map (asPiece d F) xs) (F h r) ≡ held [] (take (after (closing W) came xs (plain h r)) (stream (W h r) (P h r)))
   unfolding after
   fed-after m came [] f h r = f .holds h r
-  fed-after m came (x ∷ xs) f h r = fed-after (step scanner m (asPiece d F x)) (step (closing ls) came x) xs (fed-next m came x xs f) h r
+  fed-after m came (x ∷ xs) f h r = fed-after (step scanner m (asPiece d F x)) (step (closing W) came x) xs (fed-next m came x xs f) h r

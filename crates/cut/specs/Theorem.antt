@@ -36,11 +36,12 @@ use Rattle.cut.specs.Recording.{Link, Record, Recording, rows, file, cut
 use Rattle.cut.specs.Left.{recordsLeft, tailLeft, sentIn, Data, dataKey, linkKey, informationOf, dataOf, dataLeft, closedIn, wires, wiresOf, closing, framesLeft, midLeft}
 use Rattle.cut.specs.Honest.{pdusIn, kindIn, MarkedPdu, nothingOpen, markedPdus, Fragments, Honest}
 use Rattle.cut.specs.Claim.{answerLeft, listLeft, CutClaim}
-use Rattle.cut.specs.Kept.{records-front, cut-records, take-past}
-use Rattle.cut.specs.Wires.{held-mid, mid-none}
-use Rattle.cut.specs.Streams.{information-append, plain, partialOf, streamOf, Framed, asPiece, Apart, came-after, Fed, fed-run, fed-after}
+use Rattle.cut.specs.Parts.{map-map, take-past, all-at}
+use Rattle.cut.specs.Kept.{records-front, cut-records}
+use Rattle.cut.specs.Wires.{stream, held-mid, mid-none}
+use Rattle.cut.specs.Streams.{information-append, plain, Framed, asPiece, Apart, came-after, Fed, fed-run, fed-after}
 use Rattle.cut.specs.Counts.{mem-nub, once-nub, count-same, count-respell}
-use Rattle.cut.specs.Links.{all-at, wires-all, links-framed, wire-unpacks, handles, found, directions, on-directions, directions-once, midAt, mid-counted}
+use Rattle.cut.specs.Links.{partialOf, wires-all, links-framed, wire-unpacks, handles, found, directions, on-directions, directions-once, midAt, mid-counted}
 use Rattle.cut.specs.Traces.{pdusOf, pdus-in, dataIn, trace-data, under-none, fragments-front, sent-append, data-append, OnLink, trace-links}
 use Rattle.cut.specs.Calm.{judgedBy, stretch, stretch-apart, calm-pieces, Near, calm-near, chosen-yes, chosen-no}
 use Rattle.cut.specs.Rules.{cidOf, cut-calm}
@@ -95,14 +96,6 @@ within k ls (all-cons {x = x} {xs = xs} o os) h =
     (λ e. rw (e, o .is) (on-directions (o .link) (o .direction) (o .listed)))
     (λ n. within k ls os (rw (ne-eqK k (dataKey x) n) at h))
 
-all-front : {A : Type 0} {P : A → Type 0} (xs ys : List A) → All P (xs ++ ys) → All P xs
-all-front [] ys a = all-nil
-all-front (x ∷ xs) ys (all-cons p a) = all-cons p (all-front xs ys a)
-
-map-map : {A B C : Type 0} (g : B → C) (f : A → B) (xs : List A) → map g (map f xs) ≡ map (λ x. g (f x)) xs
-map-map g f [] = refl
-map-map g f (x ∷ xs) = rw (map-map g f xs)
-
 -- ---- the frames closed unpack
 
 abbrev Unpacks : Span → Type 0
@@ -120,13 +113,13 @@ all-spans : (r t : ℕ) {ws : List (List ℕ)} → All (λ (w : List ℕ). unpac
 all-spans r t all-nil = all-nil
 all-spans r t (all-cons p ps) = all-cons p (all-spans r t ps)
 
-closing-unpacks : (ls : List Link) → ((h r : ℕ) → All (λ (w : List ℕ). unpacksOf w ≡ true) (wiresOf ls h r)) → (came : Key → ℕ) (xs : List Data) → All Unpacks (run (closing ls) came xs)
+closing-unpacks : (W : ℕ → ℕ → List (List ℕ)) → ((h r : ℕ) → All (λ (w : List ℕ). unpacksOf w ≡ true) (W h r)) → (came : Key → ℕ) (xs : List Data) → All Unpacks (run (closing W) came xs)
 unfolding run
-closing-unpacks ls u came [] = all-nil
-closing-unpacks ls u came (x ∷ xs) =
+closing-unpacks W u came [] = all-nil
+closing-unpacks W u came (x ∷ xs) =
     all-append
     (all-spans (x .rx) (x .time) (all-closed (λ (w : List ℕ). unpacksOf w ≡ true) 0 (came (dataKey x)) (came (dataKey x) + length (x .information)) (u (x .link) (x .rx))))
-    (closing-unpacks ls u (step (closing ls) came x) xs)
+    (closing-unpacks W u (step (closing W) came x) xs)
 
 -- ---- one cut
 
@@ -178,42 +171,42 @@ module _ (R : Recording) (H : Honest R) (n : ℕ) where
   pieces-on : onDlci (R .d) ps ≡ map (asPiece (R .d) F) D
   pieces-on = calm-pieces (R .d) K (cidOf (R .links)) noCounts (cut-calm R H n) ∙ ap (map (asPiece (R .d) F)) data-is
 
-  framed : Framed (R .links)
+  framed : Framed (wiresOf (R .links)) (partialOf (R .links))
   framed = links-framed (H .sizes) (H .beginnings)
 
   -- the information left is a front of what the link direction sends
   record Comes (h r : ℕ) : Type 0 where
     rest : List ℕ
-    is : streamOf (R .links) h r ≡ informationOf (plain h r) D ++ rest
+    is : stream (wiresOf (R .links) h r) (partialOf (R .links) h r) ≡ informationOf (plain h r) D ++ rest
 
   comes : (h r : ℕ) → Comes h r
   comes h r = go (where-is (R .links) (plain h r) on-links)
     where
       go : Where (R .links) (plain h r) D → Comes h r
-      go (nowhere e) = record { rest = streamOf (R .links) h r; is = rw e }
+      go (nowhere e) = record { rest = stream (wiresOf (R .links) h r) (partialOf (R .links) h r); is = rw e }
       go (at-link l t m e) =
           let eh : h ≡ l .handle = cc in
           let er : r ≡ rxOf t = cc in
-          let s : streamOf (R .links) (l .handle) (rxOf t) ≡ flat (wires l t) ++ l .partial t = rw (found [] wires l t m (H .handles), found [] (λ l t. l .partial t) l t m (H .handles)) in
+          let s : stream (wiresOf (R .links) (l .handle) (rxOf t)) (partialOf (R .links) (l .handle) (rxOf t)) ≡ flat (wires l t) ++ l .partial t = rw (found [] wires l t m (H .handles), found [] (λ l t. l .partial t) l t m (H .handles)) in
           let i : informationOf (linkKey l t) D ++ informationOf (linkKey l t) (dataOf (sentIn R back)) ≡ flat (wires l t) ++ l .partial t =
           sym (information-append (linkKey l t) D (dataOf (sentIn R back))) ∙ ap (informationOf (linkKey l t)) (sym data-whole) ∙ all-at m (H .information) t in
           record { rest = informationOf (linkKey l t) (dataOf (sentIn R back)); is = rw (eh, er) (s ∙ sym i) }
 
-  fed : Fed (R .links) framed (R .d) F apart emptied (λ k. 0) D
+  fed : Fed (wiresOf (R .links)) (partialOf (R .links)) framed (R .d) F apart emptied (λ k. 0) D
   unfolding held
   fed = record { holds = λ h r. refl; rest = λ h r. comes h r .rest; comes = λ h r. comes h r .is }
 
   -- the spans are the frames left
   spans-left : spans (onDlci (R .d) ps) ≡ framesLeft R n
   unfolding spans framesLeft
-  spans-left = rw pieces-on (fed-run (R .links) framed (R .d) F apart emptied (λ k. 0) D fed)
+  spans-left = rw pieces-on (fed-run (wiresOf (R .links)) (partialOf (R .links)) framed (R .d) F apart emptied (λ k. 0) D fed)
 
   -- a buffer is not empty if its link direction ends mid-frame
   buffers : (h r : ℕ) → ltb 0 (length (after scanner emptied (map (asPiece (R .d) F) D) (F h r))) ≡ midAt R n (plain h r)
   buffers h r =
-      let c : after (closing (R .links)) (λ k. 0) D (plain h r) ≡ length (informationOf (plain h r) D) = came-after (R .links) (λ k. 0) D (plain h r) ∙ zero-add (length (informationOf (plain h r) D)) in
-      let g : length (informationOf (plain h r) D) ≤ length (streamOf (R .links) h r) = omega (arith, ap length (comes h r .is), length-append (informationOf (plain h r) D) (comes h r .rest)) in
-      rw (fed-after (R .links) framed (R .d) F apart emptied (λ k. 0) D fed h r, c)
+      let c : after (closing (wiresOf (R .links))) (λ k. 0) D (plain h r) ≡ length (informationOf (plain h r) D) = came-after (wiresOf (R .links)) (λ k. 0) D (plain h r) ∙ zero-add (length (informationOf (plain h r) D)) in
+      let g : length (informationOf (plain h r) D) ≤ length (stream (wiresOf (R .links) h r) (partialOf (R .links) h r)) = omega (arith, ap length (comes h r .is), length-append (informationOf (plain h r) D) (comes h r .rest)) in
+      rw (fed-after (wiresOf (R .links)) (partialOf (R .links)) framed (R .d) F apart emptied (λ k. 0) D fed h r, c)
       (held-mid (wiresOf (R .links) h r) (partialOf (R .links) h r) (framed .whole h r) (framed .begun h r) (length (informationOf (plain h r) D)) g)
 
   same-keys : (k : Key) → midAt R n k ≡ true → mem k (nub (map dataKey D)) ≡ mem k (directions (R .links))
@@ -232,7 +225,7 @@ module _ (R : Recording) (H : Honest R) (n : ℕ) where
 
   left-unpack : All Unpacks (framesLeft R n)
   unfolding framesLeft
-  left-unpack = closing-unpacks (R .links) (wires-all (λ (w : List ℕ). unpacksOf w ≡ true) wire-unpacks (H .sizes)) (λ k. 0) D
+  left-unpack = closing-unpacks (wiresOf (R .links)) (wires-all (λ (w : List ℕ). unpacksOf w ≡ true) wire-unpacks (H .sizes)) (λ k. 0) D
 
   near : All (Near (R .d)) ps
   near = calm-near (R .d) K (cidOf (R .links)) noCounts (cut-calm R H n)

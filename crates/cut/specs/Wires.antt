@@ -16,7 +16,7 @@ use Rattle.laws.specs.Lists.{flat, All, all-nil, all-cons}
 use Rattle.spans.specs.Scan.{spansOf, restOf, capped}
 use Rattle.spans.specs.Bytewise.{feed, emit, held, emitted, held-append, emitted-append, quiet-nil, quiet-held, next-is, out-is}
 use Rattle.cut.specs.Left.{closedIn, midFrame}
-use Rattle.cut.specs.Kept.{take-past}
+use Rattle.cut.specs.Parts.{take-past, all-take}
 
 abbrev pub NoEnd : List ℕ → Type 0
 NoEnd b = All (λ (x : ℕ). x ≢ 0x3C) b
@@ -28,11 +28,6 @@ pub data Wire : List ℕ → Type 0 where
 pub data Begun : List ℕ → Type 0 where
   nothing : Begun []
   begun : {b : List ℕ} → NoEnd b → length b ≤ 65535 → Begun (0x3E ∷ b)
-
-all-take : {A : Type 0} {P : A → Type 0} (n : ℕ) {b : List A} → All P b → All P (take n b)
-all-take zero w = all-nil
-all-take (suc n) all-nil = all-nil
-all-take (suc n) (all-cons p w) = all-cons p (all-take n w)
 
 begun-take : (n : ℕ) {b : List ℕ} → Begun b → Begun (take n b)
 begun-take zero w = nothing
