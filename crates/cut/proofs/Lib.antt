@@ -3,3 +3,4 @@ pub mod Tests
 pub mod Made
 pub mod Recordings
 pub mod Computed
+pub mod Needed

@@ -3,7 +3,7 @@ use Prim.Native.Nat.{ℕ, zero, suc, _+_, _-_, _≤_}
 use mathlib.Core.Path.{_≡_, refl}
 use mathlib.Core.List.{List, [], _∷_, _++_, map, List·Memᴰ, List·Memᴰ·head, List·Memᴰ·tail}
 use native.Mathlib.Omega.{arith}
-use lib.ListN.{length, take}
+use lib.ListN.{length, take, drop}
 use lib.Seq.{take-append-add}
 use Rattle.laws.specs.Choice.{splitB}
 use Rattle.laws.specs.Lists.{All, all-nil, all-cons}
@@ -45,6 +45,11 @@ pub all-take : {A : Type 0} {P : A → Type 0} (n : ℕ) {xs : List A} → All P
 all-take zero w = all-nil
 all-take (suc n) all-nil = all-nil
 all-take (suc n) (all-cons p w) = all-cons p (all-take n w)
+
+pub all-drop : {A : Type 0} {P : A → Type 0} (n : ℕ) {xs : List A} → All P xs → All P (drop n xs)
+all-drop zero w = w
+all-drop (suc n) all-nil = all-nil
+all-drop (suc n) (all-cons p w) = all-drop n w
 
 pub all-back : {A : Type 0} {P : A → Type 0} (xs : List A) {ys : List A} → All P (xs ++ ys) → All P ys
 all-back [] a = a

@@ -43,12 +43,12 @@ wire-some (wired w g) = omega arith
 
 -- ---- scanned from nothing
 
-inside-held : (a : ℕ) (h b : List ℕ) → NoEnd b → held (a ∷ h) b ≡ a ∷ (h ++ b)
+pub inside-held : (a : ℕ) (h b : List ℕ) → NoEnd b → held (a ∷ h) b ≡ a ∷ (h ++ b)
 unfolding held feed
 inside-held a h [] all-nil = rw (append-nil h)
 inside-held a h (x ∷ b) (all-cons p w) = rw (ne-eqb x 0x3C, inside-held a (h ++ (x ∷ [])) b w, append-assoc)
 
-inside-emitted : (a : ℕ) (h b : List ℕ) → NoEnd b → emitted (a ∷ h) b ≡ []
+pub inside-emitted : (a : ℕ) (h b : List ℕ) → NoEnd b → emitted (a ∷ h) b ≡ []
 unfolding emitted feed emit
 inside-emitted a h [] all-nil = refl
 inside-emitted a h (x ∷ b) (all-cons p w) = rw (ne-eqb x 0x3C, inside-emitted a (h ++ (x ∷ [])) b w)
