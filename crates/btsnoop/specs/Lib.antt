@@ -1,4 +1,10 @@
 pub mod Header
+pub mod Headers
 pub mod Records
 pub mod Packets
 pub mod PacketTable
+pub mod Parts
+pub mod Walk
+pub mod Reading
+pub mod Adding
+pub mod PacketFrames

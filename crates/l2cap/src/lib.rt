@@ -1,1 +1,311 @@
-// L2CAP: PDUs put together from fragments.
+// L2CAP: PDUs put together from fragments. Each gets a row in work; its payload stays in the file, or is joined in work.
+ghost use mathlib.Core.Path.{_≡_};
+ghost use Prim.Native.Nat.{_+_, _*_, _≤_, _<_, min};
+ghost use lib.ListN.{length, getD, take, drop};
+ghost use Rattle.laws.specs.Numbers.{le16};
+ghost use Rattle.laws.specs.Stores.{Writes};
+ghost use Rattle.btsnoop.specs.PacketTable.{packetAt, packetsFrom, Tabled};
+ghost use Rattle.l2cap.specs.Pdus.{pdus};
+ghost use Rattle.l2cap.specs.PduTable.{pduAt, Reassembled};
+ghost use Rattle.l2cap.specs.PduFrames.{Lent};
+ghost use Rattle.l2cap.specs.Steps.{pieceOf, since, brought, Walk, Paste, Gather, Need, openAt, grown, nextAt, Small, Arrive, putPdu, PutPdu, Finish, Finished, Step, Stepped};
+use table::Row;
+use table::find;
+use table::store;
+use words::copy_to;
+use words::get32;
+use words::get64;
+use words::put32;
+use words::put64;
+use words::wide32;
+
+// What is open under a key: nothing, or the PDU that a packet began, and its bytes so far.
+enum Open {
+    Closed,
+    From(usize, usize),
+}
+
+// The rows of open PDUs, the PDUs made, and the end of the joined payloads.
+pub struct Tables {
+    pub live: usize,
+    pub made: usize,
+    pub top: usize,
+}
+
+// The number of bytes that packet i brings to the key.
+fn brings(w: &[u8], i: usize, key: u32) -> usize
+    requires { ⌜ 24 * i + 24 ≤ length (now w) ⌝ }
+    ensures { λ r. ⌜ r ≡ brought (now (w .entry)) key i ⌝ }
+{
+    if get32(w, 6 * i) == key {
+        return wide32(get32(w, 6 * i + 3));
+    }
+    0
+}
+
+// The byte number at of what the key has from the packets first .. upto - 1; 0 if it is not there.
+fn byte_of(file: &[u8], w: &[u8], first: usize, upto: usize, key: u32, at: usize) -> u8
+    requires { ⌜ Walk (now file) (now w) first upto ⌝ }
+    ensures { λ r. ⌜ r ≡ getD (since (now (file .entry)) (now (w .entry)) key first upto) at 0 ⌝ }
+{
+    let mut i = first;
+    let mut j = at;
+    while i < upto {
+        let n = brings(w, i, key);
+        if j < n {
+            let s = wide32(get32(w, 6 * i + 2));
+            return file[s + j];
+        }
+        j -= n;
+        i += 1;
+    }
+    0
+}
+
+fn pair(a: u8, b: u8) -> u32
+    ensures { λ r. ⌜ (r ≡ a + 256 * b) × (r < 65536) ⌝ }
+{
+    (a as u32) + 256 * (b as u32)
+}
+
+// The 16-bit number at a place of what the key has: it may be split over fragments.
+fn half(file: &[u8], w: &[u8], first: usize, upto: usize, key: u32, at: usize) -> u32
+    requires { ⌜ (Walk (now file) (now w) first upto) × (at < 4) ⌝ }
+    ensures { λ r. ⌜ (r ≡ le16 (since (now (file .entry)) (now (w .entry)) key first upto) at) × (r < 65536) ⌝ }
+{
+    pair(
+        byte_of(file, w, first, upto, key, at),
+        byte_of(file, w, first, upto, key, at + 1),
+    )
+}
+
+// How many bytes make the PDU complete. With fewer than 4 its length is not there, and no packet is walked for it.
+fn needed(file: &[u8], w: &[u8], first: usize, upto: usize, key: u32, got: usize) -> usize
+    requires { ⌜ Walk (now file) (now w) first upto ⌝ }
+    ensures { λ r. ⌜ Need (since (now (file .entry)) (now (w .entry)) key first upto) got r ⌝ }
+{
+    if got < 4 {
+        return 4;
+    }
+    4 + wide32(half(file, w, first, upto, key, 0))
+}
+
+fn least(a: usize, b: usize) -> usize
+    ensures { λ r. ⌜ r ≡ min a b ⌝ }
+{
+    if a < b {
+        return a;
+    }
+    b
+}
+
+// n bytes from a place on.
+fn part(s: &[u8], a: usize, n: usize) -> &[u8]
+    requires { ⌜ a + n ≤ length (now s) ⌝ }
+    ensures { λ r. ⌜ now r ≡ take n (drop a (now (s .entry))) ⌝ }
+{
+    let e = a + n;
+    &s[a..e]
+}
+
+// Stores what packet i brings to the key, left bytes of it at most, and returns the place after it.
+fn paste(file: &[u8], w: &mut [u8], i: usize, key: u32, left: usize, to: usize) -> usize
+    requires { ⌜ Paste (now file) (now w) i left to ⌝ }
+    ensures { λ r. ⌜ Writes (now (w .entry)) to (take left (pieceOf key (packetAt (now (file .entry)) (now (w .entry)) i))) r (now (w .exit)) ⌝ }
+{
+    let n = least(brings(w, i, key), left);
+    let s = wide32(get32(w, 6 * i + 2));
+    copy_to(part(file, s, n), w, to)
+}
+
+// Joins what the key has from the packets first .. upto - 1, need bytes of it at most, and returns the place after them.
+fn gather(
+    file: &[u8],
+    w: &mut [u8],
+    first: usize,
+    upto: usize,
+    key: u32,
+    need: usize,
+    to: usize,
+) -> usize
+    requires { ⌜ Gather (now file) (now w) first upto need to ⌝ }
+    ensures { λ r. ⌜ Writes (now (w .entry)) to (take need (since (now (file .entry)) (now (w .entry)) key first upto)) r (now (w .exit)) ⌝ }
+{
+    let end = to + need;
+    let mut i = first;
+    let mut pos = to;
+    while i < upto {
+        pos = paste(file, w, i, key, end - pos, pos);
+        i += 1;
+    }
+    pos
+}
+
+fn wide64(x: u32) -> u64
+    ensures { λ r. ⌜ r ≡ x ⌝ }
+{
+    x as u64
+}
+
+fn narrow(x: usize) -> u32
+    requires { ⌜ x < 4294967296 ⌝ }
+    ensures { λ r. ⌜ r ≡ x ⌝ }
+{
+    x as u32
+}
+
+// What is open under the key.
+fn look(w: &[u8], base: usize, count: usize, key: u32) -> Open
+    requires { ⌜ 4 * (base + 4 * count) ≤ length (now w) ⌝ }
+    ensures { λ r. ⌜ r ≡ openAt (now (w .entry)) base count key ⌝ }
+{
+    let f = find(w, base, count, wide64(key));
+    let Row::At(i) = f else {
+        return Open::Closed;
+    };
+    let first = wide32(get32(w, base + 4 * i + 2));
+    let got = wide32(get32(w, base + 4 * i + 3));
+    if first == 0 {
+        return Open::Closed;
+    }
+    Open::From(first - 1, got)
+}
+
+// What a fragment of n bytes in packet i makes of what is open.
+fn fragment(o: Open, start: u32, i: usize, n: usize) -> Open
+    requires { ⌜ Small o n ⌝ }
+    ensures { λ r. ⌜ r ≡ grown start o i n ⌝ }
+{
+    if start == 1 {
+        return Open::From(i, n);
+    }
+    match o {
+        Open::Closed => Open::Closed,
+        Open::From(a, g) => Open::From(a, g + n),
+    }
+}
+
+// What is open under packet i's key once it is read.
+fn arrive(w: &[u8], opens: usize, live: usize, i: usize) -> Open
+    requires { ⌜ Arrive (now w) opens live i ⌝ }
+    ensures { λ r. ⌜ r ≡ nextAt (now (w .entry)) opens live i ⌝ }
+{
+    let key = get32(w, 6 * i);
+    let start = get32(w, 6 * i + 1);
+    let n = wide32(get32(w, 6 * i + 3));
+    let o = look(w, opens, live, key);
+    fragment(o, start, i, n)
+}
+
+// Writes a PDU's row at word at.
+fn put_pdu(
+    w: &mut [u8],
+    at: usize,
+    key: u32,
+    cid: u32,
+    joined: u32,
+    start: usize,
+    len: usize,
+    time: u64,
+)
+    requires { ⌜ PutPdu (now w) at start len ⌝ }
+    ensures { λ _. ⌜ now (w .exit) ≡ putPdu (now (w .entry)) at key cid joined start len time ⌝ }
+{
+    put32(w, at, key);
+    put32(w, at + 1, cid);
+    put32(w, at + 2, joined);
+    put32(w, at + 3, start as u32);
+    put32(w, at + 4, len as u32);
+    put64(w, at + 5, time);
+}
+
+// Packet i completes the PDU that packet first began: its row, and its bytes at top if they have to be joined. Returns their end.
+fn finish(
+    file: &[u8],
+    w: &mut [u8],
+    base: usize,
+    made: usize,
+    top: usize,
+    i: usize,
+    first: usize,
+    need: usize,
+) -> usize
+    requires { ⌜ Finish (now file) (now w) base made top i first need ⌝ }
+    ensures { λ r. ⌜ Finished (now (file .entry)) (now (w .entry)) base made top i first need (now (w .exit)) r ⌝ }
+{
+    let key = get32(w, 6 * i);
+    let cid = half(file, w, first, i + 1, key, 2);
+    let time = get64(w, 6 * i + 4);
+    if first == i {
+        let s = wide32(get32(w, 6 * i + 2));
+        put_pdu(w, base + 7 * made, key, cid, 0, s + 4, need - 4, time);
+        return top;
+    }
+    let end = gather(file, w, first, i + 1, key, need, top);
+    put_pdu(w, base + 7 * made, key, cid, 1, top + 4, need - 4, time);
+    end
+}
+
+// One packet. A quarter of the file's length, q words, is the size of each area of work.
+fn step(file: &[u8], w: &mut [u8], q: usize, t: Tables, i: usize) -> Tables
+    requires { ⌜ Step (now file) (now w) q t i ⌝ }
+    ensures { λ r. ⌜ Stepped (now (file .entry)) (now (w .entry)) q t i (now (w .exit)) r ⌝ }
+{
+    let live = t.live;
+    let made = t.made;
+    let top = t.top;
+    let key = get32(w, 6 * i);
+    let next = arrive(w, 3 * q, live, i);
+    let Open::From(first, got) = next else {
+        return t;
+    };
+    let need = needed(file, w, first, i + 1, key, got);
+    if need <= got {
+        let end = finish(file, w, 2 * q, made, top, i, first, need);
+        let rows = store(w, 3 * q, live, wide64(key), 0, 0);
+        return Tables {
+            live: rows,
+            made: made + 1,
+            top: end,
+        };
+    }
+    let rows = store(w, 3 * q, live, wide64(key), narrow(first + 1), narrow(got));
+    Tables {
+        live: rows,
+        made: made,
+        top: top,
+    }
+}
+
+// The PDUs of the packets whose table stands at the start of work.
+pub fn reassemble(file: &[u8], w: &mut [u8], count: usize) -> Tables
+    requires { ⌜ Tabled (now file) (now w) count ⌝ }
+    ensures { λ r. ⌜ Reassembled (now (file .entry)) (now (w .exit)) (r .made) (pdus (packetsFrom (now (file .entry)) (now (w .entry)) 0 count)) ⌝ }
+{
+    let q = file.len() / 4;
+    let mut t = Tables {
+        live: 0,
+        made: 0,
+        top: 4 * q,
+    };
+    let mut i = 0;
+    while i < count {
+        t = step(file, w, q, t, i);
+        i += 1;
+    }
+    t
+}
+
+// The payload of the PDU whose row is at word at: a part of the file, or of work if it was joined.
+pub fn payload<'a>(file: &'a [u8], w: &'a [u8], at: usize) -> &'a [u8]
+    requires { ⌜ Lent (now file) (now w) at ⌝ }
+    ensures { λ r. ⌜ now r ≡ pduAt (now (file .entry)) (now (w .entry)) at .payload ⌝ }
+{
+    let joined = get32(w, at + 2);
+    let s = wide32(get32(w, at + 3));
+    let n = wide32(get32(w, at + 4));
+    if joined == 1 {
+        return part(w, s, n);
+    }
+    part(file, s, n)
+}

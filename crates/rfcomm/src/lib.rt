@@ -1,1 +1,398 @@
 // RFCOMM: SABM and UIH frames, sessions and links, and the pieces of information they carry.
+ghost use mathlib.Core.Path.{_≡_};
+ghost use mathlib.Core.Bool.{cond};
+ghost use Prim.Native.Nat.{_+_, _-_, _*_, _/_, _%_, _≤_, _<_};
+ghost use lib.Dec.{eqb};
+ghost use lib.ListN.{length};
+ghost use Rattle.rfcomm.specs.Frames.{isSabm, isUih};
+ghost use Rattle.rfcomm.specs.Reading.{UihPre, FrameIs, LengthIs};
+ghost use Rattle.rfcomm.specs.CountTable.{valueOf, UpPre};
+ghost use Rattle.rfcomm.specs.Judging.{placedUih, FrameVerdict, JudgePre, VerdictIs};
+ghost use Rattle.l2cap.specs.PduFrames.{Lent};
+ghost use Rattle.rfcomm.specs.PieceRows.{stretchOf, bytesOf, rowOf, PutPre};
+ghost use Rattle.table.specs.Table.{lookup, Stored};
+ghost use Rattle.words.specs.Rows.{putWords};
+ghost use Rattle.words.specs.Words.{long};
+ghost use Rattle.rfcomm.specs.Gathering.{partOf, PiecePre, TakePre, Ready, TakenIn, PiecesPre, ReadPieces};
+use channels::asks;
+use channels::is_tried;
+use l2cap::payload;
+use table::Row;
+use table::find;
+use table::store;
+use words::get32;
+use words::get64;
+use words::put32;
+use words::put64;
+use words::wide;
+use words::wide32;
+
+// A UIH frame in a payload: its DLCI, where its information starts, and its length.
+pub struct Uih {
+    pub dlci: u32,
+    pub start: usize,
+    pub len: usize,
+}
+
+pub enum Frame {
+    // the DLCI
+    Sabm(u32),
+    Uih(Uih),
+    Other,
+}
+
+// 0x2F, or 0x3F with the P/F bit.
+fn is_sabm(control: u8) -> bool
+    ensures { λ r. ⌜ r ≡ isSabm control ⌝ }
+{
+    if control == 0x2F {
+        return true;
+    }
+    control == 0x3F
+}
+
+// 0xEF, or 0xFF with the P/F bit.
+fn is_uih(control: u8) -> bool
+    ensures { λ r. ⌜ r ≡ isUih control ⌝ }
+{
+    if control == 0xEF {
+        return true;
+    }
+    control == 0xFF
+}
+
+// A length field: how many bytes it has, and its value.
+struct Length {
+    width: usize,
+    value: usize,
+}
+
+// The length field, of one byte or two.
+fn read_length(p: &[u8]) -> Length
+    requires { ⌜ 4 ≤ length (now p) ⌝ }
+    ensures { λ r. ⌜ LengthIs (now (p .entry)) r ⌝ }
+{
+    let first = wide(p[2]);
+    if first % 2 == 1 {
+        return Length {
+            width: 1,
+            value: first / 2,
+        };
+    }
+    Length {
+        width: 2,
+        value: first / 2 + 128 * wide(p[3]),
+    }
+}
+
+// The DLCI of an address byte.
+fn dlci_of(address: u8) -> u32
+    ensures { λ r. ⌜ (r ≡ address / 4) × (r < 64) ⌝ }
+{
+    (address / 4) as u32
+}
+
+// The credit byte that a control of 0xFF has.
+fn credit_width(control: u8) -> usize
+    ensures { λ r. ⌜ (r ≡ cond (eqb control 0xFF) 1 0) × (r ≤ 1) ⌝ }
+{
+    if control == 0xFF {
+        return 1;
+    }
+    0
+}
+
+// Reads a UIH frame, whose information and FCS must be there.
+fn read_uih(p: &[u8]) -> Frame
+    requires { ⌜ UihPre (now p) ⌝ }
+    ensures { λ r. ⌜ FrameIs (now (p .entry)) r ⌝ }
+{
+    if p.len() < 4 {
+        return Frame::Other;
+    }
+    let l = read_length(p);
+    let start = 2 + l.width + credit_width(p[1]);
+    let len = l.value;
+    if p.len() <= start + len {
+        return Frame::Other;
+    }
+    let u = Uih {
+        dlci: dlci_of(p[0]),
+        start,
+        len,
+    };
+    Frame::Uih(u)
+}
+
+// Reads an RFCOMM frame.
+pub fn read_frame(p: &[u8]) -> Frame
+    ensures { λ r. ⌜ FrameIs (now (p .entry)) r ⌝ }
+{
+    if p.len() < 2 {
+        return Frame::Other;
+    }
+    let control = p[1];
+    if is_sabm(control) {
+        return Frame::Sabm(dlci_of(p[0]));
+    }
+    if is_uih(control) {
+        return read_uih(p);
+    }
+    Frame::Other
+}
+
+// How often a key was counted.
+fn count_of(w: &[u8], base: usize, rows: usize, key: u64) -> u32
+    requires { ⌜ 4 * (base + 4 * rows) ≤ length (now w) ⌝ }
+    ensures { λ r. ⌜ r ≡ valueOf (lookup (now (w .entry)) base rows key) ⌝ }
+{
+    let x = find(w, base, rows, key);
+    match x {
+        Row::At(i) => get32(w, base + 4 * i + 2),
+        Row::Nothing => 0,
+    }
+}
+
+// Counts a key once more, and returns the count of rows.
+fn count_up(w: &mut [u8], base: usize, rows: usize, key: u64) -> usize
+    requires { ⌜ UpPre (now w) base rows key ⌝ }
+    ensures { λ r. ⌜ Stored (now (w .entry)) base rows key (valueOf (lookup (now (w .entry)) base rows key) + 1) 0 (now (w .exit)) r ⌝ }
+{
+    let n = count_of(w, base, rows, key);
+    store(w, base, rows, key, n + 1, 0)
+}
+
+// A piece: its row's numbers but the time.
+pub struct Part {
+    pub dlci: u32,
+    // 2 * link + direction
+    pub way: u32,
+    pub cid: u32,
+    pub sessions: u32,
+    pub links: u32,
+    pub start: u32,
+    pub len: u32,
+    // 1 if the information lies in work
+    pub joined: u32,
+}
+
+// Two 16-bit numbers in a word.
+fn pair(lo: u32, hi: u32) -> u32
+    requires { ⌜ (lo < 65536) × (hi < 65536) ⌝ }
+    ensures { λ r. ⌜ r ≡ lo + 65536 * hi ⌝ }
+{
+    lo + 65536 * hi
+}
+
+// Writes the first words of a piece's row: DLCI, stretch and direction.
+fn put_stretch(w: &mut [u8], at: usize, p: Part)
+    requires { ⌜ PutPre (now w) at p ⌝ }
+    ensures { λ _. ⌜ now (w .exit) ≡ putWords (now (w .entry)) at (stretchOf p) ⌝ }
+{
+    let counts = pair(p.sessions, p.links);
+    put32(w, at, p.dlci);
+    put32(w, at + 1, p.way);
+    put32(w, at + 2, p.cid);
+    put32(w, at + 3, counts);
+}
+
+// Writes the other words of a piece's row, from word at on: its information and time.
+fn put_bytes(w: &mut [u8], at: usize, start: u32, size: u32, time: u64)
+    requires { ⌜ 4 * at + 16 ≤ length (now w) ⌝ }
+    ensures { λ _. ⌜ now (w .exit) ≡ putWords (now (w .entry)) at (bytesOf start size time) ⌝ }
+{
+    put32(w, at, start);
+    put32(w, at + 1, size);
+    put64(w, at + 2, time);
+}
+
+// Writes the row of a piece at word at.
+fn put_piece(w: &mut [u8], at: usize, p: Part, time: u64)
+    requires { ⌜ PutPre (now w) at p ⌝ }
+    ensures { λ _. ⌜ now (w .exit) ≡ putWords (now (w .entry)) at (rowOf p time) ⌝ }
+{
+    put_stretch(w, at, p);
+    let size = pair(p.len, p.joined);
+    put_bytes(w, at + 4, p.start, size, time);
+}
+
+// Information in the file, or in work where joined is 1.
+pub struct Info {
+    pub dlci: u32,
+    pub start: usize,
+    pub len: usize,
+    pub joined: u32,
+}
+
+// What a PDU is once it is judged.
+pub enum Verdict {
+    // a PSM 3 request
+    Asks,
+    // SABM on a DLCI
+    Opens(u32),
+    // UIH with information
+    Carries(Info),
+    Passed,
+}
+
+// 1 if a payload was joined in work.
+fn joined_of(place: u32) -> u32
+    ensures { λ r. ⌜ r ≡ cond (eqb place 1) 1 0 ⌝ }
+{
+    if place == 1 {
+        return 1;
+    }
+    0
+}
+
+// The information of a UIH frame in the payload of a row. DLCI 0 and empty information are passed over.
+fn place_uih(w: &[u8], row: usize, u: Uih) -> Verdict
+    requires { ⌜ (4 * row + 28 ≤ length (now w)) × (u .start ≤ 5) ⌝ }
+    ensures { λ r. ⌜ r ≡ placedUih (now (w .entry)) row u ⌝ }
+{
+    let dlci = u.dlci;
+    let len = u.len;
+    if dlci == 0 {
+        return Verdict::Passed;
+    }
+    if len == 0 {
+        return Verdict::Passed;
+    }
+    let joined = joined_of(get32(w, row + 2));
+    let place = wide32(get32(w, row + 3));
+    let i = Info {
+        dlci,
+        start: place + u.start,
+        len,
+        joined,
+    };
+    Verdict::Carries(i)
+}
+
+// What the frame in the payload of a row is.
+fn judge_frame<'a>(file: &'a [u8], w: &'a [u8], row: usize) -> Verdict
+    requires { ⌜ Lent (now file) (now w) row ⌝ }
+    ensures { λ r. ⌜ FrameVerdict (now (file .entry)) (now (w .entry)) row r ⌝ }
+{
+    let x = read_frame(payload(file, w, row));
+    match x {
+        Frame::Sabm(d) => Verdict::Opens(d),
+        Frame::Uih(u) => place_uih(w, row, u),
+        Frame::Other => Verdict::Passed,
+    }
+}
+
+// What the PDU of a row is, by the channels of the whole file.
+fn judge<'a>(file: &'a [u8], w: &'a [u8], row: usize, base: usize, rows: usize) -> Verdict
+    requires { ⌜ JudgePre (now file) (now w) row base rows ⌝ }
+    ensures { λ r. ⌜ VerdictIs (now (file .entry)) (now (w .entry)) row base rows r ⌝ }
+{
+    if asks(file, w, row) {
+        return Verdict::Asks;
+    }
+    if is_tried(w, base, rows, get32(w, row), get32(w, row + 1)) {
+        return judge_frame(file, w, row);
+    }
+    Verdict::Passed
+}
+
+// Rows of counts, and pieces.
+pub struct Taken {
+    pub counts: usize,
+    pub pieces: usize,
+}
+
+// The key of a link's count: its sessions under DLCI 0, else its links on the DLCI.
+fn count_key(link: u32, dlci: u32) -> u64
+    requires { ⌜ dlci < 64 ⌝ }
+    ensures { λ r. ⌜ r ≡ 64 * link + dlci ⌝ }
+{
+    64 * (link as u64) + (dlci as u64)
+}
+
+// A place as a word.
+fn narrow(x: usize) -> u32
+    requires { ⌜ x < 4294967296 ⌝ }
+    ensures { λ r. ⌜ r ≡ x ⌝ }
+{
+    x as u32
+}
+
+// The piece that a PDU's information makes, with the counts that stand.
+fn piece_of(w: &[u8], row: usize, base: usize, rows: usize, i: Info) -> Part
+    requires { ⌜ PiecePre (now w) row base rows i ⌝ }
+    ensures { λ r. ⌜ r ≡ partOf (now (w .entry)) row base rows i ⌝ }
+{
+    let side = get32(w, row);
+    let link = side / 2;
+    let sessions = count_of(w, base, rows, count_key(link, 0));
+    let links = count_of(w, base, rows, count_key(link, i.dlci));
+    Part {
+        dlci: i.dlci,
+        way: side,
+        cid: get32(w, row + 1),
+        sessions,
+        links,
+        start: narrow(i.start),
+        len: narrow(i.len),
+        joined: i.joined,
+    }
+}
+
+// Takes in the piece of a PDU's information as row number n of the table at word at.
+fn take_piece(w: &mut [u8], row: usize, base: usize, rows: usize, i: Info, at: usize)
+    requires { ⌜ TakePre (now w) row base rows i at ⌝ }
+    ensures { λ _. ⌜ now (w .exit) ≡ putWords (now (w .entry)) at (rowOf (partOf (now (w .entry)) row base rows i) (long (now (w .entry)) (row + 5))) ⌝ }
+{
+    let p = piece_of(w, row, base, rows, i);
+    let time = get64(w, row + 5);
+    put_piece(w, at, p, time);
+}
+
+// Takes in PDU number j: a count, a piece, or nothing.
+fn take_pdu(file: &[u8], w: &mut [u8], q: usize, rows: usize, t: Taken, j: usize) -> Taken
+    requires { ⌜ Ready (now file) (now w) q rows t j ⌝ }
+    ensures { λ r. ⌜ TakenIn (now (file .entry)) (now (w .entry)) q rows t j (now (w .exit)) r ⌝ }
+{
+    let row = 2 * q + 7 * j;
+    let counts = t.counts;
+    let pieces = t.pieces;
+    let v = judge(file, w, row, 3 * q, rows);
+    let link = get32(w, row) / 2;
+    match v {
+        Verdict::Asks => {
+            let c = count_up(w, 6 * q, counts, count_key(link, 0));
+            Taken { counts: c, pieces }
+        }
+        Verdict::Opens(d) => {
+            let c = count_up(w, 6 * q, counts, count_key(link, d));
+            Taken { counts: c, pieces }
+        }
+        Verdict::Carries(i) => {
+            take_piece(w, row, 6 * q, counts, i, 5 * q + 8 * pieces);
+            Taken {
+                counts,
+                pieces: pieces + 1,
+            }
+        }
+        Verdict::Passed => t,
+    }
+}
+
+// Reads the pieces of all PDUs into their table, and returns how many there are.
+pub fn read_pieces(file: &[u8], w: &mut [u8], made: usize, rows: usize) -> usize
+    requires { ⌜ PiecesPre (now file) (now w) made rows ⌝ }
+    ensures { λ r. ⌜ ReadPieces (now (file .entry)) (now (w .entry)) made (now (w .exit)) r ⌝ }
+{
+    let q = file.len() / 4;
+    let mut t = Taken {
+        counts: 0,
+        pieces: 0,
+    };
+    let mut j = 0;
+    while j < made {
+        t = take_pdu(file, w, q, rows, t, j);
+        j += 1;
+    }
+    t.pieces
+}

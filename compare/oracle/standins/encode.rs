@@ -1,0 +1,1 @@
+//! Stands in for a module the source only mentions in comments.

@@ -1,0 +1,201 @@
+//! What a call answers, the calls that are compared, and one call held against
+//! the answer expected of it.
+
+use std::borrow::Cow;
+
+/// A call's whole answer: 0 or document 01's refusal number, the values answered
+/// or carried, and the bytes written at the front of the output.
+#[derive(Clone, Debug, PartialEq, Eq)]
+pub struct Answer {
+    pub number: u32,
+    pub values: Vec<u64>,
+    pub written: Vec<u8>,
+}
+
+impl Answer {
+    pub fn done(values: &[u64], written: Vec<u8>) -> Answer {
+        Answer { number: 0, values: values.to_vec(), written }
+    }
+
+    pub fn refused(number: u32, values: &[u64]) -> Answer {
+        Answer { number, values: values.to_vec(), written: Vec::new() }
+    }
+
+    /// The answer with `lent` bytes of output: refusal 7 is the last in every call.
+    pub fn within(&self, lent: usize) -> Cow<'_, Answer> {
+        if self.written.len() > lent {
+            Cow::Owned(Answer::refused(7, &[self.written.len() as u64]))
+        } else {
+            Cow::Borrowed(self)
+        }
+    }
+}
+
+/// The calls of the C interface. Each returns 0 or a refusal number and stores the
+/// values at the front of `values`, as many as there is room for.
+pub trait Subject {
+    fn unpack(&self, wire: &[u8], out: &mut [u8], values: &mut [u64]) -> u32;
+    fn pack(&self, kind: u8, seq: u8, payload: &[u8], out: &mut [u8], values: &mut [u64]) -> u32;
+    #[allow(clippy::too_many_arguments)]
+    fn fixture_name(
+        &self,
+        ms: u64,
+        counter: u32,
+        direction: u8,
+        wire: &[u8],
+        out: &mut [u8],
+        values: &mut [u64],
+    ) -> u32;
+    fn is_command_name(&self, name: &[u8]) -> u32;
+    fn plan(&self, spans: &[u8], excluded: &[u8], out: &mut [u8], values: &mut [u64]) -> u32;
+    fn capture_order(&self, names: &[u8], out: &mut [u8], values: &mut [u64]) -> u32;
+    fn import_strict(&self, file: &[u8], work: &mut [u8], out: &mut [u8], channel: u32, values: &mut [u64]) -> u32;
+    #[allow(clippy::too_many_arguments)]
+    fn import(
+        &self,
+        file: &[u8],
+        work: &mut [u8],
+        out: &mut [u8],
+        channel: u32,
+        tolerant: u32,
+        values: &mut [u64],
+    ) -> u32;
+}
+
+/// The channel of a call that gives none.
+pub const NO_CHANNEL: u32 = 256;
+
+/// A call that answered something else than expected.
+#[derive(Debug)]
+pub struct Difference {
+    pub call: String,
+    pub inputs: Vec<(&'static str, Vec<u8>)>,
+    pub lent: String,
+    pub expected: String,
+    pub got: String,
+}
+
+pub type Checked = Result<(), Box<Difference>>;
+
+/// The input of a call, for a report.
+pub struct Case {
+    pub call: String,
+    pub inputs: Vec<(&'static str, Vec<u8>)>,
+}
+
+pub fn hex(bytes: &[u8]) -> String {
+    bytes.iter().map(|b| format!("{b:02X}")).collect::<Vec<_>>().join(" ")
+}
+
+/// Bytes lent on either side of the output that nobody may touch.
+const GUARD: usize = 32;
+const UNTOUCHED: u64 = 0xD15E_A5ED_0DDB_A115;
+
+/// Buffers to lend, refilled with a new pattern for each call.
+#[derive(Default)]
+pub struct Lender {
+    bytes: Vec<u8>,
+    values: Vec<u64>,
+    turn: usize,
+    /// How many calls were to be answered with each number.
+    pub answers: [u64; NUMBERS],
+}
+
+/// One more than the highest number of a refusal.
+pub const NUMBERS: usize = 21;
+
+impl Lender {
+    /// One call with `lent` bytes of output and room for `room` values. Everything is
+    /// compared: number, values, written bytes, and all that has to stay as it was.
+    pub fn call(
+        &mut self,
+        expected: &Answer,
+        lent: usize,
+        room: usize,
+        call: &mut dyn FnMut(&mut [u8], &mut [u64]) -> u32,
+        case: &dyn Fn() -> Case,
+    ) -> Checked {
+        self.turn += 1;
+        let salt = (self.turn as u8).wrapping_mul(29);
+        let pattern = |i: usize| (i as u8).wrapping_mul(7) ^ salt;
+        self.bytes.clear();
+        self.bytes.extend((0..lent + 2 * GUARD).map(pattern));
+        self.values.clear();
+        self.values.resize(room + 2, UNTOUCHED);
+        let number = call(&mut self.bytes[GUARD..GUARD + lent], &mut self.values[1..1 + room]);
+        let expected = expected.within(lent);
+        self.answers[expected.number as usize] += 1;
+        let mut wrong = Vec::new();
+        if number != expected.number {
+            wrong.push(format!("number {number}"));
+        }
+        let stored = expected.values.len().min(room);
+        let values_differ = self.values[1..1 + stored] != expected.values[..stored]
+            || self.values[0] != UNTOUCHED
+            || self.values[1 + stored..].iter().any(|&v| v != UNTOUCHED);
+        if values_differ {
+            let shown = |v: &u64| if *v == UNTOUCHED { "unchanged".to_string() } else { v.to_string() };
+            wrong.push(format!(
+                "values [{}]",
+                self.values[1..1 + room].iter().map(shown).collect::<Vec<_>>().join(", ")
+            ));
+        }
+        let written = &expected.written;
+        let written_end = GUARD + written.len();
+        if self.bytes[GUARD..written_end] != written[..] {
+            let at = (0..written.len()).find(|&i| self.bytes[GUARD + i] != written[i]).unwrap_or(0);
+            wrong.push(format!("output byte {at} is {:02X}, expected {:02X}", self.bytes[GUARD + at], written[at]));
+        }
+        let kept = |i: &usize| self.bytes[*i] == pattern(*i);
+        if let Some(i) = (0..GUARD).chain(written_end..self.bytes.len()).find(|i| !kept(i)) {
+            let at = i as i64 - GUARD as i64;
+            wrong.push(format!("output byte {at} was to stay {:02X} and is {:02X}", pattern(i), self.bytes[i]));
+        }
+        if wrong.is_empty() {
+            return Ok(());
+        }
+        if !wrong[0].starts_with("number") {
+            wrong.insert(0, format!("number {number}"));
+        }
+        let case = case();
+        Err(Box::new(Difference {
+            call: case.call,
+            inputs: case.inputs,
+            lent: format!("{lent} bytes of output, room for {room} values"),
+            expected: format!("number {}, values {:?}, written: {}", expected.number, expected.values, hex(written)),
+            got: wrong.join("; "),
+        }))
+    }
+
+    /// The call with outputs of one byte less than needed, as many, more, and none.
+    pub fn about(
+        &mut self,
+        expected: &Answer,
+        call: &mut dyn FnMut(&mut [u8], &mut [u64]) -> u32,
+        case: &dyn Fn() -> Case,
+    ) -> Checked {
+        let needed = expected.written.len();
+        if expected.number == 0 {
+            let room = self.room(expected);
+            self.call(expected, needed, room, call, case)?;
+            if needed > 0 {
+                let room = self.room(expected);
+                self.call(expected, needed - 1, room, call, case)?;
+            }
+        }
+        let more = needed + [1, 0, 2, 9, 64][self.turn % 5];
+        let lent = if self.turn % 7 == 0 { 0 } else { more };
+        let room = self.room(expected);
+        self.call(expected, lent, room, call, case)
+    }
+
+    /// Room for values: mostly one more than there are, at times fewer.
+    pub fn room(&self, expected: &Answer) -> usize {
+        let all = expected.values.len();
+        match self.turn % 4 {
+            0 => self.turn / 4 % (all + 1),
+            1 => all,
+            _ => all.max(1) + 1,
+        }
+    }
+}

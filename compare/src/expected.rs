@@ -1,0 +1,133 @@
+//! The oracle's answers in document 01's numbers, with what 01 adds to the source:
+//! refusals 1, 2, 18, 19 and 20. Refusal 7 depends on what is lent, and
+//! `Answer::within` adds it.
+
+use std::path::Path;
+
+use crate::answer::{Answer, NO_CHANNEL};
+use crate::items;
+use oracle::capture::{self, Direction, ImportError, Imported};
+use oracle::mdr::frame::{self, FrameError};
+use oracle::mdr::DataType;
+
+pub const LONGEST_PAYLOAD: usize = 32_760;
+pub const LONGEST_FILE: usize = 1_048_576;
+
+pub fn frame_refusal(error: FrameError) -> Answer {
+    match error {
+        FrameError::TooShort => Answer::refused(10, &[]),
+        FrameError::NoStart => Answer::refused(11, &[]),
+        FrameError::NoEnd => Answer::refused(12, &[]),
+        FrameError::TrailingSentry => Answer::refused(13, &[]),
+        FrameError::BadEscapee(byte) => Answer::refused(14, &[byte.into()]),
+        FrameError::BodyTooShort => Answer::refused(15, &[]),
+        FrameError::LengthMismatch { declared, actual } => Answer::refused(16, &[declared as u64, actual as u64]),
+        FrameError::BadChecksum { declared, computed } => Answer::refused(17, &[declared.into(), computed.into()]),
+    }
+}
+
+pub fn unpack(wire: &[u8]) -> Answer {
+    match frame::unpack(wire) {
+        Ok(f) => Answer::done(&[f.data_type.to_wire().into(), f.seq.into(), f.payload.len() as u64], f.payload),
+        Err(e) => frame_refusal(e),
+    }
+}
+
+pub fn pack(kind: u8, seq: u8, payload: &[u8]) -> Answer {
+    if payload.len() > LONGEST_PAYLOAD {
+        return Answer::refused(18, &[]);
+    }
+    let wire = frame::pack(DataType::from_wire(kind), seq, payload);
+    Answer::done(&[wire.len() as u64], wire)
+}
+
+pub fn fixture_name(ms: u64, counter: u32, direction: Direction, wire: &[u8]) -> Answer {
+    match (capture::fixture_name(ms, counter, direction, wire), frame::unpack(wire)) {
+        (Some(name), _) => Answer::done(&[name.len() as u64], name.into_bytes()),
+        (None, Err(e)) => frame_refusal(e),
+        (None, Ok(_)) => unreachable!("a frame that unpacks has a name"),
+    }
+}
+
+/// The names of a list as the oracle takes them, if it can: UTF-8.
+fn strings(names: Vec<Vec<u8>>) -> Option<Vec<String>> {
+    names.into_iter().map(|n| String::from_utf8(n).ok()).collect()
+}
+
+/// `None` if an excluded name is not UTF-8: the oracle has no such input.
+pub fn plan(spans: &[u8], excluded: &[u8]) -> Option<Answer> {
+    let frames = match items::read_spans(spans) {
+        Ok(frames) => frames,
+        Err(at) => return Some(Answer::refused(19, &[at as u64])),
+    };
+    let excluded = match items::read_names(excluded) {
+        Ok(names) => strings(names)?,
+        Err(at) => return Some(Answer::refused(20, &[at as u64])),
+    };
+    let imported = Imported { dlci: 0, frames, unfinished: 0 };
+    let names = capture::write_fixtures(&imported, Path::new("."), &excluded).expect("the stand-in writes");
+    let written = oracle::sony::take_written();
+    assert!(names.iter().eq(written.iter().map(|(name, _)| name)));
+    let mut list = Vec::new();
+    for (name, wire) in &written {
+        items::push(&mut list, items::NAME, name.as_bytes());
+        items::push(&mut list, items::WIRE, wire);
+    }
+    Some(Answer::done(&[written.len() as u64, list.len() as u64], list))
+}
+
+/// `None` if a name is not UTF-8.
+pub fn capture_order(names: &[u8]) -> Option<Answer> {
+    let mut names = match items::read_names(names) {
+        Ok(names) => strings(names)?,
+        Err(at) => return Some(Answer::refused(20, &[at as u64])),
+    };
+    capture::capture_order(&mut names);
+    let list = items::name_list(&names);
+    Some(Answer::done(&[list.len() as u64], list))
+}
+
+/// Import of a whole file under the strict rule, for enough work.
+pub fn import_strict(file: &[u8], channel: u32) -> Answer {
+    import_judged(file, file.len(), channel)
+}
+
+/// Import under the tolerant rule: strict import of the whole records, with
+/// refusal 1 judged on the file.
+pub fn import_tolerant(file: &[u8], channel: u32) -> Answer {
+    import_judged(&file[..tail(file)], file.len(), channel)
+}
+
+fn import_judged(file: &[u8], whole: usize, channel: u32) -> Answer {
+    if whole > LONGEST_FILE {
+        return Answer::refused(1, &[]);
+    }
+    let channel = if channel == NO_CHANNEL { None } else { Some(channel as u8) };
+    match capture::import(file, channel) {
+        Ok(imported) => {
+            let list = items::span_list(&imported.frames);
+            let values = [imported.dlci.into(), imported.frames.len(), imported.unfinished, file.len(), list.len()];
+            Answer::done(&values.map(|v: usize| v as u64), list)
+        }
+        Err(ImportError::NotBtsnoop) => Answer::refused(3, &[]),
+        Err(ImportError::Datalink(n)) => Answer::refused(4, &[n.into()]),
+        Err(ImportError::Truncated(at)) => Answer::refused(5, &[at as u64]),
+        Err(ImportError::NoStream) => Answer::refused(6, &[]),
+    }
+}
+
+/// Where the whole records end; the file's length if it has no header to follow.
+pub fn tail(file: &[u8]) -> usize {
+    let mut at = 16;
+    if file.len() < at {
+        return file.len();
+    }
+    while let Some(length) = file.get(at + 4..at + 8) {
+        let end = at + 24 + u32::from_be_bytes(length.try_into().unwrap()) as usize;
+        if end > file.len() {
+            break;
+        }
+        at = end;
+    }
+    at
+}

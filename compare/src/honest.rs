@@ -1,0 +1,386 @@
+//! Honest recordings, as document 01 has them, with what is left at each cut known
+//! from the making: nothing here reads a file back.
+
+use std::collections::VecDeque;
+
+use crate::answer::Answer;
+use crate::codec;
+use crate::items;
+use crate::model::packed;
+use crate::rng::Rng;
+use crate::trace::{self, Trace};
+use oracle::capture::Direction::{self, Rx, Tx};
+use oracle::capture::BTSNOOP_EPOCH_DELTA_US as EPOCH;
+
+/// A data PDU, at the record that completes it.
+struct Brought {
+    /// Where that record ends.
+    end: usize,
+    ms: u64,
+    /// Link and direction.
+    link: usize,
+    direction: Direction,
+    /// The frames whose closing 3C it brings.
+    frames: Vec<Vec<u8>>,
+    /// Whether the direction is then in the middle of a frame.
+    midway: bool,
+}
+
+pub struct Honest {
+    pub file: Vec<u8>,
+    pub dlci: u8,
+    pub ends: Vec<usize>,
+    brought: Vec<Brought>,
+}
+
+impl Honest {
+    pub fn channel(&self) -> u32 {
+        u32::from(self.dlci / 2)
+    }
+
+    /// What tolerant import answers for the first `n` bytes.
+    pub fn left(&self, n: usize) -> Answer {
+        let tail = self.ends.iter().copied().take_while(|&end| end <= n).last().unwrap_or(16);
+        let mut frames = Vec::new();
+        let mut midway: Vec<(usize, Direction)> = Vec::new();
+        for pdu in self.brought.iter().filter(|pdu| pdu.end <= n) {
+            frames.extend(pdu.frames.iter().map(|wire| (pdu.ms, pdu.direction, wire.clone())));
+            midway.retain(|key| *key != (pdu.link, pdu.direction));
+            if pdu.midway {
+                midway.push((pdu.link, pdu.direction));
+            }
+        }
+        if frames.is_empty() {
+            return Answer::refused(6, &[]);
+        }
+        let list = items::span_list(&frames);
+        let values = [self.dlci as usize, frames.len(), midway.len(), tail, list.len()].map(|v| v as u64);
+        Answer::done(&values, list)
+    }
+}
+
+/// A PDU to send: the bytes, the data it brings once complete, and whether it is the
+/// response that the other direction waits for.
+struct Sending {
+    bytes: Vec<u8>,
+    data: Option<(Vec<Vec<u8>>, bool)>,
+    answers: bool,
+}
+
+fn plain(cid: u16, payload: &[u8]) -> Sending {
+    Sending { bytes: trace::l2cap(cid, payload), data: None, answers: false }
+}
+
+/// The PDU under way, what is left of it to send, and whether it has begun.
+type Open = (Sending, VecDeque<Vec<u8>>, bool);
+
+/// One link: its handle, what has to be complete before any of its data, and what
+/// each way (Rx first) then sends.
+struct Link {
+    handle: u16,
+    setup: VecDeque<(Direction, Sending)>,
+    sending: [VecDeque<Sending>; 2],
+    open: [Option<Open>; 2],
+    begun: bool,
+    /// A direction whose channel is admitted only by a response still to come.
+    held: Option<Direction>,
+}
+
+/// How large a recording is.
+#[derive(Clone, Copy)]
+pub struct Scale {
+    pub links: usize,
+    pub frames: usize,
+    pub payload: usize,
+    pub piece: usize,
+    pub fragment: usize,
+}
+
+pub const SMALL: Scale = Scale { links: 3, frames: 4, payload: 6, piece: 25, fragment: 12 };
+
+fn way(direction: Direction) -> usize {
+    usize::from(direction == Tx)
+}
+
+fn frame(rng: &mut Rng, payload: usize) -> Vec<u8> {
+    let n = rng.below(payload + 1);
+    let percent = rng.pick(&[5, 40, 100]);
+    let payload = rng.mixed(n, &codec::BYTES, percent);
+    packed(rng.pick(&[0x01, 0x0C, 0x0E, 0x3D, 0x77]), rng.byte(), &payload)
+}
+
+/// The data PDUs of one direction: its frames and a partial one, cut into pieces
+/// anywhere.
+fn data_pdus(rng: &mut Rng, cid: u16, dlci: u8, frames: &[Vec<u8>], partial: &[u8], piece: usize) -> VecDeque<Sending> {
+    let stream: Vec<u8> = frames.concat().into_iter().chain(partial.iter().copied()).collect();
+    let mut closings = Vec::new();
+    for wire in frames {
+        closings.push(closings.last().copied().unwrap_or(0) + wire.len());
+    }
+    let mut pdus = VecDeque::new();
+    let mut at = 0;
+    while at < stream.len() {
+        let n = rng.within(1, piece).min(stream.len() - at);
+        let closed = (0..frames.len()).filter(|&i| at < closings[i] && closings[i] <= at + n);
+        let brought = closed.map(|i| frames[i].clone()).collect();
+        let information = &stream[at..at + n];
+        at += n;
+        let midway = !closings.contains(&at);
+        let credit = if rng.percent(20) { Some(rng.byte()) } else { None };
+        let bytes = trace::l2cap(cid, &trace::uih(dlci, information, credit, n > 127 || rng.percent(20)));
+        pdus.push_back(Sending { bytes, data: Some((brought, midway)), answers: false });
+    }
+    pdus
+}
+
+/// PDUs that the rules leave free on a link: nothing that adds to its sessions or
+/// links on the DLCI, and no data on either DLCI of its channel.
+fn free_pdu(rng: &mut Rng, cid: u16, dlci: u8) -> Sending {
+    let other = loop {
+        let other = rng.pick(&[1, 2, 3, 18, 19, 40, 63]);
+        if other / 2 != dlci / 2 {
+            break other;
+        }
+    };
+    match rng.below(7) {
+        0 => plain(cid, &trace::uih(other, &packed(0x0C, 7, &[0x22]), None, false)),
+        1 => plain(cid, &trace::uih(dlci, &[], Some(3), false)),
+        2 => plain(cid, &trace::uih(0, &[0xE3, 0x05, 0x3E], None, false)),
+        3 => plain(cid, &trace::sabm(other)),
+        4 => plain(cid, &[dlci << 2 | 1, rng.pick(&[0x63, 0x73, 0x0F, 0x53]), 1, 0]),
+        5 => plain(2, &trace::uih(dlci, &packed(0x0C, 9, &[]), None, false)),
+        _ => plain(cid, &[]),
+    }
+}
+
+/// PDUs that may come before a link's first data: sessions and links begin.
+fn before(rng: &mut Rng, cids: [u16; 2], dlci: u8) -> (Direction, Sending) {
+    let direction = rng.pick(&[Rx, Tx]);
+    let cid = cids[way(direction)];
+    let sending = match rng.below(4) {
+        0 => plain(cid, &trace::sabm(0)),
+        1 => plain(cid, &trace::sabm(dlci)),
+        2 => plain(1, &trace::command(2, 9, &[3, 0])),
+        _ => free_pdu(rng, cid, dlci),
+    };
+    (direction, sending)
+}
+
+fn link(rng: &mut Rng, handle: u16, dlci: u8, scale: Scale) -> Link {
+    let cids = [rng.pick(&[0x40, 0x41, 0x42, 0xFFFF]), rng.pick(&[0x40, 0x41, 0x1234])];
+    let mut setup = VecDeque::new();
+    let mut late = [VecDeque::new(), VecDeque::new()];
+    let mut held = None;
+    let announced = rng.percent(60);
+    for _ in 0..rng.pick(&[0, 0, 1, 3]) {
+        setup.push_back(before(rng, cids, dlci));
+    }
+    if announced {
+        // The request's source is the CID of data to its sender; the response's
+        // destination that of data from it.
+        let asking = rng.pick(&[Rx, Tx]);
+        let answering = if asking == Rx { Tx } else { Rx };
+        let (source, destination) = (cids[way(answering)], cids[way(asking)]);
+        let mut request = trace::request(3, source);
+        if rng.percent(30) {
+            request.extend(trace::command(0x0A, 2, &[2, 0]));
+        }
+        setup.push_back((asking, plain(1, &request)));
+        if rng.percent(30) {
+            setup.push_back((answering, plain(1, &trace::response(0, source, 1))));
+        }
+        let response = plain(1, &trace::response(destination, source, 0));
+        if rng.percent(25) {
+            held = Some(asking);
+            late[way(answering)].push_back(Sending { answers: true, ..response });
+        } else {
+            setup.push_back((answering, response));
+        }
+        for _ in 0..rng.pick(&[0, 0, 1, 2]) {
+            setup.push_back(before(rng, cids, dlci));
+        }
+    }
+    let mut sending = late;
+    for direction in [Rx, Tx] {
+        let mut frames: Vec<Vec<u8>> = (0..rng.below(scale.frames + 1)).map(|_| frame(rng, scale.payload)).collect();
+        frames.retain(|wire| wire.len() <= 65_536);
+        let mut partial = Vec::new();
+        if rng.percent(50) {
+            partial = frame(rng, scale.payload);
+            partial.truncate(rng.within(1, partial.len().min(65_536) - 1));
+        }
+        let cid = cids[way(direction)];
+        for pdu in data_pdus(rng, cid, dlci, &frames, &partial, scale.piece) {
+            if rng.percent(20) {
+                sending[way(direction)].push_back(free_pdu(rng, cid, dlci));
+            }
+            sending[way(direction)].push_back(pdu);
+        }
+    }
+    Link { handle, setup, sending, open: [None, None], begun: false, held }
+}
+
+/// The parts of a PDU, each of at least one byte.
+fn fragments(rng: &mut Rng, bytes: &[u8], most: usize) -> VecDeque<Vec<u8>> {
+    let mut parts = VecDeque::new();
+    let mut rest = bytes;
+    while !rest.is_empty() {
+        let n = if rng.percent(30) { rest.len() } else { rng.within(1, most).min(rest.len()) };
+        parts.push_back(rest[..n].to_vec());
+        rest = &rest[n..];
+    }
+    parts
+}
+
+/// A recording being made.
+struct Maker<'a> {
+    rng: &'a mut Rng,
+    trace: Trace,
+    brought: Vec<Brought>,
+    dlci: u8,
+    scale: Scale,
+}
+
+impl Maker<'_> {
+    /// Sends one fragment of what a link has to send one way, if there is one.
+    fn step(&mut self, index: usize, link: &mut Link) {
+        let direction = self.rng.pick(&[Rx, Tx]);
+        let i = way(direction);
+        if link.open[i].is_none() {
+            // All of the setup is complete before anything else begins.
+            let idle = link.open.iter().all(Option::is_none);
+            let next = if link.setup.is_empty() && (link.begun || idle) {
+                link.begun = true;
+                if link.held == Some(direction) {
+                    None
+                } else {
+                    link.sending[i].pop_front()
+                }
+            } else if idle && link.setup.front().is_some_and(|(d, _)| *d == direction) {
+                link.setup.pop_front().map(|(_, sending)| sending)
+            } else {
+                None
+            };
+            let Some(sending) = next else { return };
+            let parts = fragments(self.rng, &sending.bytes, self.scale.fragment);
+            link.open[i] = Some((sending, parts, false));
+        }
+        let Some((sending, mut parts, begun)) = link.open[i].take() else { return };
+        let part = parts.pop_front().expect("a PDU under way has bytes left");
+        let flag = if begun { 1 } else { self.rng.pick(&[0, 2, 3]) };
+        let stamp = trace::stamp(self.rng);
+        let mut packet = trace::acl_packet(link.handle, flag, &part);
+        if self.rng.percent(10) {
+            packet.extend([0x3E, 0x3C]);
+        }
+        let extra = self.rng.next() as u32 & 0x3FFF;
+        self.trace.acl(direction, stamp, extra, &packet);
+        if !parts.is_empty() {
+            link.open[i] = Some((sending, parts, true));
+            return;
+        }
+        if sending.answers {
+            link.held = None;
+        }
+        if let Some((frames, midway)) = sending.data {
+            let ms = stamp.saturating_sub(EPOCH) / 1000;
+            let end = self.trace.file.len();
+            self.brought.push(Brought { end, ms, link: index, direction, frames, midway });
+        }
+    }
+
+    /// A record that the rules leave free, of other handles or of none.
+    fn noise(&mut self, handles: &[u16]) {
+        let rng = &mut *self.rng;
+        let stamp = trace::stamp(rng);
+        let direction = rng.pick(&[Rx, Tx]);
+        let handle = 0x0A0 + rng.below(2) as u16;
+        let wire = packed(0x0C, 5, &[0x22]);
+        match rng.below(8) {
+            0 => {
+                let own = trace::acl_packet(rng.pick(handles), 2, &[1, 2, 3]);
+                let n = rng.below(own.len());
+                self.trace.acl(direction, stamp, 0, &own[..n]);
+            }
+            1 => self.trace.pdu(direction, stamp, handle, 1, &trace::request(rng.pick(&[1, 3, 5]), 0x50)),
+            2 => self.trace.pdu(direction, stamp, handle, 1, &trace::response(0x51, 0x50, 0)),
+            3 => {
+                let cid = rng.pick(&[0x50, 0x51]);
+                let sending = free_pdu(rng, cid, self.dlci);
+                self.trace.fragment(direction, stamp, handle, 0, &sending.bytes);
+            }
+            4 => self.trace.pdu(direction, stamp, handle, 0x60, &trace::sabm(self.dlci)),
+            5 => self.trace.pdu(direction, stamp, handle, 0x20, &trace::uih(self.dlci, &wire, None, false)),
+            6 => {
+                // Named for another service before it is used: never tried.
+                let back = if direction == Rx { Tx } else { Rx };
+                self.trace.pdu(back, stamp, 0x0B0, 1, &trace::request(1, 0x70));
+                self.trace.pdu(direction, stamp, 0x0B0, 0x70, &trace::uih(self.dlci, &wire, None, false));
+            }
+            _ => trace::noise(rng, &mut self.trace),
+        }
+    }
+}
+
+impl Link {
+    fn waits(&self) -> bool {
+        !self.setup.is_empty() || self.sending.iter().any(|s| !s.is_empty()) || self.open.iter().any(Option::is_some)
+    }
+}
+
+/// A random honest recording.
+pub fn recording(rng: &mut Rng, scale: Scale) -> Honest {
+    let dlci = rng.pick(&[1, 2, 18, 19, 63]);
+    let handles: Vec<u16> = [0x040, 0x041, 0x000, 0xFFF].into_iter().take(rng.within(1, scale.links)).collect();
+    let mut links: Vec<Link> = handles.iter().map(|&handle| link(rng, handle, dlci, scale)).collect();
+    let trace = Trace::new(rng.pick(&trace::DATALINKS));
+    let noisy = rng.pick(&[0, 3, 15]);
+    let mut maker = Maker { rng, trace, brought: Vec::new(), dlci, scale };
+    // Now and then a recording stops before everything was sent.
+    let stops = maker.rng.pick(&[0, 0, 0, 2]);
+    while links.iter().any(Link::waits) && !(stops > 0 && maker.rng.below(100) < stops) {
+        if maker.rng.percent(noisy) {
+            maker.noise(&handles);
+        }
+        let index = maker.rng.below(links.len());
+        maker.step(index, &mut links[index]);
+    }
+    Honest { file: maker.trace.file, dlci, ends: maker.trace.ends, brought: maker.brought }
+}
+
+/// A recording whose frames are as long as they may be: a whole one of exactly 65,536
+/// bytes and a partial one of 65,535.
+pub fn longest(rng: &mut Rng) -> Honest {
+    let wire = longest_frame();
+    let dlci = 18;
+    let (one, two) = (frame(rng, 3), frame(rng, 3));
+    let sending = [
+        data_pdus(rng, 0x41, dlci, &[wire.clone(), one], &wire[..65_535], 32_767),
+        data_pdus(rng, 0x42, dlci, &[two, wire.clone()], &[], 9_000),
+    ];
+    let mut link = Link { handle: 0x40, setup: VecDeque::new(), sending, open: [None, None], begun: false, held: None };
+    let trace = Trace::new(2001);
+    let scale = Scale { fragment: 40_000, ..SMALL };
+    let mut maker = Maker { rng, trace, brought: Vec::new(), dlci, scale };
+    while link.waits() {
+        maker.step(0, &mut link);
+    }
+    Honest { file: maker.trace.file, dlci, ends: maker.trace.ends, brought: maker.brought }
+}
+
+/// A packed frame of exactly 65,536 bytes.
+pub fn longest_frame() -> Vec<u8> {
+    for plain in 0..8 {
+        for kind in [0x00, 0x3E] {
+            let mut payload = vec![0x3E; 32_760];
+            payload[..plain].fill(0x01);
+            for extra in 0..8 {
+                let wire = packed(kind, 0x3E, &[&payload[..], &vec![0x02; extra]].concat());
+                if wire.len() == 65_536 {
+                    return wire;
+                }
+            }
+        }
+    }
+    unreachable!("some payload fits")
+}

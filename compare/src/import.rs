@@ -1,0 +1,584 @@
+//! Import under the strict rule.
+
+use std::cell::RefCell;
+
+use crate::answer::{Answer, Case, Checked, Difference, Lender, Subject, NO_CHANNEL};
+use crate::codec::each_string;
+use crate::expected::{self, LONGEST_FILE};
+use crate::model::packed;
+use crate::rng::Rng;
+use crate::trace::{self, Trace};
+use crate::Options;
+use oracle::capture::Direction::{self, Rx, Tx};
+use oracle::capture::BTSNOOP_EPOCH_DELTA_US as EPOCH;
+
+/// Which call imports.
+#[derive(Clone, Copy, PartialEq)]
+pub enum Rule {
+    /// `lumbryth_import_strict`.
+    Strict,
+    /// `lumbryth_import` with the tolerant rule.
+    Tolerant,
+    /// `lumbryth_import` with the strict rule.
+    NotTolerant,
+}
+
+pub struct Import<'a> {
+    subject: &'a dyn Subject,
+    rule: Rule,
+    pub lender: Lender,
+    files: usize,
+    work: RefCell<Vec<u8>>,
+}
+
+/// Bytes after the work lent that nobody may touch.
+const GUARD: usize = 16;
+const GUARDED: u8 = 0xC7;
+
+impl<'a> Import<'a> {
+    pub fn new(subject: &'a dyn Subject, rule: Rule) -> Import<'a> {
+        Import { subject, rule, lender: Lender::default(), files: 0, work: RefCell::default() }
+    }
+
+    fn case(&self, file: &[u8], channel: u32, work: usize) -> Case {
+        let rule = match self.rule {
+            Rule::Strict => "import_strict",
+            Rule::Tolerant => "import, tolerant",
+            Rule::NotTolerant => "import, strict",
+        };
+        let channel = if channel == NO_CHANNEL { "no channel".into() } else { format!("channel {channel}") };
+        Case { call: format!("{rule}, {channel}, {work} bytes of work"), inputs: vec![("file", file.to_vec())] }
+    }
+
+    fn call(&self, file: &[u8], work: &mut [u8], out: &mut [u8], channel: u32, values: &mut [u64]) -> u32 {
+        match self.rule {
+            Rule::Strict => self.subject.import_strict(file, work, out, channel, values),
+            Rule::Tolerant => self.subject.import(file, work, out, channel, 1, values),
+            Rule::NotTolerant => self.subject.import(file, work, out, channel, 0, values),
+        }
+    }
+
+    /// The file held to the oracle. A difference is reported for the smallest file
+    /// that leaving out records finds.
+    pub fn file(&mut self, file: &[u8], channel: u32) -> Checked {
+        self.once(file, channel).map_err(|found| {
+            let mut found = found;
+            let mut file = file.to_vec();
+            let mut bounds = bounds(&file);
+            let mut i = bounds.len();
+            while i > 1 && file.len() < 100_000 {
+                i -= 1;
+                let mut fewer = file.clone();
+                fewer.drain(bounds[i - 1]..bounds[i]);
+                if let Err(difference) = self.once(&fewer, channel) {
+                    (found, file) = (difference, fewer);
+                    bounds = self::bounds(&file);
+                    i = i.min(bounds.len());
+                }
+            }
+            found
+        })
+    }
+
+    fn once(&mut self, file: &[u8], channel: u32) -> Checked {
+        let expected = match self.rule {
+            Rule::Tolerant => expected::import_tolerant(file, channel),
+            _ => expected::import_strict(file, channel),
+        };
+        self.held(file, channel, &expected)
+    }
+
+    /// The file with enough work and outputs about what is needed; at times also
+    /// with one byte of work less.
+    pub fn held(&mut self, file: &[u8], channel: u32, expected: &Answer) -> Checked {
+        self.files += 1;
+        let mut lender = std::mem::take(&mut self.lender);
+        let checked = self.held_by(&mut lender, file, channel, expected);
+        self.lender = lender;
+        checked
+    }
+
+    fn held_by(&self, lender: &mut Lender, file: &[u8], channel: u32, expected: &Answer) -> Checked {
+        let enough = 8 * file.len() + [0, 0, 1, 64][self.files % 4];
+        let fill = [None, None, Some(0), Some(0xFF), Some(0x3E)][self.files % 5];
+        self.lend(enough, fill);
+        lender.about(
+            expected,
+            &mut |out, values| self.call(file, &mut self.work.borrow_mut()[..enough], out, channel, values),
+            &|| self.case(file, channel, enough),
+        )?;
+        self.guards(enough, file, channel)?;
+        if expected.number == 1 {
+            self.unworked(lender, file, channel, expected, enough)?;
+        } else if self.files % 7 == 0 && !file.is_empty() {
+            self.unworked(lender, file, channel, &Answer::refused(2, &[]), 8 * file.len() - 1)?;
+            self.unworked(lender, file, channel, &Answer::refused(2, &[]), self.files % (8 * file.len()))?;
+        }
+        Ok(())
+    }
+
+    /// A call that has to leave `lent` bytes of work as they were.
+    fn unworked(&self, lender: &mut Lender, file: &[u8], channel: u32, expected: &Answer, lent: usize) -> Checked {
+        self.lend(lent, Some(self.files as u8));
+        let room = lender.room(expected);
+        lender.call(
+            expected,
+            self.files % 40,
+            room,
+            &mut |out, values| self.call(file, &mut self.work.borrow_mut()[..lent], out, channel, values),
+            &|| self.case(file, channel, lent),
+        )?;
+        let first = self.work.borrow().first().copied();
+        match self.work.borrow()[..lent].iter().position(|b| Some(*b) != first) {
+            None => self.guards(lent, file, channel),
+            Some(at) => Err(self.touched(file, channel, lent, at)),
+        }
+    }
+
+    /// Work to lend: as the last call left it, or filled.
+    fn lend(&self, lent: usize, fill: Option<u8>) {
+        let mut work = self.work.borrow_mut();
+        let length = work.len().max(lent + GUARD);
+        work.resize(length, 0xA5);
+        if let Some(byte) = fill {
+            work[..lent].fill(byte);
+        }
+        work[lent..lent + GUARD].fill(GUARDED);
+    }
+
+    fn guards(&self, lent: usize, file: &[u8], channel: u32) -> Checked {
+        match self.work.borrow()[lent..lent + GUARD].iter().position(|b| *b != GUARDED) {
+            None => Ok(()),
+            Some(at) => Err(self.touched(file, channel, lent, lent + at)),
+        }
+    }
+
+    fn touched(&self, file: &[u8], channel: u32, lent: usize, at: usize) -> Box<Difference> {
+        let case = self.case(file, channel, lent);
+        Box::new(Difference {
+            call: case.call,
+            inputs: case.inputs,
+            lent: format!("{lent} bytes of work"),
+            expected: format!("byte {at} of work is left as it was"),
+            got: "it was changed".into(),
+        })
+    }
+}
+
+/// Where the records of a file begin and end.
+fn bounds(file: &[u8]) -> Vec<usize> {
+    let mut bounds = vec![16];
+    if file.len() < 16 {
+        return bounds;
+    }
+    for row in crate::model::records(&file[16..]).0 {
+        bounds.push(bounds[bounds.len() - 1] + row.len());
+    }
+    bounds
+}
+
+/// The frame of 01's worked example: an ACK of nine bytes.
+pub fn ack(seq: u8) -> Vec<u8> {
+    packed(0x01, seq, &[])
+}
+
+/// 01's worked example.
+pub fn example() -> Trace {
+    let mut trace = Trace::new(1002);
+    trace.record(
+        1,
+        EPOCH,
+        &[
+            0x02, 0x40, 0x20, 0x11, 0x00, 0x0D, 0x00, 0x41, 0x00, 0x49, 0xEF, 0x13, 0x3E, 0x01, 0x00, 0x00, 0x00, 0x00,
+            0x00, 0x01, 0x3C, 0x00,
+        ],
+    );
+    trace
+}
+
+/// A small trace with a bit of everything: both channels signalled, SABMs, joined
+/// fragments, a credit byte, a wide length, a damaged frame and half a frame.
+pub fn small(datalink: u32) -> Trace {
+    let mut trace = Trace::new(datalink);
+    let frame = packed(0x0C, 0x00, &[0x22, 0x3D]);
+    trace.pdu(Tx, EPOCH + 1000, 0x40, 1, &trace::request(3, 0x41));
+    trace.pdu(Rx, EPOCH + 2000, 0x40, 1, &trace::response(0x30, 0x41, 0));
+    trace.pdu(Tx, EPOCH + 3000, 0x40, 0x30, &trace::sabm(18));
+    let pdu = trace::l2cap(0x41, &trace::uih(18, &frame[..7], None, false));
+    trace.fragment(Rx, EPOCH + 4000, 0x40, 2, &pdu[..3]);
+    trace.pdu(Tx, EPOCH + 5000, 0x40, 0x30, &trace::uih(18, &ack(0), Some(9), true));
+    trace.fragment(Rx, EPOCH + 6000, 0x40, 1, &pdu[3..]);
+    trace.pdu(
+        Rx,
+        EPOCH + 7000,
+        0x40,
+        0x41,
+        &trace::uih(18, &[&frame[7..], &[0x3E, 0x3C, 0x3E, 0x00]].concat(), None, false),
+    );
+    trace
+}
+
+/// Headers and what little may follow them, and every beginning of good traces.
+fn short(import: &mut Import, rng: &mut Rng) -> Checked {
+    let bare = Trace::new(1002).file;
+    for n in 0..=bare.len() {
+        import.file(&bare[..n], NO_CHANNEL)?;
+    }
+    for at in 0..bare.len() {
+        for byte in 0..=255 {
+            for good in [&bare, &example().file] {
+                let mut file = good.clone();
+                file[at] = byte;
+                import.file(&file, NO_CHANNEL)?;
+            }
+        }
+    }
+    for datalink in [0, 1000, 1003, 2000, 2002, 1001 << 8, u32::MAX, 1001u32.swap_bytes(), 1 << 31 | 1001] {
+        import.file(&Trace::new(datalink).file, NO_CHANNEL)?;
+    }
+    for n in 1..=2 {
+        let all: Vec<u8> = (0..=255).collect();
+        each_string(n, &all, &mut |tail| import.file(&[&bare[..], tail].concat(), NO_CHANNEL))?;
+    }
+    // A record whose included length is anything about what is there.
+    for there in 0..=40usize {
+        for included in (0..=42u32).chain([255, 256, 65_536, 1 << 24, u32::MAX, u32::MAX - 23]) {
+            let mut file = bare.clone();
+            file.extend(0u32.to_be_bytes());
+            file.extend(included.to_be_bytes());
+            file.extend([0; 16]);
+            file.extend(vec![0; there]);
+            import.file(&file, NO_CHANNEL)?;
+        }
+    }
+    for datalink in trace::DATALINKS {
+        let good = small(datalink).file;
+        for n in 0..=good.len() {
+            import.file(&good[..n], NO_CHANNEL)?;
+        }
+    }
+    for _ in 0..20 {
+        let (trace, channel) = trace::structured(rng, 20);
+        for n in 0..=trace.file.len().min(4000) {
+            import.file(&trace.file[..n], channel)?;
+        }
+    }
+    Ok(())
+}
+
+/// Every change of one byte in small traces.
+fn one_byte(import: &mut Import) -> Checked {
+    for good in trace::DATALINKS.map(small).into_iter().chain([example()]) {
+        for at in 0..good.file.len() {
+            for byte in 0..=255 {
+                let mut file = good.file.clone();
+                file[at] = byte;
+                import.file(&file, NO_CHANNEL)?;
+            }
+        }
+    }
+    Ok(())
+}
+
+/// Every sequence of `n` steps out of `alphabet`, each appended to the trace in turn
+/// by its function, followed by `end`.
+fn sequences<T>(
+    n: usize,
+    alphabet: &[T],
+    start: &Trace,
+    step: &dyn Fn(&mut Trace, &T),
+    end: &mut dyn FnMut(&mut Trace) -> Checked,
+) -> Checked {
+    let letters: Vec<u8> = (0..alphabet.len() as u8).collect();
+    each_string(n, &letters, &mut |word| {
+        let mut trace = start.clone();
+        for letter in word {
+            step(&mut trace, &alphabet[usize::from(*letter)]);
+        }
+        end(&mut trace)
+    })
+}
+
+/// Every sequence of four fragments out of fifteen: parts of one PDU as starts and
+/// as continuations.
+fn fragments(import: &mut Import) -> Checked {
+    let pdu = trace::l2cap(0x41, &trace::uih(18, &ack(0), None, false));
+    let cuts = [0, 1, 3, 5, pdu.len()];
+    let mut alphabet: Vec<(u16, &[u8])> = Vec::new();
+    for &n in &cuts {
+        alphabet.push((2, &pdu[..n]));
+    }
+    for (i, &from) in cuts.iter().enumerate() {
+        for &to in &cuts[i + 1..] {
+            alphabet.push((1, &pdu[from..to]));
+        }
+    }
+    let step = |trace: &mut Trace, (flag, data): &(u16, &[u8])| {
+        let stamp = EPOCH + trace.file.len() as u64 * 1000;
+        trace.fragment(Rx, stamp, 0x40, *flag, data);
+    };
+    sequences(4, &alphabet, &Trace::new(2001), &step, &mut |trace| import.file(&trace.file, NO_CHANNEL))
+}
+
+/// One step on a link: direction, CID, payload.
+type Step = (Direction, u16, Vec<u8>);
+
+fn send(trace: &mut Trace, (direction, cid, payload): &Step) {
+    let stamp = EPOCH + trace.file.len() as u64 * 1000;
+    trace.pdu(*direction, stamp, 0x40, *cid, payload);
+}
+
+/// Every sequence of six steps that halve frames and start sessions and links.
+fn stretches(import: &mut Import) -> Checked {
+    let (one, two) = (ack(1), ack(2));
+    let data = |dlci, information: &[u8]| trace::uih(dlci, information, None, false);
+    let alphabet: Vec<Step> = vec![
+        (Rx, 0x41, data(18, &one[..5])),
+        (Rx, 0x41, data(18, &one[5..])),
+        (Tx, 0x42, data(18, &two[..4])),
+        (Tx, 0x42, data(18, &two[4..])),
+        (Rx, 0x43, data(18, &one[5..])),
+        (Tx, 0x42, trace::sabm(0)),
+        (Rx, 0x41, trace::sabm(18)),
+        (Rx, 1, trace::command(2, 1, &[3, 0])),
+    ];
+    sequences(6, &alphabet, &Trace::new(1001), &send, &mut |trace| {
+        send(trace, &(Tx, 0x42, data(18, &ack(3))));
+        import.file(&trace.file, NO_CHANNEL)
+    })
+}
+
+/// Every sequence of four steps on several DLCIs, with each kind of channel.
+fn choices(import: &mut Import) -> Checked {
+    let data = |dlci, information: &[u8]| trace::uih(dlci, information, None, false);
+    let alphabet: Vec<Step> = vec![
+        (Rx, 0x41, data(18, &ack(1))),
+        (Rx, 0x41, data(19, &ack(2))),
+        (Rx, 0x41, data(2, &[0x3E, 0x3C])),
+        (Rx, 0x41, data(2, &ack(3))),
+        (Rx, 0x41, data(19, &[0x3E])),
+        (Rx, 0x41, data(18, &[])),
+        (Rx, 0x41, data(0, &ack(4))),
+        (Rx, 0x41, data(63, &ack(5))),
+        (Rx, 0x3F, data(18, &ack(6))),
+    ];
+    for channel in [NO_CHANNEL, 9, 1, 31, 0, 63, 255] {
+        sequences(4, &alphabet, &Trace::new(1002), &send, &mut |trace| import.file(&trace.file, channel))?;
+    }
+    Ok(())
+}
+
+/// Every sequence of up to three signalling PDUs out of many, before or after data on
+/// channels that need admission or lose it.
+fn signalling(import: &mut Import) -> Checked {
+    let mut commands = Vec::new();
+    for source in [0x30, 0x41] {
+        for psm in [3, 1] {
+            commands.push(trace::request(psm, source));
+        }
+        for destination in [0x30, 0x41] {
+            for result in [0, 1] {
+                commands.push(trace::response(destination, source, result));
+            }
+        }
+    }
+    let mut alphabet: Vec<Step> = Vec::new();
+    for direction in [Rx, Tx] {
+        alphabet.extend(commands.iter().map(|c| (direction, 1, c.clone())));
+    }
+    let data = |trace: &mut Trace| {
+        for (direction, cid, seq) in [(Rx, 0x30, 1), (Rx, 0x41, 2), (Tx, 0x30, 3), (Tx, 0x41, 4)] {
+            send(trace, &(direction, cid, trace::uih(18, &ack(seq), None, false)));
+        }
+    };
+    let mut after = Trace::new(1001);
+    data(&mut after);
+    sequences(3, &alphabet, &after, &send, &mut |trace| import.file(&trace.file, NO_CHANNEL))?;
+    sequences(3, &alphabet, &Trace::new(1001), &send, &mut |trace| {
+        data(trace);
+        import.file(&trace.file, NO_CHANNEL)
+    })?;
+    // Two commands in one PDU, each cut short in its body or in the PDU.
+    for first in &commands {
+        for second in &commands {
+            let joined = [&first[..], second].concat();
+            for n in 0..=joined.len() {
+                for cut_body in [false, true] {
+                    let mut payload = joined[..n].to_vec();
+                    if cut_body && n > first.len() + 4 {
+                        payload[first.len() + 2] = (n - first.len() - 4) as u8;
+                    } else if cut_body && (4..first.len()).contains(&n) {
+                        payload[2] = (n - 4) as u8;
+                    }
+                    let mut trace = Trace::new(1001);
+                    send(&mut trace, &(Tx, 1, trace::request(3, 0x41)));
+                    send(&mut trace, &(Rx, 1, payload));
+                    data(&mut trace);
+                    import.file(&trace.file, NO_CHANNEL)?;
+                }
+            }
+        }
+    }
+    Ok(())
+}
+
+/// Every RFCOMM frame of up to five bytes over the bytes that matter, between the
+/// halves of a frame.
+fn rfcomm(import: &mut Import) -> Checked {
+    let half = ack(1);
+    let mut start = Trace::new(2001);
+    send(&mut start, &(Rx, 0x41, trace::uih(18, &half[..5], None, false)));
+    for n in 0..=5 {
+        each_string(n, &[0x00, 0x01, 0x03, 0x05, 0x4B, 0x2F, 0x3F, 0xEF, 0xFF, 0x3E, 0x3C], &mut |payload| {
+            let mut trace = start.clone();
+            send(&mut trace, &(Rx, 0x41, payload.to_vec()));
+            send(&mut trace, &(Rx, 0x41, trace::uih(18, &half[5..], None, false)));
+            send(&mut trace, &(Rx, 0x41, trace::uih(18, &ack(2), None, false)));
+            import.file(&trace.file, NO_CHANNEL)
+        })?;
+    }
+    Ok(())
+}
+
+/// Every ACL packet of up to six bytes over the bytes that matter, between the
+/// fragments of a PDU.
+fn packets(import: &mut Import) -> Checked {
+    let pdu = trace::l2cap(0x41, &trace::uih(18, &ack(1), None, false));
+    for datalink in trace::DATALINKS {
+        let mut start = Trace::new(datalink);
+        start.fragment(Rx, EPOCH, 0x40, 2, &pdu[..9]);
+        for n in 0..=6 {
+            each_string(n, &[0x00, 0x01, 0x02, 0x40, 0x10, 0x20], &mut |packet| {
+                let mut trace = start.clone();
+                trace.acl(Rx, EPOCH + 1000, 0, packet);
+                trace.fragment(Rx, EPOCH + 2000, 0x40, 1, &pdu[9..]);
+                trace.pdu(Tx, EPOCH + 3000, 0x40, 0x41, &trace::uih(18, &ack(2), None, false));
+                import.file(&trace.file, NO_CHANNEL)
+            })?;
+        }
+    }
+    Ok(())
+}
+
+fn random(import: &mut Import, rng: &mut Rng, size: u64) -> Checked {
+    for i in 0..size {
+        let (trace, channel) = trace::structured(rng, if i % 100 == 0 { 600 } else { 60 });
+        import.file(&trace.file, channel)?;
+    }
+    Ok(())
+}
+
+fn damaged(import: &mut Import, rng: &mut Rng, size: u64) -> Checked {
+    for _ in 0..size / 4 {
+        let (trace, channel) = trace::structured(rng, 30);
+        for _ in 0..4 {
+            let file = trace::damaged(rng, &trace);
+            import.file(&file, channel)?;
+        }
+    }
+    Ok(())
+}
+
+/// Buffers that grow to about 65,536 bytes without an end, then get one.
+pub fn limits(import: &mut dyn FnMut(&[u8]) -> Checked, rng: &mut Rng) -> Checked {
+    let most = 32_767;
+    for held in [65_534, 65_535, 65_536, 65_537, 65_538, 98_000] {
+        for last in [1, 2, 3, 100, most] {
+            for end in [&[0x3C][..], &[0x00, 0x3C, 0x3E, 0x3C], &[0x3E], &[0x00]] {
+                let mut trace = Trace::new(rng.pick(&trace::DATALINKS));
+                let mut buffer = rng.mixed(held, &[0x3D, 0x3E], 5);
+                buffer.iter_mut().filter(|b| **b == 0x3C).for_each(|b| *b = 0);
+                buffer[0] = 0x3E;
+                let mut rest = &buffer[..held - last];
+                while !rest.is_empty() {
+                    let n = rng.within(most / 2, most).min(rest.len());
+                    send(&mut trace, &(Rx, 0x41, trace::uih(18, &rest[..n], None, true)));
+                    rest = &rest[n..];
+                }
+                let mut tail = buffer[held - last..].to_vec();
+                if last < most - end.len() && rng.percent(50) {
+                    tail.extend(end);
+                    send(&mut trace, &(Rx, 0x41, trace::uih(18, &tail, None, true)));
+                } else {
+                    send(&mut trace, &(Rx, 0x41, trace::uih(18, &tail, None, true)));
+                    send(&mut trace, &(Rx, 0x41, trace::uih(18, end, None, true)));
+                }
+                send(&mut trace, &(Tx, 0x41, trace::uih(18, &ack(1), None, false)));
+                send(&mut trace, &(Rx, 0x41, trace::uih(18, &ack(2), None, false)));
+                import(&trace.file)?;
+            }
+        }
+    }
+    Ok(())
+}
+
+/// A trace of exactly `length` bytes: a random one and a record that fills it up.
+pub fn filled(rng: &mut Rng, length: usize) -> (Trace, u32) {
+    let (mut trace, mut channel) = trace::structured(rng, 20);
+    let bytes = [0; 24];
+    while trace.file.len() < length {
+        let (more, other) = trace::structured(rng, 2000);
+        if more.datalink == trace.datalink {
+            channel = other;
+            let base = trace.file.len() - 16;
+            trace.file.extend(&more.file[16..]);
+            trace.ends.extend(more.ends.iter().map(|e| e + base));
+        }
+    }
+    while trace.file.len() > length - bytes.len() {
+        trace.ends.pop();
+        trace.file.truncate(trace.ends.last().copied().unwrap_or(16));
+    }
+    let rest = length - 24 - trace.file.len();
+    trace.record(2, 0, &vec![0; rest]);
+    (trace, channel)
+}
+
+fn large(import: &mut Import, rng: &mut Rng) -> Checked {
+    for round in 0..4 {
+        for length in [LONGEST_FILE - 1, LONGEST_FILE, LONGEST_FILE + 1] {
+            let (trace, channel) = filled(rng, length);
+            import.file(&trace.file, if round % 2 == 0 { NO_CHANNEL } else { channel })?;
+        }
+    }
+    import.file(&vec![0; LONGEST_FILE + 1], NO_CHANNEL)?;
+    import.file(&vec![0; LONGEST_FILE], NO_CHANNEL)
+}
+
+pub fn run_rule(subject: &dyn Subject, options: &Options, group: &'static str, rule: Rule, size: u64) -> Checked {
+    let mut rng = Rng::new(options.seed);
+    let mut import = Import::new(subject, rule);
+    let mut log = options.log(group);
+    random(&mut import, &mut rng, size)?;
+    log.line("random traces", &import.lender);
+    damaged(&mut import, &mut rng, size)?;
+    log.line("damaged traces", &import.lender);
+    limits(&mut |file| import.file(file, NO_CHANNEL), &mut rng)?;
+    log.line("long buffers", &import.lender);
+    short(&mut import, &mut rng)?;
+    log.line("short files and every beginning of good ones", &import.lender);
+    if rule == Rule::NotTolerant {
+        return Ok(());
+    }
+    one_byte(&mut import)?;
+    log.line("every one-byte change of small traces", &import.lender);
+    fragments(&mut import)?;
+    log.line("every four fragments", &import.lender);
+    packets(&mut import)?;
+    log.line("every short packet", &import.lender);
+    signalling(&mut import)?;
+    log.line("every three commands", &import.lender);
+    rfcomm(&mut import)?;
+    log.line("every short RFCOMM frame", &import.lender);
+    stretches(&mut import)?;
+    log.line("every six steps of sessions and links", &import.lender);
+    choices(&mut import)?;
+    log.line("every four pieces on several DLCIs", &import.lender);
+    large(&mut import, &mut rng)?;
+    log.line("traces of about 1,048,576 bytes", &import.lender);
+    Ok(())
+}
+
+pub fn run(subject: &dyn Subject, options: &Options) -> Checked {
+    run_rule(subject, options, "import", Rule::Strict, options.size.unwrap_or(50_000))
+}

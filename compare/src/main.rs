@@ -1,0 +1,187 @@
+//! Holds the proved library against the Rust it was ported from.
+
+mod answer;
+mod bench;
+mod codec;
+mod expected;
+mod honest;
+mod import;
+mod items;
+mod model;
+mod names;
+mod order;
+mod plan;
+mod planted;
+mod proved;
+mod rng;
+mod sample;
+mod stats;
+mod tolerant;
+mod trace;
+
+use std::process::ExitCode;
+
+use answer::{Checked, Difference, Lender, Subject, NUMBERS};
+
+const USAGE: &str = "\
+usage: compare GROUP [--seed N] [--size N] [--against proved|model]
+       compare all [--seed N] [--size N] [--against proved|model]
+       compare selfcheck
+       compare bench GROUP [--against proved|model]
+       compare sample GROUP FILE
+       compare stats import|honest|bench [--seed N] [--size N]
+
+GROUP is codec, names, plan, order, import or tolerant. --size is the number of
+random cases; what is exhaustive stays whole. `all` runs every group that this
+build links.";
+
+/// What the command line says besides the command.
+pub struct Options {
+    pub seed: u64,
+    pub size: Option<u64>,
+    pub quiet: bool,
+    model: bool,
+}
+
+/// Prints how many cases each part of a group compared, by the number expected.
+pub struct Log {
+    group: &'static str,
+    before: [u64; NUMBERS],
+    quiet: bool,
+}
+
+impl Options {
+    pub fn log(&self, group: &'static str) -> Log {
+        Log { group, before: [0; NUMBERS], quiet: self.quiet }
+    }
+}
+
+impl Log {
+    pub fn line(&mut self, part: &str, lender: &Lender) {
+        let counts: Vec<u64> = lender.answers.iter().zip(self.before).map(|(now, before)| now - before).collect();
+        self.before = lender.answers;
+        if self.quiet {
+            return;
+        }
+        let total: u64 = counts.iter().sum();
+        let shown = counts.iter().enumerate().filter(|(_, n)| **n > 0).map(|(number, n)| format!("{number}: {n}"));
+        println!("{}: {part}: {total} cases ({})", self.group, shown.collect::<Vec<_>>().join(", "));
+    }
+}
+
+pub type Group = fn(&dyn Subject, &Options) -> Checked;
+
+const GROUPS: [(&str, Group); 6] = [
+    ("codec", codec::run),
+    ("names", names::run),
+    ("plan", plan::run),
+    ("order", order::run),
+    ("import", import::run),
+    ("tolerant", tolerant::run),
+];
+
+/// Prints a difference; an input too long to print is left in a file.
+fn report(difference: &Difference) {
+    println!("DIFFERENCE in {}, with {}", difference.call, difference.lent);
+    for (name, bytes) in &difference.inputs {
+        let shown = &bytes[..bytes.len().min(4096)];
+        println!("  {name}, {} bytes: {}", bytes.len(), answer::hex(shown));
+        if shown.len() < bytes.len() {
+            let path = format!("{}/target/difference.{name}", env!("CARGO_MANIFEST_DIR"));
+            match std::fs::write(&path, bytes) {
+                Ok(()) => println!("  (the first 4096; all of it is in {path})"),
+                Err(e) => println!("  (the first 4096; {path}: {e})"),
+            }
+        }
+    }
+    println!("  expected: {:.20000}", difference.expected);
+    println!("  got: {}", difference.got);
+}
+
+/// Whether no difference was found.
+fn verdict(checked: Checked) -> bool {
+    if let Err(difference) = &checked {
+        report(difference);
+    }
+    checked.is_ok()
+}
+
+fn number(text: Option<String>) -> Result<u64, String> {
+    text.and_then(|t| t.parse().ok()).ok_or_else(|| "a number is missing".to_string())
+}
+
+fn arguments() -> Result<(Vec<String>, Options), String> {
+    let mut words = Vec::new();
+    let mut options = Options { seed: 1, size: None, quiet: false, model: false };
+    let mut args = std::env::args().skip(1);
+    while let Some(arg) = args.next() {
+        match arg.as_str() {
+            "--seed" => options.seed = number(args.next())?,
+            "--size" => options.size = Some(number(args.next())?),
+            "--against" => match args.next().as_deref() {
+                Some("model") => options.model = true,
+                Some("proved") => options.model = false,
+                _ => return Err("--against takes proved or model".into()),
+            },
+            _ => words.push(arg),
+        }
+    }
+    Ok((words, options))
+}
+
+fn selfcheck(options: Options) -> bool {
+    let options = Options { quiet: true, size: options.size.or(Some(200)), ..options };
+    let (planted, missed) = planted::unreported(&GROUPS, &options);
+    println!("selfcheck: {} of {planted} planted faults reported", planted - missed.len());
+    missed.iter().for_each(|label| println!("  not reported: {label}"));
+    missed.is_empty()
+}
+
+/// False if something differs.
+fn run() -> Result<bool, String> {
+    let (words, options) = arguments()?;
+    let words: Vec<&str> = words.iter().map(String::as_str).collect();
+    let subject: &dyn Subject = if options.model { &model::Model } else { &proved::Proved };
+    let linked = |group: &str| options.model || proved::has(group);
+    let need = |group: &str| if linked(group) { Ok(()) } else { Err(format!("built without the feature `{group}`")) };
+    match words[..] {
+        ["all"] => Ok(GROUPS.iter().all(|(name, group)| !linked(name) || verdict(group(subject, &options)))),
+        ["selfcheck"] => Ok(selfcheck(options)),
+        ["bench", group] => {
+            need(group)?;
+            bench::run(group, subject).then_some(true).ok_or_else(|| USAGE.into())
+        }
+        ["sample", group, path] => {
+            let (bytes, cases) = sample::of(group).ok_or(USAGE)?;
+            std::fs::write(path, &bytes).map_err(|e| format!("{path}: {e}"))?;
+            println!("sample: {group}: {cases} cases, {} bytes", bytes.len());
+            Ok(true)
+        }
+        ["stats", "import"] => {
+            stats::import(&options);
+            Ok(true)
+        }
+        ["stats", "honest"] => Ok(verdict(tolerant::check_makers(&options))),
+        ["stats", "bench"] => {
+            bench::describe();
+            Ok(true)
+        }
+        [name] => {
+            let (_, group) = GROUPS.iter().find(|(group, _)| *group == name).ok_or(USAGE)?;
+            need(name)?;
+            Ok(verdict(group(subject, &options)))
+        }
+        _ => Err(USAGE.into()),
+    }
+}
+
+fn main() -> ExitCode {
+    match run() {
+        Ok(true) => ExitCode::SUCCESS,
+        Ok(false) => ExitCode::FAILURE,
+        Err(message) => {
+            eprintln!("{message}");
+            ExitCode::from(2)
+        }
+    }
+}

@@ -1,0 +1,615 @@
+//! The calls once more, written plainly from document 01 and not from the source:
+//! a second reading to hold against the oracle, a stand-in for the library while
+//! the comparison itself is worked on, and what planted faults are made of. Only
+//! the words of the names come from the oracle; 01 does not repeat them.
+
+use std::collections::BTreeMap;
+
+use crate::answer::{Answer, Subject, NO_CHANNEL};
+use crate::expected::{LONGEST_FILE, LONGEST_PAYLOAD};
+use oracle::capture;
+use oracle::mdr::DataType;
+
+pub struct Model;
+
+/// Stores an answer the way the C interface does.
+pub fn store(answer: &Answer, out: &mut [u8], values: &mut [u64]) -> u32 {
+    let answer = answer.within(out.len());
+    for (place, value) in values.iter_mut().zip(&answer.values) {
+        *place = *value;
+    }
+    out[..answer.written.len()].copy_from_slice(&answer.written);
+    answer.number
+}
+
+impl Subject for Model {
+    fn unpack(&self, wire: &[u8], out: &mut [u8], values: &mut [u64]) -> u32 {
+        store(&unpack(wire), out, values)
+    }
+
+    fn pack(&self, kind: u8, seq: u8, payload: &[u8], out: &mut [u8], values: &mut [u64]) -> u32 {
+        store(&pack(kind, seq, payload), out, values)
+    }
+
+    fn fixture_name(
+        &self,
+        ms: u64,
+        counter: u32,
+        direction: u8,
+        wire: &[u8],
+        out: &mut [u8],
+        values: &mut [u64],
+    ) -> u32 {
+        store(&fixture_name(ms, counter, direction, wire), out, values)
+    }
+
+    fn is_command_name(&self, name: &[u8]) -> u32 {
+        u32::from(is_command_name(name))
+    }
+
+    fn plan(&self, spans: &[u8], excluded: &[u8], out: &mut [u8], values: &mut [u64]) -> u32 {
+        store(&plan(spans, excluded), out, values)
+    }
+
+    fn capture_order(&self, names: &[u8], out: &mut [u8], values: &mut [u64]) -> u32 {
+        store(&capture_order(names), out, values)
+    }
+
+    fn import_strict(&self, file: &[u8], work: &mut [u8], out: &mut [u8], channel: u32, values: &mut [u64]) -> u32 {
+        self.import(file, work, out, channel, 0, values)
+    }
+
+    fn import(
+        &self,
+        file: &[u8],
+        work: &mut [u8],
+        out: &mut [u8],
+        channel: u32,
+        tolerant: u32,
+        values: &mut [u64],
+    ) -> u32 {
+        store(&import(file, work.len(), channel, tolerant != 0, RIGHT), out, values)
+    }
+}
+
+/// How 01 is read in the places where it warns of another reading. Only `RIGHT` is
+/// the model; the others are faults to plant.
+#[derive(Clone, Copy)]
+pub struct Reading {
+    /// A start discards the partial PDU before it.
+    pub start_discards: bool,
+    /// A PDU's time is that of the record completing it, not of its first fragment.
+    pub last_time: bool,
+    /// Channels are judged by the whole file.
+    pub whole_file: bool,
+    /// A new session is a new stretch.
+    pub sessions: bool,
+    /// The longest buffer that stays.
+    pub longest: usize,
+    /// A request admits its source without a response.
+    pub request_admits: bool,
+}
+
+pub const RIGHT: Reading = Reading {
+    start_discards: true,
+    last_time: true,
+    whole_file: true,
+    sessions: true,
+    longest: 65_536,
+    request_admits: true,
+};
+
+// MDR frames.
+
+fn sum(bytes: &[u8]) -> u8 {
+    (bytes.iter().map(|&b| b as u64).sum::<u64>() % 256) as u8
+}
+
+/// The escaped part undone, or the refusal met first.
+fn unescaped(part: &[u8]) -> Result<Vec<u8>, Answer> {
+    let mut body = Vec::new();
+    let mut at = 0;
+    while at < part.len() {
+        if part[at] != 0x3D {
+            body.push(part[at]);
+            at += 1;
+        } else if at + 1 == part.len() {
+            return Err(Answer::refused(13, &[]));
+        } else if (0x2C..=0x2E).contains(&part[at + 1]) {
+            body.push(part[at + 1] + 0x10);
+            at += 2;
+        } else {
+            return Err(Answer::refused(14, &[part[at + 1].into()]));
+        }
+    }
+    Ok(body)
+}
+
+/// The body of a frame: type, seq, length, payload, without the sum.
+fn body(wire: &[u8]) -> Result<Vec<u8>, Answer> {
+    if wire.len() < 9 {
+        return Err(Answer::refused(10, &[]));
+    }
+    if wire[0] != 0x3E {
+        return Err(Answer::refused(11, &[]));
+    }
+    if wire[wire.len() - 1] != 0x3C {
+        return Err(Answer::refused(12, &[]));
+    }
+    let mut body = unescaped(&wire[1..wire.len() - 1])?;
+    if body.len() < 7 {
+        return Err(Answer::refused(15, &[]));
+    }
+    let declared = body.pop().unwrap();
+    if declared != sum(&body) {
+        return Err(Answer::refused(17, &[declared.into(), sum(&body).into()]));
+    }
+    let length = body[2..6].iter().fold(0u64, |n, &b| n * 256 + u64::from(b));
+    let actual = body.len() as u64 - 6;
+    if length != actual {
+        return Err(Answer::refused(16, &[length, actual]));
+    }
+    Ok(body)
+}
+
+pub fn unpack(wire: &[u8]) -> Answer {
+    match body(wire) {
+        Ok(body) => Answer::done(&[body[0].into(), body[1].into(), body.len() as u64 - 6], body[6..].to_vec()),
+        Err(refusal) => refusal,
+    }
+}
+
+/// The packed form of any payload.
+pub fn packed(kind: u8, seq: u8, payload: &[u8]) -> Vec<u8> {
+    let n = payload.len();
+    let mut body = vec![kind, seq, (n >> 24) as u8, (n >> 16) as u8, (n >> 8) as u8, n as u8];
+    body.extend(payload);
+    body.push(sum(&body));
+    let mut wire = vec![0x3E];
+    for b in body {
+        if (0x3C..=0x3E).contains(&b) {
+            wire.push(0x3D);
+            wire.push(b - 0x10);
+        } else {
+            wire.push(b);
+        }
+    }
+    wire.push(0x3C);
+    wire
+}
+
+pub fn pack(kind: u8, seq: u8, payload: &[u8]) -> Answer {
+    if payload.len() > LONGEST_PAYLOAD {
+        return Answer::refused(18, &[]);
+    }
+    let wire = packed(kind, seq, payload);
+    Answer::done(&[wire.len() as u64], wire)
+}
+
+// Names, plan, order.
+
+/// The name a table has for a byte.
+fn table_name(kind: u8, byte: u8) -> Option<&'static str> {
+    let name = capture::command_name(DataType::from_wire(kind), &[byte]);
+    (name != "UNKNOWN" || byte == 0xFF && (kind == 0x0C || kind == 0x0E)).then_some(name)
+}
+
+pub fn is_command_name(name: &[u8]) -> bool {
+    (0..=255)
+        .any(|byte| [0x0C, 0x0E].into_iter().any(|kind| table_name(kind, byte).is_some_and(|n| n.as_bytes() == name)))
+}
+
+fn command(body: &[u8]) -> &'static str {
+    match body.get(6) {
+        None => "NO_COMMAND",
+        Some(&byte) => table_name(body[0], byte).unwrap_or("UNKNOWN"),
+    }
+}
+
+fn name_of(ms: u64, counter: u32, direction: u8, body: &[u8]) -> String {
+    let way = if direction == 1 { "rx" } else { "tx" };
+    let kind = capture::data_type_name(DataType::from_wire(body[0]));
+    let first = body.get(6).copied().unwrap_or(0);
+    let digits = counter.to_string();
+    let counter = "0".repeat(6usize.saturating_sub(digits.len())) + &digits;
+    format!(
+        "mdr-packet-{ms}-{counter}-{way}.type-{kind}-{:02x}.seq-{:02x}.cmd-{}-{first:02x}.bin",
+        body[0],
+        body[1],
+        command(body)
+    )
+}
+
+pub fn fixture_name(ms: u64, counter: u32, direction: u8, wire: &[u8]) -> Answer {
+    match body(wire) {
+        Ok(body) => {
+            let name = name_of(ms, counter, direction, &body);
+            Answer::done(&[name.len() as u64], name.into_bytes())
+        }
+        Err(refusal) => refusal,
+    }
+}
+
+/// The items of a list in which a span is `spans` and a name is not, or the offset
+/// at which it is ill-formed.
+fn items(list: &[u8], spans: bool) -> Result<Vec<(u8, &[u8])>, u64> {
+    if list.len() > 16_777_216 {
+        return Err(0);
+    }
+    let mut items = Vec::new();
+    let mut rest = list;
+    while !rest.is_empty() {
+        let here = (list.len() - rest.len()) as u64;
+        if rest.len() < 6 {
+            return Err(here);
+        }
+        let length = (0..4).map(|i| (rest[i] as usize) << (8 * i)).sum::<usize>();
+        let kind = rest[4] as usize + rest[5] as usize * 256;
+        let right = if spans { (kind == 1 || kind == 2) && length >= 8 } else { kind == 3 };
+        if rest.len() - 6 < length || !right {
+            return Err(here);
+        }
+        items.push((kind as u8, &rest[6..6 + length]));
+        rest = &rest[6 + length..];
+    }
+    Ok(items)
+}
+
+fn item(list: &mut Vec<u8>, kind: u8, body: &[u8]) {
+    for i in 0..4 {
+        list.push((body.len() >> (8 * i)) as u8);
+    }
+    list.push(kind);
+    list.push(0);
+    list.extend(body);
+}
+
+pub fn plan(spans: &[u8], excluded: &[u8]) -> Answer {
+    let spans = match items(spans, true) {
+        Ok(items) => items,
+        Err(at) => return Answer::refused(19, &[at]),
+    };
+    let excluded = match items(excluded, false) {
+        Ok(items) => items,
+        Err(at) => return Answer::refused(20, &[at]),
+    };
+    let mut fixtures = 0;
+    let mut list = Vec::new();
+    for (counter, (direction, span)) in (1..).zip(spans) {
+        let ms = (0..8).map(|i| u64::from(span[i]) << (8 * i)).sum::<u64>();
+        let wire = &span[8..];
+        let Ok(body) = body(wire) else { continue };
+        if excluded.iter().any(|(_, name)| *name == command(&body).as_bytes()) {
+            continue;
+        }
+        item(&mut list, 3, name_of(ms, counter, direction, &body).as_bytes());
+        item(&mut list, 4, wire);
+        fixtures += 1;
+    }
+    Answer::done(&[fixtures, list.len() as u64], list)
+}
+
+/// The counter of a name: the second part between hyphens after `mdr-packet-`.
+fn counter(name: &[u8]) -> Option<u32> {
+    let part = name.strip_prefix(b"mdr-packet-")?.split(|&b| b == b'-').nth(1)?;
+    let digits = part.strip_prefix(b"+").unwrap_or(part);
+    if digits.is_empty() {
+        return None;
+    }
+    let mut n = 0u64;
+    for d in digits {
+        if !d.is_ascii_digit() {
+            return None;
+        }
+        n = n * 10 + u64::from(d - b'0');
+        if n > 4_294_967_295 {
+            return None;
+        }
+    }
+    Some(n as u32)
+}
+
+pub fn capture_order(names: &[u8]) -> Answer {
+    let mut names = match items(names, false) {
+        Ok(items) => items,
+        Err(at) => return Answer::refused(20, &[at]),
+    };
+    names.sort_by_key(|(_, name)| (counter(name).map_or(0, |c| u64::from(c) + 1), *name));
+    let mut list = Vec::new();
+    for (_, name) in names {
+        item(&mut list, 3, name);
+    }
+    Answer::done(&[list.len() as u64], list)
+}
+
+// Import.
+
+/// True is Rx.
+type Way = bool;
+type Triple = (u16, Way, u16);
+
+pub struct Pdu {
+    pub ms: u64,
+    pub way: Way,
+    pub handle: u16,
+    pub cid: u16,
+    pub payload: Vec<u8>,
+}
+
+/// Handle, CID, session and link.
+type Stretch = (u16, u16, u32, u32);
+
+pub struct Piece {
+    pub dlci: u8,
+    pub ms: u64,
+    pub way: Way,
+    pub stretch: Stretch,
+    pub information: Vec<u8>,
+}
+
+fn le16(bytes: &[u8], at: usize) -> Option<u16> {
+    Some(u16::from(*bytes.get(at)?) + u16::from(*bytes.get(at + 1)?) * 256)
+}
+
+fn be(bytes: &[u8]) -> u64 {
+    bytes.iter().fold(0, |n, &b| n * 256 + u64::from(b))
+}
+
+/// The whole records after the header, and the bytes they take.
+pub fn records(mut rest: &[u8]) -> (Vec<&[u8]>, usize) {
+    let mut rows = Vec::new();
+    let mut taken = 0;
+    while rest.len() >= 24 && (rest.len() - 24) as u64 >= be(&rest[4..8]) {
+        let (row, after) = rest.split_at(24 + be(&rest[4..8]) as usize);
+        rows.push(row);
+        taken += row.len();
+        rest = after;
+    }
+    (rows, taken)
+}
+
+/// Time, direction and bytes of the ACL packet in a record.
+fn packet(datalink: u64, row: &[u8]) -> Option<(u64, Way, &[u8])> {
+    let flags = be(&row[8..12]);
+    let ms = be(&row[16..24]).saturating_sub(0x00dc_ddb3_0f2f_8000) / 1000;
+    let packet = &row[24..];
+    if datalink == 2001 {
+        return match flags % 65536 {
+            4 => Some((ms, false, packet)),
+            5 => Some((ms, true, packet)),
+            _ => None,
+        };
+    }
+    if flags / 2 % 2 == 1 {
+        return None;
+    }
+    let packet = if datalink == 1002 { packet.strip_prefix(&[2])? } else { packet };
+    Some((ms, flags % 2 == 1, packet))
+}
+
+/// Handle, flag and data, if every field is there.
+fn fragment(packet: &[u8]) -> Option<(u16, u16, &[u8])> {
+    let field = le16(packet, 0)?;
+    let length = le16(packet, 2)?;
+    Some((field % 4096, field / 4096 % 4, packet.get(4..4 + usize::from(length))?))
+}
+
+pub fn pdus(datalink: u64, rows: &[&[u8]], reading: Reading) -> Vec<Pdu> {
+    let mut open: BTreeMap<(u16, Way), (u64, Vec<u8>)> = BTreeMap::new();
+    let mut pdus = Vec::new();
+    for row in rows {
+        let Some((ms, way, bytes)) = packet(datalink, row) else { continue };
+        let Some((handle, flag, data)) = fragment(bytes) else { continue };
+        let before = open.remove(&(handle, way));
+        let (first, bytes) = match (flag == 1, before) {
+            (true, None) => continue,
+            (true, Some((first, before))) => (first, [&before, data].concat()),
+            (false, Some((first, before))) if !reading.start_discards => (first, [&before, data].concat()),
+            (false, _) => (ms, data.to_vec()),
+        };
+        let ms = if reading.last_time { ms } else { first };
+        match le16(&bytes, 0) {
+            Some(length) if bytes.len() >= 4 + usize::from(length) => {
+                let cid = le16(&bytes, 2).unwrap();
+                pdus.push(Pdu { ms, way, handle, cid, payload: bytes[4..4 + usize::from(length)].to_vec() });
+            }
+            _ => {
+                open.insert((handle, way), (first, bytes));
+            }
+        }
+    }
+    pdus
+}
+
+/// The commands of a PDU on CID 1: code and body.
+fn commands(mut rest: &[u8]) -> Vec<(u8, &[u8])> {
+    let mut commands = Vec::new();
+    while rest.len() >= 4 {
+        let length = usize::from(le16(rest, 2).unwrap());
+        if rest.len() - 4 < length {
+            break;
+        }
+        commands.push((rest[0], &rest[4..4 + length]));
+        rest = &rest[4 + length..];
+    }
+    commands
+}
+
+fn asks(pdu: &Pdu) -> bool {
+    pdu.cid == 1 && commands(&pdu.payload).iter().any(|(code, body)| *code == 2 && le16(body, 0) == Some(3))
+}
+
+/// The triples that are admitted, and those that are named.
+pub fn channels(pdus: &[Pdu], reading: Reading) -> (Vec<Triple>, Vec<Triple>) {
+    let mut admitted = Vec::new();
+    let mut named = Vec::new();
+    let mut requested: Vec<Triple> = Vec::new();
+    for pdu in pdus.iter().filter(|p| p.cid == 1) {
+        for (code, body) in commands(&pdu.payload) {
+            let (Some(first), Some(second)) = (le16(body, 0), le16(body, 2)) else { continue };
+            if code == 2 {
+                let triple = (pdu.handle, !pdu.way, second);
+                named.push(triple);
+                if first == 3 {
+                    if reading.request_admits {
+                        admitted.push(triple);
+                    }
+                    requested.push((pdu.handle, pdu.way, second));
+                }
+            } else if code == 3 {
+                let triple = (pdu.handle, !pdu.way, first);
+                named.push(triple);
+                if le16(body, 4) == Some(0) && requested.contains(&(pdu.handle, !pdu.way, second)) {
+                    admitted.push(triple);
+                }
+            }
+        }
+    }
+    admitted.sort();
+    named.sort();
+    (admitted, named)
+}
+
+/// DLCI and information of a UIH frame.
+fn uih(frame: &[u8]) -> Option<(u8, &[u8])> {
+    let control = *frame.get(1)?;
+    if control != 0xEF && control != 0xFF {
+        return None;
+    }
+    let low = usize::from(*frame.get(2)?);
+    let (length, start) = if low % 2 == 1 { (low / 2, 3) } else { (low / 2 + 128 * usize::from(*frame.get(3)?), 4) };
+    let start = if control == 0xFF { start + 1 } else { start };
+    (frame.len() > start + length).then(|| (frame[0] / 4, &frame[start..start + length]))
+}
+
+pub fn pieces(pdus: &[Pdu], reading: Reading) -> Vec<Piece> {
+    let (mut admitted, mut named) = channels(pdus, reading);
+    let mut sessions: BTreeMap<u16, u32> = BTreeMap::new();
+    let mut links: BTreeMap<(u16, u8), u32> = BTreeMap::new();
+    let mut pieces = Vec::new();
+    for (i, pdu) in pdus.iter().enumerate() {
+        if !reading.whole_file {
+            (admitted, named) = channels(&pdus[..=i], reading);
+        }
+        if asks(pdu) {
+            *sessions.entry(pdu.handle).or_insert(0) += 1;
+            continue;
+        }
+        let triple = (pdu.handle, pdu.way, pdu.cid);
+        let guessed = pdu.cid >= 0x40 && named.binary_search(&triple).is_err();
+        if !guessed && admitted.binary_search(&triple).is_err() {
+            continue;
+        }
+        if pdu.payload.len() >= 2 && matches!(pdu.payload[1], 0x2F | 0x3F) {
+            match pdu.payload[0] / 4 {
+                0 => *sessions.entry(pdu.handle).or_insert(0) += 1,
+                dlci => *links.entry((pdu.handle, dlci)).or_insert(0) += 1,
+            }
+        } else if let Some((dlci, information)) = uih(&pdu.payload) {
+            if dlci == 0 || information.is_empty() {
+                continue;
+            }
+            let mut session = sessions.get(&pdu.handle).copied().unwrap_or(0);
+            let link = links.get(&(pdu.handle, dlci)).copied().unwrap_or(0);
+            if !reading.sessions {
+                session = 0;
+            }
+            pieces.push(Piece {
+                dlci,
+                ms: pdu.ms,
+                way: pdu.way,
+                stretch: (pdu.handle, pdu.cid, session, link),
+                information: information.to_vec(),
+            });
+        }
+    }
+    pieces
+}
+
+/// 01's rule on one buffer: what is taken from it, and what it then holds.
+fn split(mut buffer: Vec<u8>, longest: usize) -> (Vec<Vec<u8>>, Vec<u8>) {
+    let mut spans = Vec::new();
+    loop {
+        match buffer.iter().position(|&b| b == 0x3E) {
+            None => return (spans, Vec::new()),
+            Some(start) => buffer = buffer.split_off(start),
+        }
+        let Some(end) = buffer.iter().position(|&b| b == 0x3C) else {
+            if buffer.len() > longest {
+                buffer.clear();
+            }
+            return (spans, buffer);
+        };
+        let rest = buffer.split_off(end + 1);
+        spans.push(buffer);
+        buffer = rest;
+    }
+}
+
+/// Time, direction and wire of a span.
+pub type Spans = Vec<(u64, Way, Vec<u8>)>;
+
+/// The spans of one DLCI's pieces, and how many buffers are left nonempty.
+pub fn spans(pieces: &[&Piece], reading: Reading) -> (Spans, usize) {
+    let mut buffers: BTreeMap<(Stretch, Way), Vec<u8>> = BTreeMap::new();
+    let mut spans = Vec::new();
+    for piece in pieces {
+        let buffer = buffers.entry((piece.stretch, piece.way)).or_default();
+        buffer.extend(&piece.information);
+        let (taken, held) = split(std::mem::take(buffer), reading.longest);
+        *buffer = held;
+        spans.extend(taken.into_iter().map(|wire| (piece.ms, piece.way, wire)));
+    }
+    (spans, buffers.values().filter(|b| !b.is_empty()).count())
+}
+
+/// The DLCIs of pieces in the order of their first.
+pub fn dlcis(pieces: &[Piece]) -> Vec<u8> {
+    let mut dlcis = Vec::new();
+    for piece in pieces {
+        if !dlcis.contains(&piece.dlci) {
+            dlcis.push(piece.dlci);
+        }
+    }
+    dlcis
+}
+
+pub fn import(file: &[u8], work: usize, channel: u32, tolerant: bool, reading: Reading) -> Answer {
+    if file.len() > LONGEST_FILE {
+        return Answer::refused(1, &[]);
+    }
+    if work < 8 * file.len() {
+        return Answer::refused(2, &[]);
+    }
+    if file.len() < 16 || file[..12] != *b"btsnoop\0\0\0\0\x01" {
+        return Answer::refused(3, &[]);
+    }
+    let datalink = be(&file[12..16]);
+    if ![1001, 1002, 2001].contains(&datalink) {
+        return Answer::refused(4, &[datalink]);
+    }
+    let (rows, taken) = records(&file[16..]);
+    let tail = 16 + taken;
+    if !tolerant && tail < file.len() {
+        return Answer::refused(5, &[tail as u64]);
+    }
+    let pieces = pieces(&pdus(datalink, &rows, reading), reading);
+    for dlci in dlcis(&pieces) {
+        if channel != NO_CHANNEL && channel != u32::from(dlci / 2) {
+            continue;
+        }
+        let own: Vec<&Piece> = pieces.iter().filter(|p| p.dlci == dlci).collect();
+        let (spans, unfinished) = spans(&own, reading);
+        if spans.iter().all(|(_, _, wire)| body(wire).is_err()) {
+            continue;
+        }
+        let mut list = Vec::new();
+        for (ms, way, wire) in &spans {
+            let span: Vec<u8> = (0..8).map(|i| (ms >> (8 * i)) as u8).chain(wire.iter().copied()).collect();
+            item(&mut list, if *way { 1 } else { 2 }, &span);
+        }
+        let values = [dlci as usize, spans.len(), unfinished, tail, list.len()].map(|v| v as u64);
+        return Answer::done(&values, list);
+    }
+    Answer::refused(6, &[])
+}

@@ -1,0 +1,541 @@
+//! Wrong answers planted on purpose: each must be reported, or the comparison could
+//! not fail.
+
+use crate::answer::{Answer, Subject};
+use crate::model::{self, Reading, RIGHT};
+use crate::{Group, Options};
+
+/// The model with some of its calls replaced.
+#[derive(Clone, Copy)]
+struct Planted {
+    unpack: fn(&[u8]) -> Answer,
+    pack: fn(u8, u8, &[u8]) -> Answer,
+    fixture_name: fn(u64, u32, u8, &[u8]) -> Answer,
+    is_command_name: fn(&[u8]) -> bool,
+    plan: fn(&[u8], &[u8]) -> Answer,
+    capture_order: fn(&[u8]) -> Answer,
+    import: fn(&[u8], usize, u32, bool) -> Answer,
+    /// Stores an answer in what is lent.
+    store: fn(&Answer, &mut [u8], &mut [u64]) -> u32,
+    /// Changes work, whatever the answer.
+    spoils: bool,
+}
+
+fn read(file: &[u8], work: usize, channel: u32, tolerant: bool, reading: Reading) -> Answer {
+    model::import(file, work, channel, tolerant, reading)
+}
+
+const NONE: Planted = Planted {
+    unpack: model::unpack,
+    pack: model::pack,
+    fixture_name: model::fixture_name,
+    is_command_name: model::is_command_name,
+    plan: model::plan,
+    capture_order: model::capture_order,
+    import: |file, work, channel, tolerant| read(file, work, channel, tolerant, RIGHT),
+    store: model::store,
+    spoils: false,
+};
+
+impl Subject for Planted {
+    fn unpack(&self, wire: &[u8], out: &mut [u8], values: &mut [u64]) -> u32 {
+        (self.store)(&(self.unpack)(wire), out, values)
+    }
+
+    fn pack(&self, kind: u8, seq: u8, payload: &[u8], out: &mut [u8], values: &mut [u64]) -> u32 {
+        (self.store)(&(self.pack)(kind, seq, payload), out, values)
+    }
+
+    fn fixture_name(
+        &self,
+        ms: u64,
+        counter: u32,
+        direction: u8,
+        wire: &[u8],
+        out: &mut [u8],
+        values: &mut [u64],
+    ) -> u32 {
+        (self.store)(&(self.fixture_name)(ms, counter, direction, wire), out, values)
+    }
+
+    fn is_command_name(&self, name: &[u8]) -> u32 {
+        u32::from((self.is_command_name)(name))
+    }
+
+    fn plan(&self, spans: &[u8], excluded: &[u8], out: &mut [u8], values: &mut [u64]) -> u32 {
+        (self.store)(&(self.plan)(spans, excluded), out, values)
+    }
+
+    fn capture_order(&self, names: &[u8], out: &mut [u8], values: &mut [u64]) -> u32 {
+        (self.store)(&(self.capture_order)(names), out, values)
+    }
+
+    fn import_strict(&self, file: &[u8], work: &mut [u8], out: &mut [u8], channel: u32, values: &mut [u64]) -> u32 {
+        self.import(file, work, out, channel, 0, values)
+    }
+
+    fn import(
+        &self,
+        file: &[u8],
+        work: &mut [u8],
+        out: &mut [u8],
+        channel: u32,
+        tolerant: u32,
+        values: &mut [u64],
+    ) -> u32 {
+        if self.spoils && !work.is_empty() {
+            work[work.len() / 2] ^= 0xFF;
+        }
+        (self.store)(&(self.import)(file, work.len(), channel, tolerant != 0), out, values)
+    }
+}
+
+fn swap(text: &[u8], from: &str, to: &str) -> Vec<u8> {
+    String::from_utf8_lossy(text).replace(from, to).into_bytes()
+}
+
+/// The answer of import with its values changed.
+fn changed(file: &[u8], work: usize, channel: u32, tolerant: bool, change: fn(&mut Answer)) -> Answer {
+    let mut answer = read(file, work, channel, tolerant, RIGHT);
+    if answer.number == 0 {
+        change(&mut answer);
+    }
+    answer
+}
+
+/// Each fault with the group that has to report it.
+fn faults() -> Vec<(&'static str, &'static str, Planted)> {
+    vec![
+        (
+            "codec",
+            "16 judged before 17",
+            Planted {
+                unpack: |wire| match model::unpack(wire) {
+                    a if a.number == 17 && wire.len() > 12 => Answer::refused(16, &[0, 1]),
+                    a => a,
+                },
+                ..NONE
+            },
+        ),
+        (
+            "codec",
+            "17 carries its sums swapped",
+            Planted {
+                unpack: |wire| {
+                    let mut a = model::unpack(wire);
+                    if a.number == 17 {
+                        a.values.swap(0, 1);
+                    }
+                    a
+                },
+                ..NONE
+            },
+        ),
+        (
+            "codec",
+            "an escapee 2F is taken",
+            Planted {
+                unpack: |wire| {
+                    let at = wire.windows(2).position(|w| w == [0x3D, 0x2F]);
+                    at.map_or_else(
+                        || model::unpack(wire),
+                        |at| {
+                            let mut wire = wire.to_vec();
+                            wire.splice(at..at + 2, [0x3F]);
+                            model::unpack(&wire)
+                        },
+                    )
+                },
+                ..NONE
+            },
+        ),
+        (
+            "codec",
+            "a bare 3E inside is refused",
+            Planted {
+                unpack: |wire| match model::unpack(wire) {
+                    a if a.number == 0 && wire[1..].contains(&0x3E) => Answer::refused(11, &[]),
+                    a => a,
+                },
+                ..NONE
+            },
+        ),
+        (
+            "codec",
+            "a payload's last byte is left out",
+            Planted {
+                unpack: |wire| {
+                    let mut a = model::unpack(wire);
+                    a.written.pop();
+                    a
+                },
+                ..NONE
+            },
+        ),
+        (
+            "codec",
+            "the sum is not escaped",
+            Planted {
+                pack: |kind, seq, payload| {
+                    let mut a = model::pack(kind, seq, payload);
+                    let n = a.written.len();
+                    if n > 3 && a.written[n - 3] == 0x3D && a.written[n - 2] == 0x2C {
+                        a.written.splice(n - 3..n - 1, [0x3C]);
+                        a.values[0] -= 1;
+                    }
+                    a
+                },
+                ..NONE
+            },
+        ),
+        (
+            "codec",
+            "18 from 32,760",
+            Planted {
+                pack: |kind, seq, payload| {
+                    if payload.len() == 32_760 {
+                        Answer::refused(18, &[])
+                    } else {
+                        model::pack(kind, seq, payload)
+                    }
+                },
+                ..NONE
+            },
+        ),
+        (
+            "codec",
+            "32,761 is packed",
+            Planted {
+                pack: |kind, seq, payload| {
+                    let wire = model::packed(kind, seq, payload);
+                    if payload.len() == 32_761 {
+                        Answer::done(&[wire.len() as u64], wire)
+                    } else {
+                        model::pack(kind, seq, payload)
+                    }
+                },
+                ..NONE
+            },
+        ),
+        (
+            "codec",
+            "the output is cleared past what is written",
+            Planted {
+                store: |answer, out, values| {
+                    let number = model::store(answer, out, values);
+                    if number == 0 {
+                        out[answer.written.len()..].fill(0);
+                    }
+                    number
+                },
+                ..NONE
+            },
+        ),
+        (
+            "codec",
+            "a refusal writes",
+            Planted {
+                store: |answer, out, values| {
+                    let number = model::store(answer, out, values);
+                    if number != 0 && !out.is_empty() {
+                        out[0] ^= 1;
+                    }
+                    number
+                },
+                ..NONE
+            },
+        ),
+        (
+            "codec",
+            "7 is claimed with just enough lent",
+            Planted {
+                store: |answer, out, values| {
+                    if answer.number == 0 && out.len() == answer.written.len() {
+                        return model::store(&Answer::refused(7, &[out.len() as u64]), out, values);
+                    }
+                    model::store(answer, out, values)
+                },
+                ..NONE
+            },
+        ),
+        (
+            "codec",
+            "nothing is written",
+            Planted {
+                store: |answer, out, values| {
+                    let mut other = out.to_vec();
+                    model::store(answer, &mut other, values)
+                },
+                ..NONE
+            },
+        ),
+        (
+            "codec",
+            "a value too many is stored",
+            Planted {
+                store: |answer, out, values| {
+                    if let Some(last) = values.last_mut() {
+                        *last = 0;
+                    }
+                    model::store(answer, out, values)
+                },
+                ..NONE
+            },
+        ),
+        (
+            "codec",
+            "the last value is not stored",
+            Planted {
+                store: |answer, out, values| {
+                    let mut fewer = answer.within(out.len()).into_owned();
+                    fewer.values.pop();
+                    model::store(&fewer, out, values)
+                },
+                ..NONE
+            },
+        ),
+        (
+            "names",
+            "a counter of five digits",
+            Planted {
+                fixture_name: |ms, counter, direction, wire| {
+                    let mut a = model::fixture_name(ms, counter, direction, wire);
+                    if a.number == 0 && counter < 10 {
+                        let from = format!("-00000{counter}-");
+                        a.written = swap(&a.written, &from, &from.replacen("-0", "-", 1));
+                        a.values[0] = a.written.len() as u64;
+                    }
+                    a
+                },
+                ..NONE
+            },
+        ),
+        (
+            "names",
+            "one name respelled",
+            Planted {
+                fixture_name: |ms, counter, direction, wire| {
+                    let mut a = model::fixture_name(ms, counter, direction, wire);
+                    a.written = swap(&a.written, "GENERAL_SETTING_NTNY_PARAM", "GENERAL_SETTING_NTFY_PARAM");
+                    a
+                },
+                ..NONE
+            },
+        ),
+        (
+            "names",
+            "rx and tx exchanged",
+            Planted {
+                fixture_name: |ms, counter, direction, wire| model::fixture_name(ms, counter, 3 - direction, wire),
+                ..NONE
+            },
+        ),
+        (
+            "names",
+            "NO_COMMAND is a command name",
+            Planted { is_command_name: |name| name == b"NO_COMMAND" || model::is_command_name(name), ..NONE },
+        ),
+        (
+            "names",
+            "a beginning is a command name",
+            Planted { is_command_name: |name| name == b"GET_TES" || model::is_command_name(name), ..NONE },
+        ),
+        (
+            "plan",
+            "an excluded span spends no counter",
+            Planted {
+                plan: |spans, excluded| {
+                    let mut a = model::plan(spans, excluded);
+                    if a.number == 0 && !excluded.is_empty() {
+                        a.written = swap(&a.written, "-000002-", "-000001-");
+                    }
+                    a
+                },
+                ..NONE
+            },
+        ),
+        (
+            "plan",
+            "excluded names are not looked at",
+            Planted {
+                plan: |spans, excluded| match model::plan(spans, excluded) {
+                    a if a.number == 20 => a,
+                    _ => model::plan(spans, &[]),
+                },
+                ..NONE
+            },
+        ),
+        (
+            "plan",
+            "20 before 19",
+            Planted {
+                plan: |spans, excluded| match model::plan(&[], excluded) {
+                    a if a.number == 20 => a,
+                    _ => model::plan(spans, excluded),
+                },
+                ..NONE
+            },
+        ),
+        (
+            "plan",
+            "the offset of 19 is the byte and not the item",
+            Planted {
+                plan: |spans, excluded| {
+                    let mut a = model::plan(spans, excluded);
+                    if a.number == 19 && a.values[0] > 0 {
+                        a.values[0] += 4;
+                    }
+                    a
+                },
+                ..NONE
+            },
+        ),
+        (
+            "order",
+            "names without a counter last",
+            Planted {
+                capture_order: |names| {
+                    let a = model::capture_order(names);
+                    match crate::items::read_names(&a.written) {
+                        Ok(sorted) if a.number == 0 => {
+                            let start = b"mdr-packet-".as_slice();
+                            let (with, without): (Vec<_>, Vec<_>) =
+                                sorted.into_iter().partition(|n| n.starts_with(start));
+                            let list = crate::items::name_list(&[with, without].concat());
+                            Answer::done(&[list.len() as u64], list)
+                        }
+                        _ => a,
+                    }
+                },
+                ..NONE
+            },
+        ),
+        (
+            "order",
+            "duplicates are dropped",
+            Planted {
+                capture_order: |names| {
+                    let a = model::capture_order(names);
+                    match crate::items::read_names(&a.written) {
+                        Ok(mut sorted) if a.number == 0 => {
+                            sorted.dedup();
+                            let list = crate::items::name_list(&sorted);
+                            Answer::done(&[list.len() as u64], list)
+                        }
+                        _ => a,
+                    }
+                },
+                ..NONE
+            },
+        ),
+        (
+            "import",
+            "a partial PDU is kept past a start",
+            Planted { import: |f, w, c, t| read(f, w, c, t, Reading { start_discards: false, ..RIGHT }), ..NONE },
+        ),
+        (
+            "import",
+            "a new session finishes an old frame",
+            Planted { import: |f, w, c, t| read(f, w, c, t, Reading { sessions: false, ..RIGHT }), ..NONE },
+        ),
+        (
+            "import",
+            "channels are judged before the file's end",
+            Planted { import: |f, w, c, t| read(f, w, c, t, Reading { whole_file: false, ..RIGHT }), ..NONE },
+        ),
+        (
+            "import",
+            "a source is admitted only by a response",
+            Planted { import: |f, w, c, t| read(f, w, c, t, Reading { request_admits: false, ..RIGHT }), ..NONE },
+        ),
+        (
+            "import",
+            "a PDU has the time of its first fragment",
+            Planted { import: |f, w, c, t| read(f, w, c, t, Reading { last_time: false, ..RIGHT }), ..NONE },
+        ),
+        (
+            "import",
+            "65,536 bytes are cleared",
+            Planted { import: |f, w, c, t| read(f, w, c, t, Reading { longest: 65_535, ..RIGHT }), ..NONE },
+        ),
+        (
+            "import",
+            "65,537 bytes stay",
+            Planted { import: |f, w, c, t| read(f, w, c, t, Reading { longest: 65_537, ..RIGHT }), ..NONE },
+        ),
+        (
+            "import",
+            "everything is refused with 6",
+            Planted {
+                import: |f, w, c, t| match read(f, w, c, t, RIGHT) {
+                    a if a.number == 0 => Answer::refused(6, &[]),
+                    a => a,
+                },
+                ..NONE
+            },
+        ),
+        (
+            "import",
+            "unfinished is invented",
+            Planted { import: |f, w, c, t| changed(f, w, c, t, |a| a.values[2] = 0), ..NONE },
+        ),
+        (
+            "import",
+            "the first span is listed each time",
+            Planted {
+                import: |f, w, c, t| {
+                    changed(f, w, c, t, |a| {
+                        let n = 6 + u32::from_le_bytes(a.written[..4].try_into().unwrap()) as usize;
+                        for at in (n..a.written.len().saturating_sub(n) + 1).step_by(n) {
+                            a.written.copy_within(..n, at);
+                        }
+                    })
+                },
+                ..NONE
+            },
+        ),
+        (
+            "import",
+            "the channel is not looked at",
+            Planted { import: |f, w, _, t| read(f, w, crate::answer::NO_CHANNEL, t, RIGHT), ..NONE },
+        ),
+        (
+            "import",
+            "work one byte short is enough",
+            Planted { import: |f, w, c, t| read(f, w + 1, c, t, RIGHT), ..NONE },
+        ),
+        ("import", "work is touched by a refusal", Planted { spoils: true, ..NONE }),
+        (
+            "tolerant",
+            "the tail offset is the file's length",
+            Planted {
+                import: |f, w, c, t| {
+                    let mut a = read(f, w, c, t, RIGHT);
+                    if a.number == 0 {
+                        a.values[3] = f.len() as u64;
+                    }
+                    a
+                },
+                ..NONE
+            },
+        ),
+        (
+            "tolerant",
+            "the tolerant rule is strict",
+            Planted { import: |f, w, c, _| read(f, w, c, false, RIGHT), ..NONE },
+        ),
+    ]
+}
+
+/// Runs every fault's group on it; the labels of those that no one reported.
+pub fn unreported(groups: &[(&'static str, Group)], options: &Options) -> (usize, Vec<&'static str>) {
+    let mut missed = Vec::new();
+    let faults = faults();
+    for (name, label, planted) in &faults {
+        let (_, group) = groups.iter().find(|(group, _)| group == name).expect("a group");
+        if group(planted, options).is_ok() {
+            missed.push(*label);
+        }
+    }
+    (faults.len(), missed)
+}

@@ -1,0 +1,96 @@
+//! How deep the random traces reach, by the oracle's answers and the model's steps.
+
+use std::collections::BTreeMap;
+
+use crate::answer::Answer;
+use crate::expected;
+use crate::model::{self, RIGHT};
+use crate::rng::Rng;
+use crate::trace;
+use crate::Options;
+
+#[derive(Default)]
+struct Stats {
+    files: u64,
+    numbers: BTreeMap<u32, u64>,
+    bytes: u64,
+    pdus: u64,
+    pieces: u64,
+    dlcis: BTreeMap<usize, u64>,
+    stretches: BTreeMap<usize, u64>,
+    spans: BTreeMap<usize, u64>,
+    broken: u64,
+    unfinished: BTreeMap<u64, u64>,
+    admitted: u64,
+    named: u64,
+    later: u64,
+}
+
+/// 0, 1, 2, 3, then the power of two at or under.
+fn class(n: usize) -> usize {
+    if n < 4 {
+        n
+    } else {
+        1 << n.ilog2()
+    }
+}
+
+impl Stats {
+    fn add(&mut self, file: &[u8], channel: u32) {
+        let answer = expected::import_strict(file, channel);
+        self.files += 1;
+        self.bytes += file.len() as u64;
+        *self.numbers.entry(answer.number).or_default() += 1;
+        if ![0, 6].contains(&answer.number) {
+            return;
+        }
+        let datalink = u64::from(u32::from_be_bytes(file[12..16].try_into().unwrap()));
+        let pdus = model::pdus(datalink, &model::records(&file[16..]).0, RIGHT);
+        let pieces = model::pieces(&pdus, RIGHT);
+        let (admitted, named) = model::channels(&pdus, RIGHT);
+        self.admitted += u64::from(!admitted.is_empty());
+        self.named += u64::from(named.iter().any(|t| !admitted.contains(t)));
+        self.pdus += pdus.len() as u64;
+        self.pieces += pieces.len() as u64;
+        *self.dlcis.entry(model::dlcis(&pieces).len()).or_default() += 1;
+        if answer.number == 0 {
+            self.chosen(&answer, &pieces);
+        }
+    }
+
+    fn chosen(&mut self, answer: &Answer, pieces: &[model::Piece]) {
+        let own: Vec<_> = pieces.iter().filter(|p| u64::from(p.dlci) == answer.values[0]).collect();
+        let mut stretches: Vec<_> = own.iter().map(|p| (p.stretch, p.way)).collect();
+        stretches.sort();
+        stretches.dedup();
+        let (spans, _) = model::spans(&own, RIGHT);
+        let broken = spans.iter().filter(|(_, _, wire)| oracle::mdr::frame::unpack(wire).is_err()).count();
+        *self.stretches.entry(class(stretches.len())).or_default() += 1;
+        *self.spans.entry(class(spans.len())).or_default() += 1;
+        self.broken += u64::from(broken > 0);
+        *self.unfinished.entry(answer.values[2].min(4)).or_default() += 1;
+        self.later += u64::from(pieces[0].dlci != own[0].dlci);
+    }
+
+    fn print(&self, what: &str) {
+        println!("{what}: {} files, {} bytes, {} PDUs, {} pieces", self.files, self.bytes, self.pdus, self.pieces);
+        println!("  answers and refusals: {:?}", self.numbers);
+        println!("  files with a channel admitted {}, named only {}", self.admitted, self.named);
+        println!("  DLCIs with pieces: {:?}", self.dlcis);
+        println!("  of those answered, buffers of the DLCI: {:?}", self.stretches);
+        println!("  spans (from): {:?}; with one that does not unpack {}", self.spans, self.broken);
+        println!("  unfinished (4 and up together): {:?}; not the first DLCI {}", self.unfinished, self.later);
+    }
+}
+
+pub fn import(options: &Options) {
+    let mut rng = Rng::new(options.seed);
+    let (mut random, mut damaged) = (Stats::default(), Stats::default());
+    for _ in 0..options.size.unwrap_or(20_000) {
+        let (trace, channel) = trace::structured(&mut rng, 60);
+        random.add(&trace.file, channel);
+        damaged.add(&trace::damaged(&mut rng, &trace), channel);
+    }
+    random.print("random traces");
+    damaged.print("damaged traces");
+}

@@ -1,0 +1,92 @@
+//! Import under the tolerant rule: every cut of honest recordings against what is
+//! known to be left, and all that strict import is compared on.
+
+use crate::answer::{Answer, Checked, Difference, Subject};
+use crate::expected;
+use crate::honest::{self, Honest, Scale};
+use crate::import::{self, Import, Rule};
+use crate::rng::Rng;
+use crate::Options;
+
+/// The cuts of a recording that are tried: all, or if it is long, those about the
+/// records' ends and a few more.
+fn cuts(rng: &mut Rng, recording: &Honest) -> Vec<usize> {
+    let length = recording.file.len();
+    if length <= 3000 {
+        return (16..=length).collect();
+    }
+    let mut cuts: Vec<usize> = (0..40).map(|_| rng.within(16, length)).collect();
+    cuts.extend([16, length]);
+    let step = recording.ends.len() / 40 + 1;
+    for &end in recording.ends.iter().step_by(step) {
+        cuts.extend([end - 1, end, (end + 1).min(length), (end + 24).min(length)]);
+    }
+    cuts
+}
+
+const SCALES: [Scale; 4] = [
+    honest::SMALL,
+    Scale { links: 1, frames: 2, payload: 3, piece: 12, fragment: 30 },
+    Scale { links: 4, frames: 10, payload: 40, piece: 60, fragment: 100 },
+    Scale { links: 2, frames: 6, payload: 900, piece: 300, fragment: 200 },
+];
+
+/// Calls `f` with recordings and each of their cuts.
+pub fn each_cut(rng: &mut Rng, size: u64, f: &mut dyn FnMut(&Honest, usize) -> Checked) -> Checked {
+    for i in 0..size {
+        let recording = if i % 50 == 49 {
+            honest::longest(rng)
+        } else {
+            let scale = if i % 4 == 0 { rng.pick(&SCALES) } else { honest::SMALL };
+            honest::recording(rng, scale)
+        };
+        for n in cuts(rng, &recording) {
+            f(&recording, n)?;
+        }
+    }
+    Ok(())
+}
+
+/// The makers of honest recordings against the oracle alone: what is said to be left
+/// is what strict import of the whole records finds.
+pub fn check_makers(options: &Options) -> Checked {
+    let mut rng = Rng::new(options.seed);
+    let (mut cuts, mut none, mut spans, mut unfinished, mut recordings) = (0u64, 0u64, 0u64, 0u64, 0u64);
+    each_cut(&mut rng, options.size.unwrap_or(50_000) / 100, &mut |recording, n| {
+        let left = recording.left(n);
+        let found = expected::import_tolerant(&recording.file[..n], recording.channel());
+        cuts += 1;
+        recordings += u64::from(n == 16);
+        none += u64::from(left.number == 6);
+        if left.number == 0 {
+            spans += left.values[1];
+            unfinished += u64::from(left.values[2] > 0);
+        }
+        if left == found {
+            return Ok(());
+        }
+        let shown = |a: &Answer| format!("number {}, values {:?}", a.number, a.values);
+        Err(Box::new(Difference {
+            call: format!("honest recording, DLCI {}, cut at {n}", recording.dlci),
+            inputs: vec![("file", recording.file[..n].to_vec())],
+            lent: "nothing".into(),
+            expected: shown(&left),
+            got: shown(&found),
+        }))
+    })?;
+    println!("honest: {recordings} recordings, {cuts} cuts, {none} with nothing left, {unfinished} with a frame under way, {spans} frames left in all");
+    Ok(())
+}
+
+pub fn run(subject: &dyn Subject, options: &Options) -> Checked {
+    let size = options.size.unwrap_or(50_000);
+    let mut rng = Rng::new(options.seed);
+    let mut log = options.log("tolerant");
+    let mut import = Import::new(subject, Rule::Tolerant);
+    each_cut(&mut rng, size / 100, &mut |recording, n| {
+        import.held(&recording.file[..n], recording.channel(), &recording.left(n))
+    })?;
+    log.line("every cut of honest recordings", &import.lender);
+    import::run_rule(subject, options, "tolerant", Rule::Tolerant, size / 5)?;
+    import::run_rule(subject, options, "tolerant, switched to strict", Rule::NotTolerant, size / 50)
+}

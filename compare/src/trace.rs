@@ -1,0 +1,442 @@
+//! Makes traces: records, fragments, PDUs, commands and RFCOMM frames by hand, and
+//! random traces out of them that reach deep into the import.
+
+use std::collections::{BTreeMap, VecDeque};
+
+use crate::answer::NO_CHANNEL;
+use crate::codec;
+use crate::model::packed;
+use crate::rng::Rng;
+use oracle::capture::Direction::{self, Rx, Tx};
+use oracle::capture::BTSNOOP_EPOCH_DELTA_US as EPOCH;
+
+pub const DATALINKS: [u32; 3] = [1001, 1002, 2001];
+
+/// A trace under construction.
+#[derive(Clone)]
+pub struct Trace {
+    pub datalink: u32,
+    pub file: Vec<u8>,
+    /// Where each record ends.
+    pub ends: Vec<usize>,
+}
+
+impl Trace {
+    pub fn new(datalink: u32) -> Trace {
+        let mut file = b"btsnoop\0\0\0\0\x01".to_vec();
+        file.extend(datalink.to_be_bytes());
+        Trace { datalink, file, ends: Vec::new() }
+    }
+
+    /// A record; original length and drops are told from the rest, so that nothing
+    /// can lean on them.
+    pub fn record(&mut self, flags: u32, stamp: u64, packet: &[u8]) {
+        let included = packet.len() as u32;
+        self.file.extend((included ^ (stamp as u32 & 0xFF)).to_be_bytes());
+        self.file.extend(included.to_be_bytes());
+        self.file.extend(flags.to_be_bytes());
+        self.file.extend((stamp as u32).rotate_left(7).to_be_bytes());
+        self.file.extend(stamp.to_be_bytes());
+        self.file.extend(packet);
+        self.ends.push(self.file.len());
+    }
+
+    /// An ACL packet in its record. `extra` are flag bits that mean nothing.
+    pub fn acl(&mut self, direction: Direction, stamp: u64, extra: u32, bytes: &[u8]) {
+        match self.datalink {
+            2001 => self.record(if direction == Tx { 4 } else { 5 } | extra << 16, stamp, bytes),
+            1002 => self.record(u32::from(direction == Rx) | extra << 2, stamp, &[&[2], bytes].concat()),
+            _ => self.record(u32::from(direction == Rx) | extra << 2, stamp, bytes),
+        }
+    }
+
+    pub fn fragment(&mut self, direction: Direction, stamp: u64, handle: u16, flag: u16, data: &[u8]) {
+        self.acl(direction, stamp, 0, &acl_packet(handle, flag, data));
+    }
+
+    /// A PDU in one fragment.
+    pub fn pdu(&mut self, direction: Direction, stamp: u64, handle: u16, cid: u16, payload: &[u8]) {
+        self.fragment(direction, stamp, handle, 2, &l2cap(cid, payload));
+    }
+}
+
+pub fn acl_packet(handle: u16, flag: u16, data: &[u8]) -> Vec<u8> {
+    let mut packet = (handle & 0x0FFF | flag << 12).to_le_bytes().to_vec();
+    packet.extend((data.len() as u16).to_le_bytes());
+    packet.extend(data);
+    packet
+}
+
+pub fn l2cap(cid: u16, payload: &[u8]) -> Vec<u8> {
+    let mut pdu = (payload.len() as u16).to_le_bytes().to_vec();
+    pdu.extend(cid.to_le_bytes());
+    pdu.extend(payload);
+    pdu
+}
+
+pub fn command(code: u8, identifier: u8, body: &[u8]) -> Vec<u8> {
+    let mut command = vec![code, identifier];
+    command.extend((body.len() as u16).to_le_bytes());
+    command.extend(body);
+    command
+}
+
+fn words(words: &[u16]) -> Vec<u8> {
+    words.iter().flat_map(|w| w.to_le_bytes()).collect()
+}
+
+pub fn request(psm: u16, source: u16) -> Vec<u8> {
+    command(2, 1, &words(&[psm, source]))
+}
+
+pub fn response(destination: u16, source: u16, result: u16) -> Vec<u8> {
+    command(3, 1, &words(&[destination, source, result, 0]))
+}
+
+/// A UIH frame. `credit` sets control 0xFF and adds the byte; `wide` takes the
+/// two-byte length even where one byte would do.
+pub fn uih(dlci: u8, information: &[u8], credit: Option<u8>, wide: bool) -> Vec<u8> {
+    let n = information.len();
+    let mut frame = vec![dlci << 2 | 1, if credit.is_some() { 0xFF } else { 0xEF }];
+    if n < 128 && !wide {
+        frame.push((n << 1 | 1) as u8);
+    } else {
+        frame.push((n << 1) as u8);
+        frame.push((n >> 7) as u8);
+    }
+    frame.extend(credit);
+    frame.extend(information);
+    frame.push(0x9A);
+    frame
+}
+
+pub fn sabm(dlci: u8) -> Vec<u8> {
+    vec![dlci << 2 | 3, 0x3F, 0x01, 0x1C]
+}
+
+/// A timestamp: about the epoch, about a millisecond's edge, at the ends, or any.
+pub fn stamp(rng: &mut Rng) -> u64 {
+    match rng.below(8) {
+        0 => EPOCH - 1 + rng.below(3) as u64,
+        1 => EPOCH + 1000 * rng.below(5) as u64 + rng.pick(&[0, 1, 999]),
+        2 => rng.pick(&[0, 1, u64::MAX, 1 << 63, EPOCH - 1000]),
+        3 => rng.next(),
+        _ => EPOCH + 1_700_000_000_000_000 + rng.below(1_000_000_000) as u64,
+    }
+}
+
+/// What a random trace is made of, few of each so that they meet.
+struct Pools {
+    handles: Vec<u16>,
+    cids: Vec<u16>,
+    dlcis: Vec<u8>,
+    /// How often, in a hundred, something goes wrong with a packet.
+    trouble: usize,
+    /// How often a PDU is signalling, a SABM, or something else than data.
+    signalling: usize,
+    sabms: usize,
+    others: usize,
+    /// How often a piece sends all that its stream has.
+    whole: usize,
+    /// Longest information in a piece and longest data in a fragment.
+    piece: usize,
+    fragment: usize,
+}
+
+fn few<T: Copy>(rng: &mut Rng, from: &[T], most: usize) -> Vec<T> {
+    (0..rng.within(1, most)).map(|_| rng.pick(from)).collect()
+}
+
+impl Pools {
+    fn new(rng: &mut Rng) -> Pools {
+        Pools {
+            handles: few(rng, &[0x000, 0x001, 0x040, 0x041, 0x100, 0xFFF], 3),
+            cids: few(rng, &[0x40, 0x41, 0x42, 0x1040, 0xFFFF, 0x3F, 0x20, 0x40, 0x41, 0x43, 0x44], 4),
+            dlcis: few(rng, &[1, 2, 3, 18, 19, 18, 18, 19, 62, 63, 0], 3),
+            trouble: rng.pick(&[0, 0, 3, 10, 30]),
+            signalling: rng.pick(&[0, 5, 5, 15, 40]),
+            sabms: rng.pick(&[0, 0, 3, 10, 30]),
+            others: rng.pick(&[0, 5, 20]),
+            whole: rng.pick(&[0, 10, 50, 90]),
+            piece: rng.pick(&[1, 3, 8, 20, 40, 200]),
+            fragment: rng.pick(&[1, 2, 3, 5, 17, 64, 1000]),
+        }
+    }
+
+    fn cid(&self, rng: &mut Rng) -> u16 {
+        if rng.percent(4) {
+            rng.pick(&[0, 1, 1, 2, 0x3F, 0x40])
+        } else {
+            rng.pick(&self.cids)
+        }
+    }
+
+    /// A signalling payload: some commands, at times cut short or with bytes left.
+    fn signalling(&self, rng: &mut Rng) -> Vec<u8> {
+        let mut payload = Vec::new();
+        for _ in 0..rng.pick(&[1, 1, 1, 2, 3, 5]) {
+            let psm = rng.pick(&[3, 3, 3, 1, 0x0103, 0x0300]);
+            let (first, second) = (self.cid(rng), self.cid(rng));
+            let result = rng.pick(&[0, 0, 0, 1, 0x0100, 4]);
+            let mut command = match rng.below(10) {
+                0..=3 => request(psm, first),
+                4..=7 => response(first, second, result),
+                8 => command(rng.pick(&[2, 3]), rng.byte(), &{
+                    let mut body = words(&[rng.pick(&[3, first]), second, result, 0]);
+                    body.truncate(rng.below(9));
+                    body
+                }),
+                _ => command(rng.pick(&[1, 4, 5, 6, 7, 0x12]), rng.byte(), &words(&[3, first])),
+            };
+            if rng.percent(self.trouble / 2) {
+                let length = rng.pick(&[0, 1, 2, 3, 5, 6, 12, 13, 255, 65535]) as u16;
+                command[2..4].copy_from_slice(&length.to_le_bytes());
+            }
+            payload.extend(command);
+        }
+        if rng.percent(self.trouble) {
+            payload.truncate(rng.below(payload.len() + 1));
+        }
+        if rng.percent(10) {
+            let n = rng.below(5);
+            payload.extend(rng.mixed(n, &[0, 2, 3], 90));
+        }
+        payload
+    }
+
+    /// An RFCOMM frame that is neither a SABM nor well-formed data.
+    fn other(&self, rng: &mut Rng) -> Vec<u8> {
+        let dlci = rng.pick(&self.dlcis);
+        let n = rng.below(8);
+        let information = rng.mixed(n, &codec::BYTES, 80);
+        match rng.below(7) {
+            0 => uih(0, &information, None, false),
+            1 => uih(dlci, &[], if rng.percent(50) { Some(rng.byte()) } else { None }, rng.percent(50)),
+            2 => vec![dlci << 2 | 3, rng.pick(&[0x63, 0x73, 0x0F, 0x1F, 0x43, 0x53, 0x2E, 0x6F, 0xEE, 0xDF]), 1, 0],
+            3 => {
+                let mut frame = uih(dlci, &information, None, rng.percent(50));
+                frame.truncate(rng.below(frame.len() + 1));
+                frame
+            }
+            4 => {
+                let mut frame = uih(dlci, &information, Some(rng.byte()), rng.percent(50));
+                frame.pop();
+                frame
+            }
+            5 => {
+                let mut frame = uih(dlci, &information, None, false);
+                frame[2] = frame[2].wrapping_add(rng.pick(&[1, 2, 255, 254]));
+                frame
+            }
+            _ => {
+                let n = rng.below(6);
+                rng.mixed(n, &[0x00, 0x01, 0x2F, 0x3F, 0xEF, 0xFF, 0x3E, 0x3C, dlci << 2], 90)
+            }
+        }
+    }
+}
+
+/// What a stream sends next: mostly frames, at times damaged ones, junk or marks.
+fn stream_bytes(rng: &mut Rng) -> Vec<u8> {
+    match rng.below(12) {
+        0 => {
+            let n = rng.below(6);
+            rng.mixed(n, &codec::BYTES, 80)
+        }
+        1 => vec![rng.pick(&[0x3E, 0x3C, 0x3D])],
+        2 => {
+            let mut wire = packed(rng.byte(), rng.byte(), &[]);
+            codec::damage(rng, &mut wire);
+            wire
+        }
+        3 => {
+            let mut wire = packed(rng.byte(), rng.byte(), &[]);
+            wire.truncate(rng.below(wire.len()));
+            wire
+        }
+        _ => {
+            let n = rng.pick(&[0, 0, 1, 2, 5, 12]);
+            let payload = rng.mixed(n, &codec::BYTES, 30);
+            packed(rng.pick(&[0x01, 0x0C, 0x0E, 0x3C]), rng.byte(), &payload)
+        }
+    }
+}
+
+/// Splits `bytes` into parts of at most `most`, at times empty ones.
+fn parts(rng: &mut Rng, bytes: &[u8], most: usize, trouble: usize) -> Vec<Vec<u8>> {
+    let mut parts = Vec::new();
+    let mut rest = bytes;
+    while !rest.is_empty() || parts.is_empty() {
+        let n = if rng.percent(trouble) { rng.below(4) } else { rng.within(1, most) }.min(rest.len());
+        parts.push(rest[..n].to_vec());
+        rest = &rest[n..];
+    }
+    parts
+}
+
+type Packet = (Direction, Vec<u8>);
+
+/// A random trace whose parts meet, and a channel to import it by. `events` bounds
+/// the number of PDUs.
+pub fn structured(rng: &mut Rng, events: usize) -> (Trace, u32) {
+    let pools = Pools::new(rng);
+    let mut trace = Trace::new(rng.pick(&DATALINKS));
+    let mut streams: BTreeMap<(u16, bool, u8), VecDeque<u8>> = BTreeMap::new();
+    let mut queues: BTreeMap<(u16, bool), VecDeque<Packet>> = BTreeMap::new();
+    let mut now = stamp(rng);
+    for _ in 0..rng.within(1, events) {
+        let handle = rng.pick(&pools.handles);
+        let direction = rng.pick(&[Rx, Tx]);
+        let mut cid = pools.cid(rng);
+        let choice = rng.below(100);
+        let payload = if choice < pools.signalling {
+            cid = if rng.percent(95) { 1 } else { cid };
+            pools.signalling(rng)
+        } else if choice < pools.signalling + pools.sabms {
+            let mut frame = sabm(if rng.percent(30) { 0 } else { rng.pick(&pools.dlcis) });
+            if rng.percent(50) {
+                frame[1] = 0x2F;
+            }
+            frame.truncate(rng.pick(&[1, 2, 3, 4, 4, 4]));
+            frame
+        } else if choice < pools.signalling + pools.sabms + pools.others {
+            pools.other(rng)
+        } else {
+            let dlci = rng.pick(&pools.dlcis);
+            // Mostly one channel for each handle and direction, so that streams go on.
+            if rng.percent(85) {
+                cid = pools.cids[(usize::from(handle) + usize::from(direction == Rx)) % pools.cids.len()];
+            }
+            let stream = streams.entry((handle, direction == Rx, dlci)).or_default();
+            let mut n = rng.within(1, pools.piece);
+            while stream.len() < n {
+                stream.extend(stream_bytes(rng));
+            }
+            if rng.percent(pools.whole) {
+                n = stream.len();
+            }
+            let information: Vec<u8> = stream.drain(..n).collect();
+            let credit = if rng.percent(25) { Some(rng.byte()) } else { None };
+            uih(dlci, &information, credit, rng.percent(20))
+        };
+        let mut pdu = l2cap(cid, &payload);
+        if rng.percent(pools.trouble) {
+            match rng.below(3) {
+                0 => pdu.extend(rng.mixed(3, &codec::BYTES, 80)),
+                1 => pdu[0] = pdu[0].wrapping_add(rng.pick(&[1, 255, 2, 7])),
+                _ => pdu.truncate(rng.below(pdu.len() + 1)),
+            }
+        }
+        let queue = queues.entry((handle, direction == Rx)).or_default();
+        for (i, part) in parts(rng, &pdu, pools.fragment, pools.trouble / 3).into_iter().enumerate() {
+            let mut flag = if i == 0 { rng.pick(&[0, 2, 2, 3]) } else { 1 };
+            if rng.percent(pools.trouble / 3) {
+                flag = rng.below(4) as u16;
+            }
+            let mut packet = acl_packet(handle, flag, &part);
+            if rng.percent(pools.trouble / 2) {
+                match rng.below(4) {
+                    0 => packet.truncate(rng.below(packet.len() + 1)),
+                    1 => packet.extend([0x3E, 0x01]),
+                    2 => packet[2] = packet[2].wrapping_sub(1),
+                    _ => packet[1] ^= 0x40 << rng.below(2),
+                }
+            }
+            if !rng.percent(pools.trouble / 3) {
+                queue.push_back((direction, packet));
+            }
+            if rng.percent(pools.trouble / 4) {
+                let lone = rng.below(4);
+                queue.push_back((direction, acl_packet(handle, 1, &rng.mixed(lone, &codec::BYTES, 50))));
+            }
+        }
+        // Let some of what waits cross, whichever handle and direction it is on.
+        for _ in 0..rng.below(9) {
+            emit(rng, &mut trace, &mut queues, &mut now, pools.trouble);
+        }
+    }
+    while rng.percent(98) && emit(rng, &mut trace, &mut queues, &mut now, pools.trouble) {}
+    let dlci = rng.pick(&pools.dlcis);
+    let channel = match rng.below(10) {
+        0..=6 => NO_CHANNEL,
+        7..=8 => u32::from(dlci / 2),
+        _ => rng.pick(&[0, 1, 9, 31, 32, 255, u32::from(dlci)]),
+    };
+    (trace, channel)
+}
+
+/// One waiting packet crosses; false if none waits.
+fn emit(
+    rng: &mut Rng,
+    trace: &mut Trace,
+    queues: &mut BTreeMap<(u16, bool), VecDeque<Packet>>,
+    now: &mut u64,
+    trouble: usize,
+) -> bool {
+    let keys: Vec<_> = queues.iter().filter(|(_, q)| !q.is_empty()).map(|(k, _)| *k).collect();
+    if keys.is_empty() {
+        return false;
+    }
+    if rng.percent(trouble / 2) {
+        noise(rng, trace);
+    }
+    let key = keys[rng.below(keys.len())];
+    let Some((direction, packet)) = queues.get_mut(&key).and_then(VecDeque::pop_front) else { return false };
+    *now = if rng.percent(5) { stamp(rng) } else { now.wrapping_add(rng.below(3000) as u64) };
+    let extra = if rng.percent(20) { rng.next() as u32 & 0x3FFF } else { 0 };
+    trace.acl(direction, *now, extra, &packet);
+    true
+}
+
+/// A record that is no ACL packet of its datalink, or too short for one.
+pub fn noise(rng: &mut Rng, trace: &mut Trace) {
+    let n = rng.pick(&[0, 1, 2, 3, 4, 5, 12]);
+    let mut packet = rng.mixed(n, &[0, 1, 2, 3, 4, 5], 50);
+    let stamp = stamp(rng);
+    match trace.datalink {
+        2001 => trace.record(rng.pick(&[0, 1, 2, 3, 6, 7, 0x1_0003, 0x4_0006]), stamp, &packet),
+        1002 => {
+            let command = rng.percent(50);
+            if !command && !packet.is_empty() {
+                packet[0] = rng.pick(&[0, 1, 3, 4, 0x82]);
+            }
+            trace.record(if command { 2 } else { 0 } | rng.below(2) as u32, stamp, &packet);
+        }
+        _ => trace.record(2 | rng.below(2) as u32, stamp, &packet),
+    }
+}
+
+/// Random damage to a whole file: bytes, records, cuts.
+pub fn damaged(rng: &mut Rng, trace: &Trace) -> Vec<u8> {
+    let mut file = trace.file.clone();
+    let bounds: Vec<usize> = std::iter::once(16).chain(trace.ends.iter().copied()).collect();
+    match rng.below(8) {
+        0 => file.truncate(rng.below(file.len() + 1)),
+        1 if bounds.len() > 2 => {
+            let i = rng.below(bounds.len() - 1);
+            file.drain(bounds[i]..bounds[i + 1]);
+        }
+        2 if bounds.len() > 2 => {
+            let i = rng.below(bounds.len() - 1);
+            let row = file[bounds[i]..bounds[i + 1]].to_vec();
+            let to = bounds[rng.below(bounds.len())];
+            file.splice(to..to, row);
+        }
+        3 => file.truncate(bounds[rng.below(bounds.len())]),
+        _ => {
+            for _ in 0..rng.within(1, 4) {
+                // After the record's own header most damage goes deeper.
+                let i = rng.below(bounds.len());
+                let low = (bounds[i] + 24).min(file.len() - 1);
+                let high = bounds.get(i + 1).copied().unwrap_or(file.len()).min(file.len());
+                let at = if low < high && rng.percent(85) { rng.within(low, high - 1) } else { rng.below(file.len()) };
+                file[at] = match rng.below(3) {
+                    0 => file[at] ^ 1 << rng.below(8),
+                    1 => rng.pick(&[0, 1, 2, 3, 4, 0x20, 0x2F, 0x3C, 0x3E, 0x3F, 0x40, 0x41, 0x49, 0xEF, 0xFF]),
+                    _ => rng.byte(),
+                };
+            }
+        }
+    }
+    file
+}

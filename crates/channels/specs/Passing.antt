@@ -1,0 +1,100 @@
+-- The pass over the PDUs that reads their signals, and what it leaves for the passes after it.
+use Prim.Native.Nat.{ℕ, _+_, _-_, _*_, _/_, _%_, _<_, _≤_}
+use mathlib.Core.Path.{_≡_, refl, sym, _∙_}
+use mathlib.Core.Bool.{Bool}
+use mathlib.Core.List.{List, _++_}
+use native.Mathlib.Omega.{arith}
+use lib.ListN.{length, drop}
+use Rattle.words.specs.Words.{word}
+use Rattle.words.specs.Front.{Front, front-word, front-less}
+use Rattle.table.specs.Table.{lookup, lookup-agree}
+use Rattle.l2cap.specs.Pdus.{Pdu}
+use Rattle.l2cap.specs.PduTable.{pduAt, pdusFrom, Inside, Reassembled}
+use Rattle.l2cap.specs.PduFrames.{Lent, link-at, rx-at, cid-at, reassembled-front}
+use Rattle.channels.specs.Signals.{Signal, commands, signalsIn, pduSignals, signals}
+use Rattle.channels.specs.Channels.{isTried}
+use Rattle.channels.specs.ChannelTable.{channelKey, Tells}
+use Rattle.channels.specs.Reading.{told}
+use Rattle.channels.specs.Noting.{Telling}
+use Rattle.channels.specs.declared.Step.{Step}
+
+-- ---- one step, one PDU
+
+-- what the commands from a place on say is what the first says and what those after it do; a command that names a channel has 8 bytes
+pub record StepIs (s : List ℕ) (at link rx : ℕ) (r : Step) : Type 0 where
+  pub says : signalsIn link rx (commands (drop at s)) ≡ told (r .said) ++ signalsIn link rx (commands (drop (r .next) s))
+  pub wide : at + 8 * length (told (r .said)) ≤ r .next
+  pub more : at < r .next
+  pub within : r .next ≤ length s
+
+pub record PduStepPre (f w : List ℕ) (row at : ℕ) : Type 0 where
+  pub lent : Lent f w row
+  pub inside : at < word w (row + 4)
+
+-- the row and its payload lie before the table of channels, at word b, which has room for what the payload can name
+pub record NotePre (f w : List ℕ) (row b n : ℕ) : Type 0 where
+  pub below : row + 7 ≤ b
+  pub inside : Inside f w row (4 * b)
+  pub room : 4 * (b + 4 * n) + 2 * word w (row + 4) + 16 ≤ length w
+
+pub record PduNoted (f w : List ℕ) (row b n : ℕ) (u : List ℕ) (r : ℕ) : Type 0 where
+  pub tells : (ss rest : List Signal) → Telling ss (lookup w b n) (pduSignals (pduAt f w row) ++ rest) → Telling ss (lookup u b r) rest
+  pub few : 8 * r ≤ 8 * n + word w (row + 4)
+  pub front : Front (4 * b) u w
+  pub size : length u ≡ length w
+
+-- ---- the pass
+
+-- The PDUs that a list holds, and the channels that their signals name and admit, as the passes after it find them.
+pub record Signalled (f w : List ℕ) (made : ℕ) (ps : List Pdu) (rows : ℕ) : Type 0 where
+  pub pdus : Reassembled f w made ps
+  pub tells : Tells (signals ps) w (3 * (length f / 4)) rows
+  pub few : 3 * (length f / 4) + 4 * rows ≤ 5 * (length f / 4)
+
+pub record ReadChannels (f w : List ℕ) (made : ℕ) (u : List ℕ) (r : ℕ) : Type 0 where
+  pub signalled : Signalled f u made (pdusFrom f w (2 * (length f / 4)) 0 made) r
+  pub front : Front (12 * (length f / 4)) u w
+  pub size : length u ≡ length w
+
+-- what the pass requires, from what reassembly leaves
+pub reassembled-own : (f w : List ℕ) (made : ℕ) (ps : List Pdu) → Reassembled f w made ps → Reassembled f w made (pdusFrom f w (2 * (length f / 4)) 0 made)
+reassembled-own f w made ps r = rw (r .list) r
+
+-- and what it leaves, of the same PDUs
+pub read-signalled : (f w : List ℕ) (made : ℕ) (ps : List Pdu) (u : List ℕ) (rows : ℕ) → Reassembled f w made ps → ReadChannels f w made u rows → Signalled f u made ps rows
+read-signalled f w made ps u rows r c = rw (r .list) at (c .signalled)
+
+-- ---- what a write behind the tables leaves
+
+pub tells-front : (ss : List Signal) (u w : List ℕ) (b n : ℕ) → Front (4 * (b + 4 * n)) u w → Tells ss w b n → Tells ss u b n
+tells-front ss u w b n fr t = record {
+  names = λ link rx cid p q. rw (same (channelKey link rx cid)) (t .names link rx cid p q);
+  admits = λ link rx cid p q. rw (same (channelKey link rx cid)) (t .admits link rx cid p q);
+} where
+  same : (k : ℕ) → lookup u b n k ≡ lookup w b n k
+  same k = lookup-agree u w b n k (λ j lo hi. front-word (4 * (b + 4 * n)) u w j (omega arith) fr)
+
+pub signalled-front : (f u w : List ℕ) (made : ℕ) (ps : List Pdu) (rows : ℕ) → Front (20 * (length f / 4)) u w → length u ≡ length w → Signalled f w made ps rows → Signalled f u made ps rows
+signalled-front f u w made ps rows fr l s =
+    let q : ℕ = length f / 4 in
+    record {
+      pdus = reassembled-front f u w made ps (front-less (12 * q) (20 * q) u w (omega arith) fr) l (s .pdus);
+      tells = tells-front (signals ps) u w (3 * q) rows (front-less (4 * (3 * q + 4 * rows)) (20 * q) u w (omega (arith, s .few)) fr) (s .tells);
+      few = s .few;
+    }
+
+-- ---- which PDUs are tried
+
+-- r is right for every PDU with this first word of its row, 2 * link + direction, and this CID, if the rows tell of the signals
+pub record Judged (w : List ℕ) (b n side cid : ℕ) (r : Bool) : Type 0 where
+  pub right : (ss : List Signal) (p : Pdu) → Tells ss w b n → p .link ≡ side / 2 → p .rx ≡ side % 2 → p .cid ≡ cid → cid < 65536 → r ≡ isTried ss p
+
+module _ (f w : List ℕ) (made : ℕ) (ps : List Pdu) (rows : ℕ) (s : Signalled f w made ps rows) where
+  pub signalled-room : 4 * (3 * (length f / 4) + 4 * rows) ≤ length w
+  signalled-room = omega (arith, s .few, s .pdus .room)
+
+  pub signalled-tried :
+      (j : ℕ) → j < made → (r : Bool) → Judged w (3 * (length f / 4)) rows (word w (2 * (length f / 4) + 7 * j)) (word w (2 * (length f / 4) + 7 * j + 1)) r →
+      r ≡ isTried (signals ps) (pduAt f w (2 * (length f / 4) + 7 * j))
+  signalled-tried j h r g =
+      g .right (signals ps) (pduAt f w (2 * (length f / 4) + 7 * j)) (s .tells) (link-at f w (2 * (length f / 4) + 7 * j)) (rx-at f w (2 * (length f / 4) + 7 * j)) (cid-at f w (2 * (length f / 4) + 7 * j)) (s .pdus .placed j h .cid)

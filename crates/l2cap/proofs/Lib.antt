@@ -1,0 +1,6 @@
+pub mod Walking
+pub mod Opens
+pub mod Rows
+pub mod Finishing
+pub mod Stepping
+pub mod Running

@@ -1,0 +1,108 @@
+-- The run over all packets.
+use mathlib.Core.Path.{_≡_, refl, sym, _∙_}
+use mathlib.Core.List.{List, _++_, append-assoc, append-nil}
+use mathlib.Core.Option.{Option, none}
+use Prim.Native.Nat.{ℕ, _+_, _-_, _*_, _/_, _<_, _≤_}
+use native.Mathlib.Omega.{arith}
+use lib.ListN.{length}
+use lib.Dec.{eqb}
+use borrow.Author.Tests.{eq-eqb, ne-eqb}
+use Rattle.laws.specs.Choice.{split≡}
+use Rattle.laws.specs.Lists.{All}
+use Rattle.laws.specs.Keys.{eqK}
+use Rattle.words.specs.Front.{Front, front-refl, front-then}
+use Rattle.table.specs.Table.{lookup, sumOf}
+use Rattle.btsnoop.specs.Packets.{Packet}
+use Rattle.btsnoop.specs.PacketTable.{packetAt, packetsFrom, dataOf, Tabled}
+use Rattle.btsnoop.specs.PacketFrames.{packets-next, packets-none, data-mono, tabled-less, two-ways, packet-front, tabled-front}
+use Rattle.l2cap.specs.Pdus.{Pdu, packetKey, reassembly, pdus}
+use Rattle.l2cap.specs.PduTable.{pdusFrom, paysOf, Reassembled}
+use Rattle.l2cap.specs.PduFrames.{inside-top}
+use Rattle.l2cap.specs.Rekeyed.{runBy, rekey, run-by}
+use Rattle.l2cap.specs.Steps.{numberOf, asOpen, openAt, heldOf, mapOf, Ready, Step, Stepped}
+use Rattle.l2cap.specs.declared.Tables.{Tables}
+use Rattle.l2cap.proofs.Opens.{never}
+
+-- ---- link and direction as one number
+
+same-key : (x y : Packet) → x .rx ≤ 1 → y .rx ≤ 1 → eqK (packetKey x) (packetKey y) ≡ eqb (numberOf x) (numberOf y)
+unfolding eqK
+same-key x y p q =
+    split≡ (x .link) (y .link)
+    (λ a. split≡ (x .rx) (y .rx)
+    (λ b. rw (eq-eqb (x .link) (y .link) a, eq-eqb (x .rx) (y .rx) b, eq-eqb (numberOf x) (numberOf y) (omega arith)))
+    (λ b. rw (eq-eqb (x .link) (y .link) a, ne-eqb (x .rx) (y .rx) b, ne-eqb (numberOf x) (numberOf y) (λ z. b (omega arith)))))
+    (λ a. rw (ne-eqb (x .link) (y .link) a, ne-eqb (numberOf x) (numberOf y) (λ z. a (omega arith))))
+
+-- the machines of all numbers, run over packets
+abbrev runNumbered : (ℕ → Option (List ℕ)) → List Packet → List Pdu
+runNumbered m ps = runBy (reassembly .next) (reassembly .out) eqb numberOf m ps
+
+pub pdus-numbered : (ps : List Packet) → All (λ (p : Packet). p .rx ≤ 1) ps → pdus ps ≡ runNumbered (λ k. none) ps
+unfolding pdus
+pdus-numbered ps all =
+    run-by reassembly (λ k. none) ps
+    ∙ rekey (reassembly .next) (reassembly .out) eqK eqb packetKey numberOf (λ (p : Packet). p .rx ≤ 1) same-key (λ k. none) (λ k. none) (λ x p. refl) ps all
+
+-- ---- i packets are read, and the others are still to come
+
+pub record Running (f w₀ : List ℕ) (q count : ℕ) (w : List ℕ) (t : Tables) (i : ℕ) : Type 0 where
+  pub within : i ≤ count
+  pub ready : Ready f w q t i
+  pub size : length w ≡ length w₀
+  pub front : Front (4 * q) w w₀
+  pub same : pdusFrom f w (2 * q) 0 (t .made) ++ runNumbered (mapOf f w (3 * q) (t .live) i) (packetsFrom f w₀ i (count - i)) ≡ pdus (packetsFrom f w₀ 0 count)
+
+module _ (f w₀ : List ℕ) (count : ℕ) (pre : Tabled f w₀ count) (q : ℕ) where
+  pub run-start : q ≡ length f / 4 → Running f w₀ q count w₀ (record { live = 0; made = 0; top = 4 * q }) 0
+  unfolding pdusFrom paysOf sumOf dataOf mapOf openAt lookup asOpen heldOf
+  run-start e =
+      let z : count - 0 ≡ count = omega arith in
+      record {
+        within = omega arith;
+        ready = record {
+          quarter = e;
+          live = omega arith;
+          made = omega arith;
+          bump = omega arith;
+          ends = omega arith;
+          few = omega arith;
+          sound = record { sound = λ k a g x. never x };
+          placed = λ j h. absurd (omega arith);
+        };
+        size = refl;
+        front = front-refl (4 * q) w₀;
+        same = rw z (sym (pdus-numbered (packetsFrom f w₀ 0 count) (two-ways f w₀ 0 count)));
+      }
+
+  module _ (w : List ℕ) (t : Tables) (i : ℕ) (v : Running f w₀ q count w t i) where
+    low : 24 * count ≤ 4 * q
+    low = omega (arith, pre .total, v .ready .quarter)
+
+    pub run-step : i < count → Step f w q t i
+    run-step h = record { ready = v .ready; tabled = tabled-less f w (i + 1) count (omega arith) (tabled-front (4 * q) f w w₀ count low (v .front) (v .size) pre) }
+
+    pub run-turn : i < count → (u : List ℕ) (r : Tables) → Stepped f w q t i u r → Running f w₀ q count u r (i + 1)
+    unfolding runBy
+    run-turn h u r st =
+        let pk : packetAt f w i ≡ packetAt f w₀ i = packet-front (4 * q) f w w₀ i (omega (arith, low)) (v .front) in
+        record {
+          within = omega arith;
+          ready = st .ready;
+          size = st .size ∙ v .size;
+          front = front-then (4 * q) u w w₀ (st .front) (v .front);
+          same = rw (st .list, st .map, append-assoc, pk) (rw (packets-next f w₀ i count h) at (v .same));
+        }
+
+    pub run-end : count ≤ i → Reassembled f w (t .made) (pdus (packetsFrom f w₀ 0 count))
+    unfolding runBy
+    run-end h =
+        let tb : Tabled f w count = tabled-front (4 * q) f w w₀ count low (v .front) (v .size) pre in
+        let dm : dataOf w i ≤ dataOf w count = data-mono w i count (v .within) in
+        record {
+          list = rw (← v .ready .quarter) (sym (append-nil (pdusFrom f w (2 * q) 0 (t .made))) ∙ (rw (packets-none f w₀ i count h) at (v .same)));
+          placed = rw (← v .ready .quarter) (λ j l. inside-top f w (2 * q + 7 * j) (t .top) (8 * q) (omega (arith, v .ready .ends, v .ready .few, tb .total, v .ready .quarter)) (v .ready .placed j l));
+          few = rw (← v .ready .quarter) (omega (arith, v .ready .few, v .ready .made, v .within, tb .total));
+          small = tb .small;
+          room = tb .room;
+        }

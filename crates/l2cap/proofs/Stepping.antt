@@ -1,0 +1,294 @@
+-- A step: what the open rows stand for before and after one packet.
+use mathlib.Core.Path.{_≡_, refl, sym, ap, _∙_, fun-ext}
+use mathlib.Core.Bool.{Bool, true, false, cond}
+use mathlib.Core.List.{List, _++_, append-nil}
+use mathlib.Core.Option.{Option, none, some}
+use Prim.Native.Nat.{ℕ, _+_, _-_, _*_, _<_, _≤_}
+use native.Mathlib.Omega.{arith}
+use lib.ListN.{length, drop, length-drop, length-append}
+use lib.Seq.{length-take-le}
+use lib.Dec.{eqb, leb}
+use borrow.Author.Tests.{eq-eqb, ne-eqb, le-leb, lt-leb}
+use Rattle.laws.specs.Choice.{split≡}
+use Rattle.laws.specs.Numbers.{le16}
+use Rattle.words.specs.Words.{word}
+use Rattle.words.specs.Front.{Front, front-then, front-word, front-less, front-refl}
+use Rattle.table.specs.Table.{some as row, lookup, upd, second, sumOf, Stored, Agree, lookup-agree, sum-agree, second-le}
+use Rattle.btsnoop.specs.PacketTable.{packetAt, dataOf}
+use Rattle.btsnoop.specs.PacketFrames.{data-next, data-front}
+use Rattle.l2cap.specs.Pdus.{joined, isComplete, stillOpen, completed}
+use Rattle.l2cap.specs.PduTable.{pdusFrom, paysOf}
+use Rattle.l2cap.specs.PduFrames.{placed-agree, pdus-agree, pays-agree}
+use Rattle.l2cap.specs.Rekeyed.{putBy}
+use Rattle.l2cap.specs.Steps.{since, Walk, Need, asOpen, openAt, longer, grown, nextAt, Arrive, Finish, Finished, heldOf, mapOf, Sound, Step, after, Stepped}
+use Rattle.l2cap.specs.declared.Open.{Open}
+use Rattle.l2cap.specs.declared.Open.the-variants.{Closed, From}
+use Rattle.l2cap.specs.declared.Tables.{Tables}
+use Rattle.l2cap.proofs.Walking.{number-at, piece-own, piece-other, since-one, since-snoc, since-front}
+use Rattle.l2cap.proofs.Opens.{never, as-zero, as-pos, arrive-got, arrive-none}
+
+-- ---- what is open once a packet is read
+
+packet-start :
+    (f w : List ℕ) (i : ℕ) →
+    packetAt f w i ≡ record { link = packetAt f w i .link; rx = packetAt f w i .rx; start = eqb (word w (6 * i + 1)) 1; time = packetAt f w i .time; bytes = packetAt f w i .bytes }
+unfolding packetAt
+packet-start f w i = refl
+
+bytes-length : (f w : List ℕ) (i : ℕ) → word w (6 * i + 2) + word w (6 * i + 3) ≤ length f → length (packetAt f w i .bytes) ≡ word w (6 * i + 3)
+unfolding packetAt
+bytes-length f w i h = length-take-le (word w (6 * i + 3)) (drop (word w (6 * i + 2)) f) (simp length-drop (omega arith))
+
+module _ (f w : List ℕ) (b live i : ℕ) (s : Sound f w b live i) where
+  held-first : some (since f w (word w (6 * i)) i (i + 1)) ≡ some (packetAt f w i .bytes)
+  held-first = ap some (since-one f w (word w (6 * i)) i ∙ piece-own f w (word w (6 * i)) i refl)
+
+  held-more : (a : ℕ) → a ≤ i → some (since f w (word w (6 * i)) a (i + 1)) ≡ some (since f w (word w (6 * i)) a i ++ packetAt f w i .bytes)
+  held-more a h = ap some (since-snoc f w (word w (6 * i)) a i h ∙ rw (piece-own f w (word w (6 * i)) i refl))
+
+  -- it is what the machine has at hand
+  held-open : (o : Open) → ((a g : ℕ) → o ≡ From a g → a ≤ i) → (t : Bool) →
+      heldOf f w (word w (6 * i)) (i + 1) (cond t (From i (word w (6 * i + 3))) (longer o (word w (6 * i + 3))))
+      ≡ joined (heldOf f w (word w (6 * i)) i o) (record { link = packetAt f w i .link; rx = packetAt f w i .rx; start = t; time = packetAt f w i .time; bytes = packetAt f w i .bytes })
+  unfolding heldOf longer joined
+  held-open Closed h true = held-first
+  held-open Closed h false = refl
+  held-open (From a g) h true = held-first
+  held-open (From a g) h false = held-more a (h a g refl)
+
+  pub arrive-held : heldOf f w (word w (6 * i)) (i + 1) (nextAt w b live i) ≡ after f w b live i
+  unfolding nextAt grown mapOf
+  arrive-held =
+      rw (number-at f w i)
+      (held-open (openAt w b live (word w (6 * i))) (λ a g e. s .sound (word w (6 * i)) a g e .0) (eqb (word w (6 * i + 1)) 1)
+      ∙ ap (joined (heldOf f w (word w (6 * i)) i (openAt w b live (word w (6 * i))))) (sym (packet-start f w i)))
+
+  -- and its bytes are counted right
+  pub arrive-sound : word w (6 * i + 2) + word w (6 * i + 3) ≤ length f → (a g : ℕ) → nextAt w b live i ≡ From a g → (a ≤ i) × (g ≡ length (since f w (word w (6 * i)) a (i + 1)))
+  unfolding nextAt grown longer
+  arrive-sound fit a g e = go (openAt w b live (word w (6 * i))) (λ x y q. s .sound (word w (6 * i)) x y q) (eqb (word w (6 * i + 1)) 1) e where
+    own : length (packetAt f w i .bytes) ≡ word w (6 * i + 3)
+    own = bytes-length f w i fit
+
+    first : length (since f w (word w (6 * i)) i (i + 1)) ≡ word w (6 * i + 3)
+    first = rw (since-one f w (word w (6 * i)) i, piece-own f w (word w (6 * i)) i refl) own
+
+    go :
+        (o : Open) → ((x y : ℕ) → o ≡ From x y → (x ≤ i) × (y ≡ length (since f w (word w (6 * i)) x i))) → (t : Bool) →
+        cond t (From i (word w (6 * i + 3))) (longer o (word w (6 * i + 3))) ≡ From a g → (a ≤ i) × (g ≡ length (since f w (word w (6 * i)) a (i + 1)))
+    go o h true q = let x : i ≡ a = cc in let y : word w (6 * i + 3) ≡ g = cc in (omega arith, rw (← x) (sym y ∙ sym first))
+    go Closed h false q = never q
+    go (From x y) h false q =
+        let m : x ≡ a = cc in
+        let n : y + word w (6 * i + 3) ≡ g = cc in
+        let l : length (since f w (word w (6 * i)) x (i + 1)) ≡ y + word w (6 * i + 3) =
+        rw (since-snoc f w (word w (6 * i)) x i (h x y refl .0), piece-own f w (word w (6 * i)) i refl, length-append, own, ← h x y refl .1) in
+        (rw (← m) (h x y refl .0), rw (← m) (sym n ∙ sym l))
+
+-- ---- the packet's key gets v, and one packet more is read
+
+module _
+    (f u w : List ℕ) (b live c i n : ℕ) (v : Open)
+    (s : Sound f w b live i) (fr : Front n u w) (low : 24 * i + 24 ≤ n)
+    (says : (k : ℕ) → openAt u b c k ≡ cond (eqb (word w (6 * i)) k) v (openAt w b live k))
+    (vs : (a g : ℕ) → v ≡ From a g → (a ≤ i) × (g ≡ length (since f w (word w (6 * i)) a (i + 1)))) where
+  since-other : (k a : ℕ) → (word w (6 * i) ≡ k → ⊥) → a ≤ i → since f u k a (i + 1) ≡ since f w k a i
+  since-other k a ne h =
+      since-front n f u w k a (i + 1) (omega arith) (omega arith) fr ∙ since-snoc f w k a i h ∙ (rw (piece-other f w k i ne, append-nil))
+
+  held-own : (x : Open) → ((a g : ℕ) → x ≡ From a g → a ≤ i) → heldOf f u (word w (6 * i)) (i + 1) x ≡ heldOf f w (word w (6 * i)) (i + 1) x
+  unfolding heldOf
+  held-own Closed h = refl
+  held-own (From a g) h = let l : a ≤ i = h a g refl in ap some (since-front n f u w (word w (6 * i)) a (i + 1) (omega arith) (omega arith) fr)
+
+  held-other : (k : ℕ) → (word w (6 * i) ≡ k → ⊥) → (x : Open) → ((a g : ℕ) → x ≡ From a g → a ≤ i) → heldOf f u k (i + 1) x ≡ heldOf f w k i x
+  unfolding heldOf
+  held-other k ne Closed h = refl
+  held-other k ne (From a g) h = ap some (since-other k a ne (h a g refl))
+
+  pub next-map : _≡_ {A = ℕ → Option (List ℕ)} (mapOf f u b c (i + 1)) (putBy eqb (mapOf f w b live i) (word w (6 * i)) (heldOf f w (word w (6 * i)) (i + 1) v))
+  unfolding mapOf
+  next-map = fun-ext (λ k.
+      ap (heldOf f u k (i + 1)) (says k)
+      ∙ split≡ (word w (6 * i)) k
+      (λ e. rw (← e, eq-eqb (word w (6 * i)) (word w (6 * i)) refl) (held-own v (λ a g q. vs a g q .0)))
+      (λ e. rw (ne-eqb (word w (6 * i)) k e, ne-eqb k (word w (6 * i)) (λ x. e (sym x))) (held-other k e (openAt w b live k) (λ a g q. s .sound k a g q .0))))
+
+  pub next-sound : Sound f u b c (i + 1)
+  next-sound = record { sound = λ k a g e. go k a g (sym (says k) ∙ e) } where
+    go : (k a g : ℕ) → cond (eqb (word w (6 * i)) k) v (openAt w b live k) ≡ From a g → (a ≤ i + 1) × (g ≡ length (since f u k a (i + 1)))
+    go k a g e =
+        split≡ (word w (6 * i)) k
+        (λ z.
+        let q = vs a g (rw (eq-eqb (word w (6 * i)) k z) at e) in
+        let l : a ≤ i = q .0 in
+        (omega arith, rw (since-front n f u w k a (i + 1) (omega arith) (omega arith) fr, ← z) (q .1)))
+        (λ z.
+        let q = s .sound k a g (rw (ne-eqb (word w (6 * i)) k z) at e) in
+        (omega (arith, q .0), rw (since-other k a z (q .0)) (q .1)))
+
+-- a row stored says so
+stored-open :
+    (v w u : List ℕ) (b n k y z r : ℕ) → ((j : ℕ) → lookup v b n j ≡ lookup w b n j) → Stored v b n k y z u r → (j : ℕ) →
+    openAt u b r j ≡ cond (eqb k j) (asOpen (row y z)) (openAt w b n j)
+unfolding openAt upd
+stored-open v w u b n k y z r lk so j = ap asOpen (so .says j) ∙ rw (lk j) (go (eqb k j)) where
+  go : (t : Bool) → asOpen (cond t (row y z) (lookup w b n j)) ≡ cond t (asOpen (row y z)) (asOpen (lookup w b n j))
+  go true = refl
+  go false = refl
+
+-- ---- one packet
+
+module _ (f w : List ℕ) (q : ℕ) (t : Tables) (i : ℕ) (p : Step f w q t i) where
+  pub step-arrive : Arrive w (3 * q) (t .live) i
+  step-arrive = record {
+    low = omega (arith, p .tabled .total, p .tabled .room);
+    room = omega (arith, p .tabled .total, p .tabled .room, p .ready .live, p .ready .quarter);
+    sums = omega (arith, p .tabled .total, p .tabled .small, p .ready .few, data-next w i);
+  }
+
+  low : 24 * i + 24 ≤ 4 * q
+  low = omega (arith, p .tabled .total, p .ready .quarter)
+
+  data-same : (u : List ℕ) → Front (4 * q) u w → dataOf u (i + 1) ≡ dataOf w (i + 1)
+  data-same u fr = data-front (4 * q) u w (i + 1) (omega (arith, low)) fr
+
+  -- a continuation of nothing
+  pub step-skip : nextAt w (3 * q) (t .live) i ≡ Closed → Stepped f w q t i w t
+  unfolding heldOf stillOpen completed
+  step-skip e =
+      let k : ℕ = word w (6 * i) in
+      let hn : none ≡ after f w (3 * q) (t .live) i = (rw e at (arrive-held f w (3 * q) (t .live) i (p .ready .sound))) in
+      let no : openAt w (3 * q) (t .live) k ≡ Closed = arrive-none w (3 * q) (t .live) i e in
+      let says : (j : ℕ) → openAt w (3 * q) (t .live) j ≡ cond (eqb k j) Closed (openAt w (3 * q) (t .live) j) =
+      (λ j. split≡ k j (λ z. rw (eq-eqb k j z) (ap (openAt w (3 * q) (t .live)) (sym z) ∙ no)) (λ z. rw (ne-eqb k j z))) in
+      let vs : (a g : ℕ) → Closed ≡ From a g → (a ≤ i) × (g ≡ length (since f w k a (i + 1))) = (λ a g x. never x) in
+      record {
+        ready = record {
+          quarter = p .ready .quarter;
+          live = omega (arith, p .ready .live);
+          made = omega (arith, p .ready .made);
+          bump = p .ready .bump;
+          ends = p .ready .ends;
+          few = omega (arith, p .ready .few, data-next w i);
+          sound = next-sound f w w (3 * q) (t .live) (t .live) i (4 * q) Closed (p .ready .sound) (front-refl (4 * q) w) low says vs;
+          placed = p .ready .placed;
+        };
+        front = front-refl (4 * q) w;
+        size = refl;
+        list = sym (rw (← hn) (append-nil (pdusFrom f w (2 * q) 0 (t .made))));
+        map = next-map f w w (3 * q) (t .live) (t .live) i (4 * q) Closed (p .ready .sound) (front-refl (4 * q) w) low says vs ∙ rw (← hn, number-at f w i);
+      }
+
+  module _ (first got : ℕ) (e : nextAt w (3 * q) (t .live) i ≡ From first got) where
+    pub step-first : (first ≤ i) × (got ≡ length (since f w (word w (6 * i)) first (i + 1)))
+    step-first = arrive-sound f w (3 * q) (t .live) i (p .ready .sound) (p .tabled .fits .fits i (omega arith)) first got e
+
+    pub step-walk : Walk f w first (i + 1)
+    step-walk = record { tabled = p .tabled; before = omega (arith, step-first .0) }
+
+    held-next : some (since f w (word w (6 * i)) first (i + 1)) ≡ after f w (3 * q) (t .live) i
+    unfolding heldOf
+    held-next = (rw e at (arrive-held f w (3 * q) (t .live) i (p .ready .sound)))
+
+    -- what is made and open, with the new bytes in place of the key's old ones
+    step-got : 4 * t .made + paysOf w (2 * q) (t .made) + sumOf w (3 * q) (t .live) + got ≤ dataOf w (i + 1) + second (lookup w (3 * q) (t .live) (word w (6 * i)))
+    step-got = omega (arith, arrive-got w (3 * q) (t .live) i first got e, data-next w i, p .ready .few)
+
+    step-small : got + 4 * t .made + paysOf w (2 * q) (t .made) ≤ dataOf w (i + 1)
+    step-small = omega (arith, step-got, second-le w (3 * q) (t .live) (word w (6 * i)))
+
+    pub step-narrow : (first + 1 ≤ 1048576) × (got ≤ 1048576)
+    step-narrow = (omega (arith, step-first .0, p .tabled .total, p .tabled .small), omega (arith, step-small, p .tabled .total, p .tabled .small))
+
+    pub step-finish : (key need : ℕ) → key ≡ word w (6 * i) → Need (since f w key first (i + 1)) got need → need ≤ got → Finish f w (2 * q) (t .made) (t .top) i first need
+    step-finish key need ke ni le = record {
+      tabled = p .tabled;
+      low = omega (arith, p .tabled .total, p .ready .quarter, p .ready .bump);
+      mid = omega (arith, p .ready .ends, step-small, p .tabled .total, p .ready .quarter);
+      room = omega (arith, p .ready .made, p .tabled .total, p .tabled .room, p .ready .quarter);
+      small = omega (arith, p .ready .made, p .tabled .total, p .tabled .small, p .ready .quarter);
+      before = step-first .0;
+      needs = (rw ke at (ni .enough le));
+      there = omega (arith, step-first .1);
+      placed = p .ready .placed;
+    }
+
+    -- the PDU is not complete
+    pub step-hold :
+        (key need : ℕ) → key ≡ word w (6 * i) → Need (since f w key first (i + 1)) got need → got < need →
+        (k x y : ℕ) → k ≡ key → x ≡ first + 1 → y ≡ got → (u : List ℕ) (c : ℕ) → Stored w (3 * q) (t .live) k x y u c →
+        Stepped f w q t i u (record { live = c; made = t .made; top = t .top })
+    unfolding heldOf stillOpen completed isComplete
+    step-hold key need ke ni lt k x y kk xe ye u c so₀ =
+        let s = step-first in
+        let B : List ℕ = since f w (word w (6 * i)) first (i + 1) in
+        let so : Stored w (3 * q) (t .live) (word w (6 * i)) x y u c = (rw (kk ∙ ke) at so₀) in
+        let cmp : leb (4 + le16 B 0) (length B) ≡ false = lt-leb (4 + le16 B 0) (length B) (let g : got < 4 + le16 B 0 = (rw ke at (ni .short lt)) in omega (arith, s .1)) in
+        let va : asOpen (row x y) ≡ From first got = as-pos x y (λ z. omega arith) ∙ (let z : x - 1 ≡ first = omega arith in rw (z, ye)) in
+        let vs : (a g : ℕ) → From first got ≡ From a g → (a ≤ i) × (g ≡ length (since f w (word w (6 * i)) a (i + 1))) =
+        (λ a g z. let m : first ≡ a = cc in let n : got ≡ g = cc in rw (← m, ← n) s) in
+        let says : (j : ℕ) → openAt u (3 * q) c j ≡ cond (eqb (word w (6 * i)) j) (From first got) (openAt w (3 * q) (t .live) j) =
+        (λ j. stored-open w w u (3 * q) (t .live) (word w (6 * i)) x y c (λ z. refl) so j ∙ rw va) in
+        let fro : Front (8 * q) u w = front-less (8 * q) (4 * (3 * q)) u w (omega arith) (so .front) in
+        let frn : Front (4 * q) u w = front-less (4 * q) (8 * q) u w (omega arith) fro in
+        let frt : Front (t .top) u w = front-less (t .top) (8 * q) u w (omega (arith, p .ready .ends, step-small, p .tabled .total, p .ready .quarter)) fro in
+        let ag : Agree (2 * q) (2 * q + 7 * t .made) u w = (λ j lo hi. front-word (4 * (3 * q)) u w j (omega (arith, p .ready .made, p .tabled .total, p .ready .quarter)) (so .front)) in
+        let py : paysOf u (2 * q) (t .made) ≡ paysOf w (2 * q) (t .made) = pays-agree u w (2 * q) (t .made) ag in
+        record {
+          ready = record {
+            quarter = p .ready .quarter;
+            live = omega (arith, so .most, p .ready .live);
+            made = omega (arith, p .ready .made);
+            bump = p .ready .bump;
+            ends = rw py (p .ready .ends);
+            few = rw (py, data-same u frn) (omega (arith, so .sum, step-got));
+            sound = next-sound f u w (3 * q) (t .live) c i (4 * q) (From first got) (p .ready .sound) frn low says vs;
+            placed = placed-agree f u w (2 * q) (t .made) (t .top) (t .top) (omega arith) ag (p .ready .placed);
+          };
+          front = frn;
+          size = so .size;
+          list = pdus-agree f u w (2 * q) 0 (t .made) (t .made) (t .top) (omega arith) ag frt (p .ready .placed) ∙ sym (rw (← held-next, cmp) (append-nil (pdusFrom f w (2 * q) 0 (t .made))));
+          map = next-map f u w (3 * q) (t .live) c i (4 * q) (From first got) (p .ready .sound) frn low says vs ∙ rw (← held-next, cmp, number-at f w i);
+        }
+
+    -- the PDU is complete
+    pub step-full :
+        (key need : ℕ) → key ≡ word w (6 * i) → Need (since f w key first (i + 1)) got need → need ≤ got →
+        (v : List ℕ) (top : ℕ) → Finished f w (2 * q) (t .made) (t .top) i first need v top →
+        (k : ℕ) → k ≡ key → (u : List ℕ) (c : ℕ) → Stored v (3 * q) (t .live) k 0 0 u c →
+        Stepped f w q t i u (record { live = c; made = t .made + 1; top = top })
+    unfolding heldOf stillOpen completed isComplete
+    step-full key need ke ni le v top fin k kk u c so₀ =
+        let s = step-first in
+        let B : List ℕ = since f w (word w (6 * i)) first (i + 1) in
+        let so : Stored v (3 * q) (t .live) (word w (6 * i)) 0 0 u c = (rw (kk ∙ ke) at so₀) in
+        let nb : need ≡ 4 + le16 B 0 = (rw ke at (ni .enough le)) in
+        let cmp : leb (4 + le16 B 0) (length B) ≡ true = le-leb (4 + le16 B 0) (length B) (omega (arith, s .1)) in
+        let agv : Agree (3 * q) (3 * q + 4 * t .live) v w = (λ j lo hi. fin .above j (omega (arith, p .ready .made, p .tabled .total, p .ready .quarter))) in
+        let lk : (j : ℕ) → lookup v (3 * q) (t .live) j ≡ lookup w (3 * q) (t .live) j = (λ j. lookup-agree v w (3 * q) (t .live) j agv) in
+        let vs : (a g : ℕ) → Closed ≡ From a g → (a ≤ i) × (g ≡ length (since f w (word w (6 * i)) a (i + 1))) = (λ a g z. never z) in
+        let says : (j : ℕ) → openAt u (3 * q) c j ≡ cond (eqb (word w (6 * i)) j) Closed (openAt w (3 * q) (t .live) j) =
+        (λ j. stored-open v w u (3 * q) (t .live) (word w (6 * i)) 0 0 c lk so j ∙ rw (as-zero 0 0 refl)) in
+        let fro : Front (8 * q) u v = front-less (8 * q) (4 * (3 * q)) u v (omega arith) (so .front) in
+        let frn : Front (4 * q) u w = front-then (4 * q) u v w (front-less (4 * q) (8 * q) u v (omega arith) fro) (front-less (4 * q) (t .top) v w (p .ready .bump) (fin .front)) in
+        let frt : Front top u v = front-less top (8 * q) u v (omega (arith, fin .most, p .ready .ends, step-small, p .tabled .total, p .ready .quarter)) fro in
+        let ag : Agree (2 * q) (2 * q + 7 * (t .made + 1)) u v = (λ j lo hi. front-word (4 * (3 * q)) u v j (omega (arith, p .ready .made, p .tabled .total, p .ready .quarter)) (so .front)) in
+        let py : paysOf u (2 * q) (t .made + 1) ≡ paysOf v (2 * q) (t .made + 1) = pays-agree u v (2 * q) (t .made + 1) ag in
+        let sumk : sumOf u (3 * q) c + second (lookup w (3 * q) (t .live) (word w (6 * i))) ≡ sumOf w (3 * q) (t .live) + 0 = (rw (lk (word w (6 * i)), sum-agree v w (3 * q) (t .live) agv) at (so .sum)) in
+        record {
+          ready = record {
+            quarter = p .ready .quarter;
+            live = omega (arith, so .most, p .ready .live);
+            made = omega (arith, p .ready .made);
+            bump = omega (arith, p .ready .bump, fin .least);
+            ends = rw py (omega (arith, fin .most, fin .pays, p .ready .ends));
+            few = rw (py, data-same u frn) (omega (arith, sumk, fin .pays, step-got));
+            sound = next-sound f u w (3 * q) (t .live) c i (4 * q) Closed (p .ready .sound) frn low says vs;
+            placed = placed-agree f u v (2 * q) (t .made + 1) top top (omega arith) ag (fin .placed);
+          };
+          front = frn;
+          size = so .size ∙ fin .size;
+          list = pdus-agree f u v (2 * q) 0 (t .made + 1) (t .made + 1) top (omega arith) ag frt (fin .placed) ∙ fin .list ∙ rw (← held-next, cmp);
+          map = next-map f u w (3 * q) (t .live) c i (4 * q) Closed (p .ready .sound) frn low says vs ∙ rw (← held-next, cmp, number-at f w i);
+        }

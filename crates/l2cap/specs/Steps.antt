@@ -1,0 +1,168 @@
+-- What the functions of the pass ask and promise: the bytes of a key among the packets, what is open, a PDU's row, a step.
+use Prim.Native.Nat.{ℕ, zero, suc, _+_, _-_, _*_, _/_, _%_, _<_, _≤_}
+use mathlib.Core.Path.{_≡_}
+use mathlib.Core.Bool.{cond}
+use mathlib.Core.List.{List, [], _∷_, _++_}
+use mathlib.Core.Option.{Option, none, some}
+use lib.ListN.{length}
+use lib.Dec.{eqb}
+use Rattle.laws.specs.Numbers.{le16}
+use Rattle.words.specs.Words.{word, putWord}
+use Rattle.words.specs.Front.{Front}
+use Rattle.table.specs.Table.{Slot, none as no-row, some as row, lookup, sumOf}
+use Rattle.btsnoop.specs.Packets.{Packet}
+use Rattle.btsnoop.specs.PacketTable.{packetAt, packetsFrom, dataOf, Tabled}
+use Rattle.l2cap.specs.Pdus.{joined, stillOpen, completed, pduOf}
+use Rattle.l2cap.specs.PduTable.{pdusFrom, paysOf}
+use Rattle.l2cap.specs.PduFrames.{Placed}
+use Rattle.l2cap.specs.Rekeyed.{putBy}
+use Rattle.l2cap.specs.declared.Open.{Open}
+use Rattle.l2cap.specs.declared.Open.the-variants.{Closed, From}
+use Rattle.l2cap.specs.declared.Tables.{Tables}
+
+-- ---- the bytes of a key
+
+-- a link and a direction as the one number that the tables keep
+abbrev pub numberOf : Packet → ℕ
+numberOf p = 2 * p .link + p .rx
+
+unfoldable pub pieceOf : ℕ → Packet → List ℕ
+pieceOf k p = cond (eqb (numberOf p) k) (p .bytes) []
+
+-- the data of the packets of a key, joined
+unfoldable pub gathered : ℕ → List Packet → List ℕ
+gathered k [] = []
+gathered k (p ∷ ps) = pieceOf k p ++ gathered k ps
+
+-- what a key has from the packets first .. upto - 1
+unfoldable pub since : List ℕ → List ℕ → ℕ → ℕ → ℕ → List ℕ
+since f w k first upto = gathered k (packetsFrom f w first (upto - first))
+
+unfoldable pub brought : List ℕ → ℕ → ℕ → ℕ
+brought w k i = cond (eqb (word w (6 * i)) k) (word w (6 * i + 3)) 0
+
+pub record Walk (f w : List ℕ) (first upto : ℕ) : Type 0 where
+  pub tabled : Tabled f w upto
+  pub before : first ≤ upto
+
+pub record Paste (f w : List ℕ) (i left to : ℕ) : Type 0 where
+  pub tabled : Tabled f w (i + 1)
+  pub room : to + left ≤ length w
+
+pub record Gather (f w : List ℕ) (first upto need to : ℕ) : Type 0 where
+  pub tabled : Tabled f w upto
+  pub before : first ≤ upto
+  pub low : 24 * upto ≤ to
+  pub room : to + need ≤ length w
+
+-- r bytes make the PDU complete whose bytes so far are B, got of them
+pub record Need (B : List ℕ) (got r : ℕ) : Type 0 where
+  pub enough : r ≤ got → r ≡ 4 + le16 B 0
+  pub short : got < r → got < 4 + le16 B 0
+
+-- ---- what is open
+
+-- a row holds the number of the first packet and one more, or 0 if nothing is open, and the bytes so far
+unfoldable pub asOpen : Slot → Open
+asOpen no-row = Closed
+asOpen (row zero g) = Closed
+asOpen (row (suc a) g) = From a g
+
+unfoldable pub openAt : List ℕ → ℕ → ℕ → ℕ → Open
+openAt w b n k = asOpen (lookup w b n k)
+
+unfoldable pub longer : Open → ℕ → Open
+longer Closed n = Closed
+longer (From a g) n = From a (g + n)
+
+-- after a fragment of n bytes in packet i
+unfoldable pub grown : ℕ → Open → ℕ → ℕ → Open
+grown start o i n = cond (eqb start 1) (From i n) (longer o n)
+
+unfoldable pub nextAt : List ℕ → ℕ → ℕ → ℕ → Open
+nextAt w b live i = grown (word w (6 * i + 1)) (openAt w b live (word w (6 * i))) i (word w (6 * i + 3))
+
+pub record Small (o : Open) (n : ℕ) : Type 0 where
+  pub small : (a g : ℕ) → o ≡ From a g → g + n ≤ 67108864
+
+pub record Arrive (w : List ℕ) (b live i : ℕ) : Type 0 where
+  pub low : 24 * i + 24 ≤ length w
+  pub room : 4 * (b + 4 * live) ≤ length w
+  pub sums : sumOf w b live + word w (6 * i + 3) ≤ 67108864
+
+-- ---- a PDU's row
+
+-- words one after another
+unfoldable pub putWords : List ℕ → ℕ → List ℕ → List ℕ
+putWords w at [] = w
+putWords w at (x ∷ xs) = putWords (putWord w at x) (suc at) xs
+
+unfoldable pub putPdu : List ℕ → ℕ → ℕ → ℕ → ℕ → ℕ → ℕ → ℕ → List ℕ
+putPdu w at k c p s l t = putWords w at (k ∷ c ∷ p ∷ s ∷ l ∷ t % 4294967296 ∷ t / 4294967296 ∷ [])
+
+pub record PutPdu (w : List ℕ) (at s l : ℕ) : Type 0 where
+  pub room : 4 * at + 28 ≤ length w
+  pub start : s < 4294967296
+  pub len : l < 4294967296
+
+pub record Finish (f w : List ℕ) (b made top i first need : ℕ) : Type 0 where
+  pub tabled : Tabled f w (i + 1)
+  pub low : 24 * i + 24 ≤ top
+  pub mid : top + need ≤ 4 * b
+  pub room : 4 * (b + 7 * made) + 28 ≤ length w
+  pub small : b + 7 * made ≤ 16777216
+  pub before : first ≤ i
+  pub needs : need ≡ 4 + le16 (since f w (word w (6 * i)) first (i + 1)) 0
+  pub there : need ≤ length (since f w (word w (6 * i)) first (i + 1))
+  pub placed : Placed f w b made top
+
+pub record Finished (f w : List ℕ) (b made top i first need : ℕ) (u : List ℕ) (r : ℕ) : Type 0 where
+  pub list : pdusFrom f u b 0 (made + 1) ≡ pdusFrom f w b 0 made ++ (pduOf (since f w (word w (6 * i)) first (i + 1)) (packetAt f w i) ∷ [])
+  pub placed : Placed f u b (made + 1) r
+  pub pays : paysOf u b (made + 1) + 4 ≡ paysOf w b made + need
+  pub front : Front top u w
+  pub above : (j : ℕ) → b + 7 * made + 7 ≤ j → word u j ≡ word w j
+  pub least : top ≤ r
+  pub most : r ≤ top + need
+  pub size : length u ≡ length w
+
+-- ---- a step
+
+-- the state of a key's machine, with the packets before upto read
+unfoldable pub heldOf : List ℕ → List ℕ → ℕ → ℕ → Open → Option (List ℕ)
+heldOf f w k upto Closed = none
+heldOf f w k upto (From a g) = some (since f w k a upto)
+
+-- the states of all machines
+unfoldable pub mapOf : List ℕ → List ℕ → ℕ → ℕ → ℕ → ℕ → Option (List ℕ)
+mapOf f w b live i k = heldOf f w k i (openAt w b live k)
+
+-- the bytes so far are counted right
+pub record Sound (f w : List ℕ) (b live i : ℕ) : Type 0 where
+  pub sound : (k a g : ℕ) → openAt w b live k ≡ From a g → (a ≤ i) × (g ≡ length (since f w k a i))
+
+-- i packets are read. Every data byte is in one open PDU or one made, or dropped: so all areas have room.
+pub record Ready (f w : List ℕ) (q : ℕ) (t : Tables) (i : ℕ) : Type 0 where
+  pub quarter : q ≡ length f / 4
+  pub live : t .live ≤ i
+  pub made : t .made ≤ i
+  pub bump : 4 * q ≤ t .top
+  pub ends : t .top ≤ 4 * q + 4 * t .made + paysOf w (2 * q) (t .made)
+  pub few : 4 * t .made + paysOf w (2 * q) (t .made) + sumOf w (3 * q) (t .live) ≤ dataOf w i
+  pub sound : Sound f w (3 * q) (t .live) i
+  pub placed : Placed f w (2 * q) (t .made) (t .top)
+
+pub record Step (f w : List ℕ) (q : ℕ) (t : Tables) (i : ℕ) : Type 0 where
+  pub ready : Ready f w q t i
+  pub tabled : Tabled f w (i + 1)
+
+-- the state that packet i finds, and the bytes at hand after it
+abbrev pub after : List ℕ → List ℕ → ℕ → ℕ → ℕ → Option (List ℕ)
+after f w b live i = joined (mapOf f w b live i (numberOf (packetAt f w i))) (packetAt f w i)
+
+pub record Stepped (f w : List ℕ) (q : ℕ) (t : Tables) (i : ℕ) (u : List ℕ) (r : Tables) : Type 0 where
+  pub ready : Ready f u q r (i + 1)
+  pub front : Front (4 * q) u w
+  pub size : length u ≡ length w
+  pub list : pdusFrom f u (2 * q) 0 (r .made) ≡ pdusFrom f w (2 * q) 0 (t .made) ++ completed (after f w (3 * q) (t .live) i) (packetAt f w i)
+  pub map : _≡_ {A = ℕ → Option (List ℕ)} (mapOf f u (3 * q) (r .live) (i + 1)) (putBy eqb (mapOf f w (3 * q) (t .live) i) (numberOf (packetAt f w i)) (stillOpen (after f w (3 * q) (t .live) i)))

@@ -1,0 +1,9 @@
+pub mod Sum
+pub mod Escape
+pub mod Frame
+pub mod Told
+pub mod Escaping
+pub mod Steps
+pub mod Wire
+pub mod Examples
+pub mod Types

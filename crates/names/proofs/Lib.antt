@@ -1,0 +1,4 @@
+pub mod Counting
+pub mod Places
+pub mod Searching
+pub mod Writing

@@ -1,0 +1,75 @@
+-- The name of a fixture: mdr-packet-<ms>-<counter>-<rx|tx>.type-<NAME>-<hex>.seq-<hex>.cmd-<NAME>-<hex>.bin
+use mathlib.Core.Bool.{Bool, cond}
+use mathlib.Core.List.{List, [], _∷_, _++_}
+use Prim.Native.Nat.{ℕ, _+_}
+use lib.Dec.{eqb}
+use lib.ListN.{length, getD}
+use Rattle.laws.specs.Answers.{Outcome, gives, refuses}
+use Rattle.mdr.specs.declared.DataType.{DataType}
+use Rattle.mdr.specs.declared.DataType.the-variants.{Data, Ack, DataMcNo1, DataIcd, DataEv, DataMdr, DataCommon, DataMdrNo2, Shot, ShotMcNo1, ShotIcd, ShotEv, ShotMdr, ShotCommon, ShotMdrNo2, Unknown}
+use Rattle.mdr.specs.Types.{typeOf, byteOf}
+use Rattle.mdr.specs.Frame.{unpackOf}
+use Rattle.names.specs.Text.{ascii}
+use Rattle.names.specs.Digits.{decimal, decimal6, hex2}
+use Rattle.names.specs.Commands.{Entry, t1, t2, nameIn}
+use Rattle.names.specs.declared.Frame.{Frame}
+
+-- sixteen cases: fifteen values and the rest
+unfoldable pub typeName : DataType → List ℕ
+typeName Data = ascii "DATA"
+typeName Ack = ascii "ACK"
+typeName DataMcNo1 = ascii "DATA_MC_NO1"
+typeName DataIcd = ascii "DATA_ICD"
+typeName DataEv = ascii "DATA_EV"
+typeName DataMdr = ascii "DATA_MDR"
+typeName DataCommon = ascii "DATA_COMMON"
+typeName DataMdrNo2 = ascii "DATA_MDR_NO2"
+typeName Shot = ascii "SHOT"
+typeName ShotMcNo1 = ascii "SHOT_MC_NO1"
+typeName ShotIcd = ascii "SHOT_ICD"
+typeName ShotEv = ascii "SHOT_EV"
+typeName ShotMdr = ascii "SHOT_MDR"
+typeName ShotCommon = ascii "SHOT_COMMON"
+typeName ShotMdrNo2 = ascii "SHOT_MDR_NO2"
+typeName (Unknown b) = ascii "UNKNOWN"
+
+-- the table that a type byte selects; the other types have none
+unfoldable pub tableOf : ℕ → List Entry
+tableOf b = cond (eqb b (byteOf DataMdr)) t1 (cond (eqb b (byteOf DataMdrNo2)) t2 [])
+
+-- a frame is its type byte, its sequence number, its payload's length, and the payload's first byte, 0 if it has none
+
+unfoldable pub commandName : Frame → List ℕ
+commandName f = cond (eqb (f .size) 0) (ascii "NO_COMMAND") (nameIn (tableOf (f .kind)) (f .first))
+
+unfoldable pub wayName : ℕ → List ℕ
+wayName rx = cond (eqb rx 1) (ascii "rx") (ascii "tx")
+
+-- of milliseconds, a counter, rx (1 from the headset, 0 to it), and a frame
+unfoldable pub frameName : ℕ → ℕ → ℕ → Frame → List ℕ
+frameName ms counter rx f =
+    ascii "mdr-packet-" ++ decimal ms ++ ascii "-" ++ decimal6 counter ++ ascii "-" ++ wayName rx
+    ++ ascii ".type-" ++ typeName (typeOf (f .kind)) ++ ascii "-" ++ hex2 (f .kind)
+    ++ ascii ".seq-" ++ hex2 (f .seq)
+    ++ ascii ".cmd-" ++ commandName f ++ ascii "-" ++ hex2 (f .first)
+    ++ ascii ".bin"
+
+-- its length: the same both ways
+unfoldable pub nameLen : ℕ → ℕ → Frame → ℕ
+nameLen ms counter f = 43 + length (decimal ms) + length (decimal6 counter) + length (typeName (typeOf (f .kind))) + length (commandName f)
+
+-- the frame that unpacking gives: its first two values are type and sequence number
+abbrev pub frameOf : List ℕ → List ℕ → Frame
+frameOf values payload = record { kind = getD values 0 0; seq = getD values 1 0; size = length payload; first = getD payload 0 0 }
+
+-- a name, with its length as the answer
+abbrev pub given : List ℕ → Outcome
+given name = gives (length name ∷ []) name
+
+abbrev pub named : ℕ → ℕ → ℕ → Outcome → Outcome
+named ms counter rx (gives values payload) = given (frameName ms counter rx (frameOf values payload))
+named ms counter rx (refuses n values) = refuses n values
+
+-- refused as unpacking refuses
+unfoldable pub fixtureName : ℕ → ℕ → ℕ → List ℕ → Outcome
+fixtureName ms counter rx wire = named ms counter rx (unpackOf wire)

@@ -1,0 +1,284 @@
+-- Laws of sorting words in the output.
+use mathlib.Core.Path.{_≡_, refl, sym, ap, _∙_}
+use mathlib.Core.Logic.{_⊎_, inl, inr, ⊎-elim}
+use mathlib.Core.Bool.{Bool, true, false}
+use mathlib.Core.List.{List, [], _∷_, _++_, append-assoc}
+use Prim.Native.Nat.{ℕ, zero, suc, _+_, _-_, _*_, _<_, _≤_}
+use native.Mathlib.Nat.{add-zero}
+use native.Mathlib.Omega.{arith}
+use lib.ListN.{length, take, drop, length-drop, drop-of-length-le}
+use lib.Seq.{take-all, take-nil, drop-length}
+use Rattle.laws.specs.Numbers.{le32}
+use borrow.Author.Tests.{le-leb, lt-leb}
+use Rattle.laws.specs.Choice.{split≤, no-way}
+use Rattle.words.specs.Words.{word, putWord, length-put, word-put-same, word-put-other}
+use Rattle.order.specs.Counter.{leName}
+use Rattle.order.specs.Sort.{insert, isort, merge}
+use Rattle.order.specs.Steps.{nameAt, leAt, leftFirst, words, Kept, Copies, Merges, Sorts}
+use Rattle.order.proofs.Sorting.{isort-append, merge-met}
+use Rattle.order.proofs.Names.{name-trans, name-total}
+
+-- ---- the name at a place
+
+module _ (l : List ℕ) (place at : ℕ) (d : at ≡ place) where
+  pub name-none : length l < at + 6 → take (length l - length l) (drop (length l) l) ≡ nameAt l place
+  unfolding nameAt
+  name-none h = rw (drop-of-length-le l {i = place + 6} (omega arith), drop-length l, take-nil (le32 l place), take-nil (length l - length l))
+
+  module _ (x size : ℕ) (e : x ≡ le32 l at) (f : size ≡ x) where
+    pub name-cut : length l - (at + 6) < size → take (length l - (at + 6)) (drop (at + 6) l) ≡ nameAt l place
+    unfolding nameAt
+    name-cut h =
+        rw (← d)
+        (take-all (length l - (at + 6)) (drop (at + 6) l) (omega (arith, length-drop (at + 6) l))
+        ∙ sym (take-all (le32 l at) (drop (at + 6) l) (omega (arith, length-drop (at + 6) l))))
+
+    pub name-whole : take (at + 6 + size - (at + 6)) (drop (at + 6) l) ≡ nameAt l place
+    unfolding nameAt
+    name-whole = let g : at + 6 + size - (at + 6) ≡ le32 l at = omega arith in rw (g, d)
+
+-- ---- words
+
+-- lists that agree on the words from i on have them in common
+pub words-same : (w u : List ℕ) (i n : ℕ) → ((j : ℕ) → i ≤ j → j < i + n → word u j ≡ word w j) → words u i n ≡ words w i n
+words-same w u i zero f = refl
+words-same w u i (suc n) f = rw (f i (omega arith) (omega arith), words-same w u (suc i) n (λ j p q. f j (omega arith) (omega arith)))
+
+pub words-append : (w : List ℕ) (i n m : ℕ) → words w i (n + m) ≡ words w i n ++ words w (i + n) m
+words-append w i zero m = let e : 0 + m ≡ m = omega arith in rw (e, add-zero)
+words-append w i (suc n) m =
+    let e : suc n + m ≡ suc (n + m) = omega arith in
+    let f : i + suc n ≡ suc i + n = omega arith in
+    rw (e, f, words-append w (suc i) n m)
+
+pub words-snoc : (w : List ℕ) (i n : ℕ) → words w i (n + 1) ≡ words w i n ++ (word w (i + n) ∷ [])
+words-snoc w i n = words-append w i n 1
+
+-- the first of those that are left
+words-first : (w : List ℕ) (i k n : ℕ) → k < n → words w (i + k) (n - k) ≡ word w (i + k) ∷ words w (i + (k + 1)) (n - (k + 1))
+words-first w i k n h =
+    let e : n - k ≡ suc (n - (k + 1)) = omega arith in
+    let f : suc (i + k) ≡ i + (k + 1) = omega arith in
+    rw (e, f)
+
+-- a store of a word elsewhere
+words-put : (w : List ℕ) (p v i n : ℕ) → (p < i) ⊎ (i + n ≤ p) → words (putWord w p v) i n ≡ words w i n
+words-put w p v i n h = words-same w (putWord w p v) i n (λ j a b. word-put-other w p v j (λ e. ⊎-elim (λ x. omega arith) (λ x. omega arith) h))
+
+-- the word after those that are there
+pub words-more : (w : List ℕ) (i n v : ℕ) → 4 * (i + n) + 4 ≤ length w → words (putWord w (i + n) v) i (n + 1) ≡ words w i n ++ (v ∷ [])
+words-more w i n v h =
+    words-snoc (putWord w (i + n) v) i n
+    ∙ rw (words-put w (i + n) v i n (inr (omega arith)), word-put-same w (i + n) v h)
+
+-- ---- what stays
+
+pub kept-none : (lo hi top : ℕ) (w : List ℕ) → Kept lo hi top w w
+kept-none lo hi top w = record { same = λ j p q. refl }
+
+kept-put : (lo hi top : ℕ) (w u : List ℕ) (i v : ℕ) → Kept lo hi top w u → ((lo ≤ i) × (i < hi)) ⊎ (top ≤ i) → Kept lo hi top w (putWord u i v)
+kept-put lo hi top w u i v k h =
+    record { same = λ j p q. word-put-other u i v j (λ e. ⊎-elim (λ x. ⊎-elim (λ y. omega arith) (λ y. omega arith) q) (λ x. omega arith) h) ∙ k .same j p q }
+
+words-kept : (lo hi top : ℕ) (w u : List ℕ) (i n : ℕ) → Kept lo hi top w u → i + n ≤ top → (i + n ≤ lo) ⊎ (hi ≤ i) → words u i n ≡ words w i n
+words-kept lo hi top w u i n k h g = words-same w u i n (λ j p q. k .same j (omega arith) (⊎-elim (λ x. inl (omega arith)) (λ x. inr (omega arith)) g))
+
+-- ---- copying
+
+pub record Copying (lo n top : ℕ) (w u : List ℕ) (i : ℕ) : Type 0 where
+  pub within : i ≤ n
+  pub long : length u ≡ length w
+  pub copied : words u top i ≡ words w lo i
+  pub kept : Kept 0 0 top w u
+
+pub copying-start : (lo n top : ℕ) (w : List ℕ) → Copying lo n top w w 0
+copying-start lo n top w = record { within = omega arith; long = refl; copied = refl; kept = kept-none 0 0 top w }
+
+module _ (lo n top : ℕ) (w u : List ℕ) (i : ℕ) (c : Copying lo n top w u i) (apart : lo + n ≤ top) where
+  pub copying-turn : (v : ℕ) (u′ : List ℕ) → 4 * (top + n) ≤ length w → i < n → v ≡ word u (lo + i) → u′ ≡ putWord u (top + i) v → Copying lo n top w u′ (i + 1)
+  copying-turn v u′ room h e q =
+      record {
+        within = omega arith;
+        long = rw (q, length-put u (top + i) v) (c .long);
+        copied =
+            rw (q, words-more u top i v (omega (arith, c .long)), c .copied, words-snoc w lo i, e, c .kept .same (lo + i) (omega arith) (inr (omega arith)));
+        kept = rw q (kept-put 0 0 top w u (top + i) v (c .kept) (inr (omega arith)));
+      }
+
+  pub copying-end : n ≤ i → Copies lo n top w u
+  copying-end h = let e : i ≡ n = omega (arith, c .within) in record { copied = rw e at (c .copied); kept = c .kept }
+
+-- ---- merging
+
+module _ (l : List ℕ) where
+  take-none : (x : ℕ) (a : List ℕ) → merge (leAt l) (x ∷ a) [] ≡ x ∷ merge (leAt l) a []
+  unfolding merge
+  take-none x [] = refl
+  take-none x (y ∷ a) = refl
+
+  take-left : (x y : ℕ) (a b : List ℕ) → leAt l x y ≡ true → merge (leAt l) (x ∷ a) (y ∷ b) ≡ x ∷ merge (leAt l) a (y ∷ b)
+  unfolding merge
+  take-left x y a b h = rw h
+
+  take-right : (x y : ℕ) (a b : List ℕ) → leAt l x y ≡ false → merge (leAt l) (x ∷ a) (y ∷ b) ≡ y ∷ merge (leAt l) (x ∷ a) b
+  unfolding merge
+  take-right x y a b h = rw h
+
+module _ (l w : List ℕ) (a k end : ℕ) where
+  pub left-end : end ≤ k → true ≡ leftFirst l w a k end
+  unfolding leftFirst
+  left-end h = rw (le-leb end k h)
+
+  pub left-more : (v : ℕ) (x y : List ℕ) (r : Bool) → k < end → v ≡ word w k → x ≡ nameAt l a → y ≡ nameAt l v → r ≡ leName x y → r ≡ leftFirst l w a k end
+  unfolding leftFirst leAt
+  left-more v x y r h e f g q = rw (lt-leb end k h, ← e, ← f, ← g) q
+
+module _ (l w : List ℕ) (a k end : ℕ) (t : Bool) (p : t ≡ leftFirst l w a k end) where
+  left-true : t ≡ true → k < end → leAt l a (word w k) ≡ true
+  unfolding leftFirst
+  left-true e h = rw (lt-leb end k h) at (sym p ∙ e)
+
+  pub left-below : t ≡ false → k < end
+  unfolding leftFirst
+  left-below e = split≤ end k (λ h. no-way (rw (le-leb end k h) at p) e) (λ h. h)
+
+  left-false : t ≡ false → leAt l a (word w k) ≡ false
+  unfolding leftFirst
+  left-false e = rw (lt-leb end k (left-below e)) at (sym p ∙ e)
+
+-- i words of the left and j of the right are merged
+pub record Merging (l : List ℕ) (lo h m top : ℕ) (w u : List ℕ) (i j : ℕ) : Type 0 where
+  pub left : i ≤ h
+  pub right : j ≤ m
+  pub long : length u ≡ length w
+  pub same : words u lo (i + j) ++ merge (leAt l) (words u (top + i) (h - i)) (words u (lo + h + j) (m - j)) ≡ merge (leAt l) (words w top h) (words w (lo + h) m)
+  pub kept : Kept lo (lo + h + m) top w u
+
+pub merging-start : (l : List ℕ) (lo h m top : ℕ) (w : List ℕ) → Merging l lo h m top w w 0 0
+merging-start l lo h m top w =
+    let a : h - 0 ≡ h = omega arith in
+    let b : m - 0 ≡ m = omega arith in
+    record { left = omega arith; right = omega arith; long = refl; same = rw (add-zero top, add-zero (lo + h), a, b); kept = kept-none lo (lo + h + m) top w }
+
+module _ (l : List ℕ) (lo h m top : ℕ) (w u : List ℕ) (i j : ℕ) (c : Merging l lo h m top w u i j) where
+  pub merging-end : h ≤ i → Merges l lo h m top w u
+  unfolding merge
+  merging-end g =
+      let e : i ≡ h = omega (arith, c .left) in
+      let z : h - h ≡ 0 = omega arith in
+      let f : h + m ≡ h + j + (m - j) = omega (arith, c .right) in
+      let k : lo + h + j ≡ lo + (h + j) = omega arith in
+      record { merged = rw f (words-append u lo (h + j) (m - j) ∙ rw (← k) (rw (e, z) at (c .same))); kept = c .kept }
+
+  module _ (v : ℕ) (u′ : List ℕ) (apart : lo + h + m ≤ top) (room : 4 * (top + h) ≤ length w) (less : i < h) (q : u′ ≡ putWord u (lo + i + j) v) where
+    wrote : (k : ℕ) → k ≡ i + j + 1 → words u′ lo k ≡ words u lo (i + j) ++ (v ∷ [])
+    wrote k e =
+        let f : lo + i + j ≡ lo + (i + j) = omega arith in
+        rw (e, q, f) (words-more u lo (i + j) v (omega (arith, c .long, c .right)))
+
+    left-put : (k : ℕ) → words u′ (top + k) (h - k) ≡ words u (top + k) (h - k)
+    left-put k = rw q (words-put u (lo + i + j) v (top + k) (h - k) (inl (omega (arith, c .right))))
+
+    right-put : (k : ℕ) → j ≤ k → words u′ (lo + h + k) (m - k) ≡ words u (lo + h + k) (m - k)
+    right-put k g = rw q (words-put u (lo + i + j) v (lo + h + k) (m - k) (inl (omega arith)))
+
+    long′ : length u′ ≡ length w
+    long′ = rw (q, length-put u (lo + i + j) v) (c .long)
+
+    kept′ : Kept lo (lo + h + m) top w u′
+    kept′ = rw q (kept-put lo (lo + h + m) top w u (lo + i + j) v (c .kept) (inl (omega arith, omega (arith, c .right))))
+
+    step : (k : ℕ) (a b xs : List ℕ) → k ≡ i + j + 1 → xs ≡ v ∷ merge (leAt l) a b → words u lo (i + j) ++ xs ≡ merge (leAt l) (words w top h) (words w (lo + h) m)
+        → words u′ lo k ++ merge (leAt l) a b ≡ merge (leAt l) (words w top h) (words w (lo + h) m)
+    step k a b xs e f g = rw (wrote k e) (append-assoc (words u lo (i + j)) (v ∷ []) (merge (leAt l) a b) ∙ rw f at g)
+
+    -- the left word is the next: the right is at its end, or its word does not come before
+    pub merging-left : (t : Bool) → v ≡ word u (top + i) → t ≡ leftFirst l u v (lo + h + j) (lo + h + m) → t ≡ true → Merging l lo h m top w u′ (i + 1) j
+    merging-left t e p g = record {
+      left = omega arith;
+      right = c .right;
+      long = long′;
+      same =
+          rw (left-put (i + 1), right-put j (omega arith))
+          (step (i + 1 + j) (words u (top + (i + 1)) (h - (i + 1))) (words u (lo + h + j) (m - j)) _ (omega arith)
+          (split≤ m j
+          (λ x. let z : m - j ≡ 0 = omega arith in rw z (take-none l v (words u (top + (i + 1)) (h - (i + 1)))))
+          (λ x. rw (words-first u (lo + h) j m x) (take-left l v (word u (lo + h + j)) (words u (top + (i + 1)) (h - (i + 1))) (words u (lo + h + (j + 1)) (m - (j + 1))) (left-true l u v (lo + h + j) (lo + h + m) t p g (omega arith)))))
+          (rw (words-first u top i h less, ← e) at (c .same)));
+      kept = kept′;
+    }
+
+    pub merging-right : (t : Bool) (a : ℕ) → a ≡ word u (top + i) → v ≡ word u (lo + h + j) → t ≡ leftFirst l u a (lo + h + j) (lo + h + m) → t ≡ false → Merging l lo h m top w u′ i (j + 1)
+    merging-right t a ea e p f =
+        let g : j < m = omega (arith, left-below l u a (lo + h + j) (lo + h + m) t p f) in
+        record {
+          left = c .left;
+          right = omega arith;
+          long = long′;
+          same =
+              rw (left-put i, right-put (j + 1) (omega arith))
+              (step (i + (j + 1)) (words u (top + i) (h - i)) (words u (lo + h + (j + 1)) (m - (j + 1))) _ (omega arith)
+              (rw (words-first u top i h less, ← ea) (take-right l a v (words u (top + (i + 1)) (h - (i + 1))) (words u (lo + h + (j + 1)) (m - (j + 1))) (rw e (left-false l u a (lo + h + j) (lo + h + m) t p f))))
+              (rw (words-first u (lo + h) j m g, ← e, words-first u top i h less, ← ea) at (c .same)));
+          kept = kept′;
+        }
+
+-- ---- sorting
+
+at-trans : (l : List ℕ) (x y z : ℕ) → leAt l x y ≡ true → leAt l y z ≡ true → leAt l x z ≡ true
+unfolding leAt
+at-trans l x y z = name-trans (nameAt l x) (nameAt l y) (nameAt l z)
+
+at-total : (l : List ℕ) (x y : ℕ) → leAt l x y ≡ false → leAt l y x ≡ true
+unfolding leAt
+at-total l x y = name-total (nameAt l x) (nameAt l y)
+
+pub sorts-few : (l : List ℕ) (lo n top : ℕ) (w : List ℕ) → n < 2 → Sorts l lo n top w w
+unfolding isort insert
+sorts-few l lo zero top w h = record { sorted = refl; kept = kept-none lo (lo + 0) top w }
+sorts-few l lo (suc zero) top w h = record { sorted = refl; kept = kept-none lo (lo + 1) top w }
+sorts-few l lo (suc (suc n)) top w h = absurd (omega arith)
+
+-- the two halves are sorted, one after the other
+module _ (l : List ℕ) (lo n h m top : ℕ) (w0 w1 w2 : List ℕ) (whole : n ≡ h + m) (apart : lo + n ≤ top) (s : Sorts l lo h top w0 w1) (t : Sorts l (lo + h) m top w1 w2) where
+  left-half : words w2 lo h ≡ isort (leAt l) (words w0 lo h)
+  left-half = words-kept (lo + h) (lo + h + m) top w1 w2 lo h (t .kept) (omega arith) (inl (omega arith)) ∙ s .sorted
+
+  right-half : words w2 (lo + h) m ≡ isort (leAt l) (words w0 (lo + h) m)
+  right-half = t .sorted ∙ ap (isort (leAt l)) (words-kept lo (lo + h) top w0 w1 (lo + h) m (s .kept) (omega arith) (inr (omega arith)))
+
+  all : merge (leAt l) (words w2 lo h) (words w2 (lo + h) m) ≡ isort (leAt l) (words w0 lo n)
+  all =
+      rw (left-half, right-half, whole, words-append w0 lo h m)
+      (sym (isort-append (leAt l) (at-trans l) (at-total l) (words w0 lo h) (words w0 (lo + h) m)))
+
+  stays : Kept lo (lo + n) top w0 w2
+  stays = record {
+    same = λ j p q.
+        t .kept .same j p (⊎-elim (λ x. inl (omega arith)) (λ x. inr (omega arith)) q)
+        ∙ s .kept .same j p (⊎-elim (λ x. inl (omega arith)) (λ x. inr (omega arith)) q);
+  }
+
+  -- they meet in order
+  pub sorts-met : (a : ℕ) (b : Bool) → 0 < h → 0 < m → a ≡ word w2 (lo + h - 1) → b ≡ leftFirst l w2 a (lo + h) (lo + n) → b ≡ true → Sorts l lo n top w0 w2
+  sorts-met a b p q e f g =
+      let k : h ≡ h - 1 + 1 = omega arith in
+      let i : lo + (h - 1) ≡ lo + h - 1 = omega arith in
+      let j : m ≡ suc (m - 1) = omega arith in
+      let x : words w2 lo h ≡ words w2 lo (h - 1) ++ (a ∷ []) = ap (words w2 lo) k ∙ words-snoc w2 lo (h - 1) ∙ rw (i, e) in
+      let y : words w2 (lo + h) m ≡ word w2 (lo + h) ∷ words w2 (suc (lo + h)) (m - 1) = ap (words w2 (lo + h)) j in
+      let z : words w2 lo h ++ words w2 (lo + h) m ≡ merge (leAt l) (words w2 lo h) (words w2 (lo + h) m) =
+      rw (y, left-half)
+      (sym (merge-met (leAt l) (at-trans l) (at-total l) (words w0 lo h) (words w2 lo (h - 1)) a (word w2 (lo + h)) (words w2 (suc (lo + h)) (m - 1)) (sym left-half ∙ x) (left-true l w2 a (lo + h) (lo + n) b f g (omega arith)))) in
+      record { sorted = ap (words w2 lo) whole ∙ words-append w2 lo h m ∙ z ∙ all; kept = stays }
+
+  pub sorts-halves : (w3 w4 : List ℕ) → Copies lo h top w2 w3 → Merges l lo h m top w3 w4 → Sorts l lo n top w0 w4
+  sorts-halves w3 w4 c g = record {
+    sorted = ap (words w4 lo) whole ∙ g .merged ∙ rw (c .copied, words-kept 0 0 top w2 w3 (lo + h) m (c .kept) (omega arith) (inr (omega arith))) all;
+    kept = record {
+      same = λ j p q.
+          g .kept .same j p (⊎-elim (λ x. inl (omega arith)) (λ x. inr (omega arith)) q)
+          ∙ c .kept .same j p (inr (omega arith))
+          ∙ stays .same j p q;
+    };
+  }

@@ -1,0 +1,168 @@
+use Rattle.rfcomm.specs.Judging.{opens-small}
+use Rattle.rfcomm.specs.Gathering.{judge-pre, up-pre, taken-passed, taken-asks, taken-opens, taken-piece, piece-pre}
+use borrow.Author.Needs.{needs}
+use native.Mathlib.Omega.{arith}
+use Rattle.rfcomm.proofs.take_pdu.Statement.{statement}
+use Rattle.rfcomm.proofs.take_pdu.Tie as tie
+use Rattle.rfcomm.proofs.take_pdu.Reads as reads
+use Rattle.rfcomm.proofs.take_pdu.Lts as lts
+use Rattle.rfcomm.proofs.count_key.Reads as count-key-reads
+use Rattle.rfcomm.proofs.count_up.Reads as count-up-reads
+use Rattle.rfcomm.proofs.judge.Reads as judge-reads
+use Rattle.rfcomm.proofs.take_piece.Reads as take-piece-reads
+use Rattle.words.proofs.get32.Reads as get32-reads
+
+-- src/lib.rt:357:15
+mul-row : tie.Need-mul-row
+mul-row c = omega (arith, c .before .before .pre .quarter, c .before .before .pre .small)
+
+-- src/lib.rt:357:23
+mul-row-2 : tie.Need-mul-row-2
+mul-row-2 c = omega (arith, c .before .before .pre .few, c .before .before .pre .small)
+
+-- src/lib.rt:357:15
+add-row : tie.Need-add-row
+add-row c = omega (arith, c .before .before .pre .quarter, c .before .before .pre .few, c .before .before .pre .small)
+
+-- src/lib.rt:360:33
+mul-judge : tie.Need-mul-judge
+mul-judge c = omega (arith, c .before .before .before .pre .quarter, c .before .before .before .pre .small)
+
+-- src/lib.rt:360:9
+judge-requires : tie.Need-judge-requires
+judge-requires c κs = search judge-pre
+
+-- src/lib.rt:361:16
+get32-requires : tie.Need-get32-requires
+get32-requires c κs = omega (arith, c .before .before .before .before .before .pre .lent .room)
+
+-- src/lib.rt:364:30
+enum-told : tie.Need-enum-told
+enum-told c = search needs
+
+-- src/lib.rt:364:33
+mul-count-up : tie.Need-mul-count-up
+mul-count-up c = omega (arith, c .before .before .before .before .before .before .before .before .before .pre .quarter, c .before .before .before .before .before .before .before .before .before .pre .small)
+
+-- src/lib.rt:364:48
+count-key-requires : tie.Need-count-key-requires
+count-key-requires c κs = search needs
+
+-- src/lib.rt:364:17
+count-up-requires : tie.Need-count-up-requires
+count-up-requires c κs = up-pre _ _ _ _ _ _ (c .before .before .before .before .before .before .before .before .before .before .pre) _
+
+-- src/lib.rt:367:24
+enum-known-v : tie.Need-enum-known-v
+enum-known-v c = search needs
+
+-- src/lib.rt:368:33
+mul-count-up-2 : tie.Need-mul-count-up-2
+mul-count-up-2 c = omega (arith, c .before .before .before .before .before .before .before .before .before .before .pre .quarter, c .before .before .before .before .before .before .before .before .before .before .pre .small)
+
+-- src/lib.rt:368:48
+count-key-requires-2 : tie.Need-count-key-requires-2
+count-key-requires-2 c κs = opens-small _ _ _ _ _ _ (c .before .before .before .before .before .before .judge .ensures) _ (c .before .before .v .given .1)
+
+-- src/lib.rt:368:17
+count-up-requires-2 : tie.Need-count-up-requires-2
+count-up-requires-2 c κs = up-pre _ _ _ _ _ _ (c .before .before .before .before .before .before .before .before .before .before .before .pre) _
+
+-- src/lib.rt:371:26
+enum-known-v-2 : tie.Need-enum-known-v-2
+enum-known-v-2 c = search needs
+
+-- src/lib.rt:372:32
+mul-take-piece : tie.Need-mul-take-piece
+mul-take-piece c = omega (arith, c .before .before .before .before .before .before .before .before .before .before .pre .quarter, c .before .before .before .before .before .before .before .before .before .before .pre .small)
+
+-- src/lib.rt:372:50
+mul-take-piece-2 : tie.Need-mul-take-piece-2
+mul-take-piece-2 c = omega (arith, c .before .before .before .before .before .before .before .before .before .before .pre .quarter, c .before .before .before .before .before .before .before .before .before .before .pre .small)
+
+-- src/lib.rt:372:58
+mul-take-piece-3 : tie.Need-mul-take-piece-3
+mul-take-piece-3 c = omega (arith, c .before .before .before .before .before .before .before .before .before .before .pre .pieces, c .before .before .before .before .before .before .before .before .before .before .pre .few, c .before .before .before .before .before .before .before .before .before .before .pre .small)
+
+-- src/lib.rt:372:50
+add-take-piece : tie.Need-add-take-piece
+add-take-piece c = omega (arith, c .before .before .before .before .before .before .before .before .before .before .pre .quarter, c .before .before .before .before .before .before .before .before .before .before .pre .pieces, c .before .before .before .before .before .before .before .before .before .before .pre .few, c .before .before .before .before .before .before .before .before .before .before .pre .small)
+
+-- src/lib.rt:372:13
+take-piece-requires : tie.Need-take-piece-requires
+take-piece-requires c κs = search piece-pre
+
+-- src/lib.rt:373:37
+add-t35 : tie.Need-add-t35
+add-t35 c = omega (arith, c .before .before .before .before .before .before .before .before .before .before .before .before .before .pre .pieces, c .before .before .before .before .before .before .before .before .before .before .before .before .before .pre .few, c .before .before .before .before .before .before .before .before .before .before .before .before .before .pre .small)
+
+-- src/lib.rt:375:28
+enum-told-2 : tie.Need-enum-told-2
+enum-told-2 c = search needs
+
+-- src/lib.rt:353:1
+same-length : tie.Need-same-length
+same-length c = search needs
+
+-- src/lib.rt:353:1
+returns : tie.Need-returns
+returns c = search taken-asks
+
+-- src/lib.rt:353:1
+same-length-2 : tie.Need-same-length-2
+same-length-2 c = search needs
+
+-- src/lib.rt:353:1
+returns-2 : tie.Need-returns-2
+returns-2 c = search taken-opens
+
+-- src/lib.rt:353:1
+same-length-3 : tie.Need-same-length-3
+same-length-3 c = search needs
+
+-- src/lib.rt:353:1
+returns-3 : tie.Need-returns-3
+returns-3 c = search taken-piece
+
+-- src/lib.rt:353:1
+same-length-4 : tie.Need-same-length-4
+same-length-4 c = search needs
+
+-- src/lib.rt:353:1
+returns-4 : tie.Need-returns-4
+returns-4 c = search taken-passed
+
+pub take-pdu-spec : {M : Type 1} → statement M
+take-pdu-spec =
+    tie.close
+    (tie.spec
+    mul-row
+    mul-row-2
+    add-row
+    mul-judge
+    judge-requires
+    get32-requires
+    enum-told
+    mul-count-up
+    count-key-requires
+    count-up-requires
+    enum-known-v
+    mul-count-up-2
+    count-key-requires-2
+    count-up-requires-2
+    enum-known-v-2
+    mul-take-piece
+    mul-take-piece-2
+    mul-take-piece-3
+    add-take-piece
+    take-piece-requires
+    add-t35
+    enum-told-2
+    same-length
+    returns
+    same-length-2
+    returns-2
+    same-length-3
+    returns-3
+    same-length-4
+    returns-4)
