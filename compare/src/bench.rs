@@ -1,5 +1,6 @@
 //! Times of the subject and of the oracle, from one driver and in one run: their
-//! repetitions take turns, and the ratio is the median of the turns' ratios.
+//! repetitions take turns, and the ratio is the median of the turns' ratios. On a busy
+//! machine the ratio of the least times, `least`, says more.
 //!
 //! Buffers are allocated once and never cleared between calls. The oracle allocates
 //! what it answers, and that is part of its time.
@@ -43,34 +44,38 @@ fn shown(ns: f64) -> String {
 }
 
 fn head(what: &str) {
-    println!("{what:52} {:>10} {:>10} {:>10} {:>7}", "bytes", "ours", "Rust", "ratio");
+    println!("{what:56} {:>10} {:>10} {:>10} {:>7} {:>7}", "bytes", "ours", "Rust", "ratio", "least");
 }
 
-/// One row: both calls timed in turns, each turn of at least a few milliseconds.
+/// How often to call for a turn of half a millisecond, so that both sides' turns are
+/// interrupted alike; at least once.
+fn calls(call: &mut dyn FnMut()) -> u64 {
+    let once = time(1, call).min(time(1, call)).max(10.0);
+    (5e5 / once).ceil() as u64
+}
+
+/// One row: both calls timed in turns.
 fn row(label: &str, bytes: usize, ours: &mut dyn FnMut(), rust: &mut dyn FnMut()) {
-    let once = time(1, ours).max(time(1, rust)).max(10.0);
-    let calls = (3e6 / once).ceil().max(1.0) as u64;
-    let turns = if once > 3e8 {
-        3
-    } else if once > 2e7 {
-        7
-    } else {
-        41
-    };
+    let (our_calls, rust_calls) = (calls(ours), calls(rust));
     let (mut a, mut b, mut ratios) = (Vec::new(), Vec::new(), Vec::new());
-    for turn in 0..turns {
-        let (x, y) = if turn % 2 == 0 {
-            let x = time(calls, ours);
-            (x, time(calls, rust))
+    let start = Instant::now();
+    while a.len() < 3 || a.len() < 201 && start.elapsed().as_millis() < 1000 {
+        let (x, y);
+        if a.len() % 2 == 0 {
+            x = time(our_calls, ours);
+            y = time(rust_calls, rust);
         } else {
-            let y = time(calls, rust);
-            (time(calls, ours), y)
-        };
+            y = time(rust_calls, rust);
+            x = time(our_calls, ours);
+        }
         a.push(x);
         b.push(y);
         ratios.push(x / y);
     }
-    println!("{label:52} {bytes:>10} {:>10} {:>10} {:>7.2}", shown(median(a)), shown(median(b)), median(ratios));
+    let least = |times: &[f64]| times.iter().copied().fold(f64::MAX, f64::min);
+    let least = least(&a) / least(&b);
+    let (ours, rust) = (shown(median(a)), shown(median(b)));
+    println!("{label:56} {bytes:>10} {ours:>10} {rust:>10} {:>7.2} {least:>7.2}", median(ratios));
 }
 
 /// A payload whose packed frame has `wire` bytes, and the words for it.
@@ -329,7 +334,7 @@ fn adversarial(most: usize) -> Vec<(&'static str, Vec<u8>)> {
             filler.trace.fragment(direction, EPOCH, (key / 2) as u16, flag, &pdu[cut.clone()]);
         }
     }
-    traces.push(("8,192 handles and directions, fragments far apart", filler.ended(18)));
+    traces.push(("fragments of many handles, far apart", filler.ended(18)));
 
     let mut filler = Filler::new(1001, most);
     let mut key = 0u32;

@@ -1,11 +1,11 @@
 -- From an answer's case to its number and values, and from there to what a caller gets.
-use Prim.Native.Nat.{ℕ, suc, _≤_}
+use Prim.Native.Nat.{ℕ, _≤_}
 use mathlib.Core.Path.{_≡_, refl, sym, _∙_, subst}
 use mathlib.Core.List.{List, [], _∷_}
 use native.Mathlib.Omega.{arith}
-use lib.ListN.{length, set, take}
+use lib.ListN.{set, take}
 use Rattle.laws.specs.Answers.{Answer, Outcome, Meets}
-use Rattle.lumbryth.specs.Calls.{numberOf, valuesOf, stored, shownValues, Shows, Tells, Calls}
+use Rattle.lumbryth.specs.Calls.{numberOf, valuesOf, stored, shownValues, Shows, Calls}
 use Rattle.lumbryth.specs.declared.Shown.{Shown}
 
 pub shows-as : {X : Type 0} (tell : X → Answer) (u x : X) (s : Shown) → u ≡ x → Shows (numberOf (tell x)) (valuesOf (tell x)) s → Shows (numberOf (tell u)) (valuesOf (tell u)) s

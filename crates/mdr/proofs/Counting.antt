@@ -8,7 +8,7 @@ use lib.Seq.{drop-drop, length-take-le}
 use Rattle.laws.specs.Lists.{drop-step, drop-end}
 use Rattle.mdr.specs.Sum.{total, checksumOf}
 use Rattle.mdr.specs.Escape.{within}
-use Rattle.mdr.specs.Escaping.{countIn, count-append, count-most}
+use Rattle.mdr.specs.Escaping.{countIn, count-append}
 use Rattle.mdr.specs.Steps.{OneIf, Tallied}
 use Rattle.mdr.specs.declared.Totals.{Totals}
 

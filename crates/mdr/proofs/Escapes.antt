@@ -1,22 +1,21 @@
 -- Storing escaped bytes, and a frame's parts one after another.
-use Prim.Native.Nat.{ℕ, zero, suc, _+_, _-_, _*_, _/_, _%_, _<_, _≤_}
-use mathlib.Core.Path.{_≡_, refl, sym, ap, _∙_, subst}
+use Prim.Native.Nat.{ℕ, _+_, _-_, _%_, _<_, _≤_}
+use mathlib.Core.Path.{_≡_, refl, sym, ap, _∙_}
 use mathlib.Core.Bool.{Bool, true, false, cond}
 use mathlib.Core.List.{List, [], _∷_, _++_, append-assoc}
 use native.Mathlib.Numerals.{add-one}
-use native.Mathlib.Nat.{zero-add}
 use native.Mathlib.Omega.{arith}
 use lib.ListN.{length, getD, set, take, drop, length-append, length-drop}
-use lib.Seq.{sets, length-take-le}
+use lib.Seq.{length-take-le}
 use lib.Dec.{eqb}
 use borrow.Author.Tests.{le-leb, lt-leb, eqb-true}
-use Rattle.laws.specs.Choice.{splitB, no-way}
+use Rattle.laws.specs.Choice.{splitB}
 use Rattle.laws.specs.Lists.{drop-step, drop-end}
 use Rattle.laws.specs.Stores.{Writes, writes-then, writes-long, Emitting, emit-start, emit-turn, emit-room, emit-end}
-use Rattle.laws.specs.Answers.{Answer, accepted, refused, Outcome, gives, refuses, Meets, meets-refused, meets-short, meets-wrote}
-use Rattle.mdr.specs.Sum.{total, checksumOf}
-use Rattle.mdr.specs.Escape.{within, special, escapeByte, escape}
-use Rattle.mdr.specs.Escaping.{within-range, countIn, count-append, escape-append, specials, escape-length}
+use Rattle.laws.specs.Answers.{accepted, refused, gives, Meets, meets-refused, meets-short, meets-wrote}
+use Rattle.mdr.specs.Sum.{checksumOf}
+use Rattle.mdr.specs.Escape.{special, escapeByte, escape}
+use Rattle.mdr.specs.Escaping.{within-range, count-append, escape-append, specials, escape-length}
 use Rattle.mdr.specs.Frame.{headOf, summedOf, bodyOf, packed, packOf}
 use Rattle.mdr.specs.Wire.{packed-length}
 use Rattle.mdr.specs.Steps.{OneIf, Tallied, Bare, framed}

@@ -1,21 +1,21 @@
 -- Storing a part as it stands, storing unescaped bytes, and what unpacking answers after that.
-use Prim.Native.Nat.{ℕ, zero, suc, _+_, _-_, _<_, _≤_}
+use Prim.Native.Nat.{ℕ, suc, _+_, _-_, _<_, _≤_}
 use mathlib.Core.Path.{_≡_, refl, sym, ap, _∙_, subst}
-use mathlib.Core.Bool.{Bool, true, false, cond}
+use mathlib.Core.Bool.{Bool, true, false}
 use mathlib.Core.List.{List, [], _∷_, _++_, append-nil}
 use native.Mathlib.Nat.{zero-add}
 use native.Mathlib.Omega.{arith}
-use lib.ListN.{length, getD, set, take, drop, length-drop, length-set, length-append}
+use lib.ListN.{length, getD, set, take, drop, length-drop}
 use lib.Seq.{sets, sets-eq, length-sets, length-take-le, take-add, drop-drop, take-at, drop-at, getD-take}
-use borrow.Author.Tests.{le-leb, lt-leb}
-use Rattle.laws.specs.Choice.{split≤, no-way}
+use borrow.Author.Tests.{lt-leb}
+use Rattle.laws.specs.Choice.{split≤}
 use Rattle.laws.specs.Lists.{drop-step, drop-end}
 use Rattle.laws.specs.Stores.{Writes, sets-append, Emitting, emit-start, emit-turn, emit-end}
-use Rattle.laws.specs.Answers.{Answer, accepted, refused, Outcome, gives, refuses, isGiven, Meets, meets-refused, meets-short, meets-wrote}
-use Rattle.mdr.specs.Escape.{push, unescape}
+use Rattle.laws.specs.Answers.{accepted, refused, Outcome, gives, refuses, isGiven, Meets, meets-refused, meets-short, meets-wrote}
+use Rattle.mdr.specs.Escape.{unescape}
 use Rattle.mdr.specs.Frame.{unpackOf, unpacksOf}
-use Rattle.mdr.specs.Told.{told, toldInspected, glance}
-use Rattle.mdr.specs.Steps.{Tallied, sentries, bytesOf, ahead, GotIs, Bare, RefusedBy, Holds, Reads, inside, Filled}
+use Rattle.mdr.specs.Told.{told, glance}
+use Rattle.mdr.specs.Steps.{Tallied, sentries, bytesOf, ahead, GotIs, Bare, RefusedBy, Holds, Reads, Filled}
 use Rattle.mdr.specs.declared.Totals.{Totals}
 use Rattle.mdr.specs.declared.Got.{Got}
 use Rattle.mdr.specs.declared.Head.{Head}
@@ -178,12 +178,12 @@ module _ (o : Outcome) (s : List ℕ) (r : Reading) (v : Reads o s r) where
       let q = holding h e in
       meets-short o d (h .kind ∷ h .seq ∷ h .len ∷ []) (take (h .len) (ahead s (h .at))) (h .len) (q .given) (sym (length-take-le (h .len) (ahead s (h .at)) (omega (arith, q .enough)))) l
 
-  pub unpack-wrote : (d : List ℕ) (h : Head) → r ≡ Whole h → h .len ≤ length d → (e : List ℕ) → e ≡ sets d 0 (take (h .len) (ahead s (h .at))) → Meets o d (accepted (h .kind ∷ h .seq ∷ h .len ∷ [])) e
-  unpack-wrote d h e l x w =
-      let q = holding h e in
+  pub unpack-wrote : (d : List ℕ) (h : Head) → r ≡ Whole h → h .len ≤ length d → (e : List ℕ) → e ≡ sets d 0 (take (h .len) (ahead s (h .at))) → (k q n : ℕ) → k ≡ h .kind → q ≡ h .seq → n ≡ h .len → Meets o d (accepted (k ∷ q ∷ n ∷ [])) e
+  unpack-wrote d h e l x w k q n ek eq en =
+      let v = holding h e in
       let p : List ℕ = take (h .len) (ahead s (h .at)) in
-      let n : length p ≡ h .len = length-take-le (h .len) (ahead s (h .at)) (omega (arith, q .enough)) in
-      meets-wrote o d (h .kind ∷ h .seq ∷ h .len ∷ []) p (0 + length p) x (q .given) (omega arith) (record { next = refl; writes = w })
+      let m : length p ≡ h .len = length-take-le (h .len) (ahead s (h .at)) (omega (arith, v .enough)) in
+      rw (ek, eq, en) (meets-wrote o d (h .kind ∷ h .seq ∷ h .len ∷ []) p (0 + length p) x (v .given) (omega arith) (record { next = refl; writes = w }))
 
   pub glance-refused : (u : Unpacked) → r ≡ Refused u → told u ≡ glance o
   unfolding glance

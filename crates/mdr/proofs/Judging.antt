@@ -1,32 +1,30 @@
 -- What each way out of judging a frame shows, over plain lists and numbers.
-use Prim.Native.Nat.{ℕ, zero, suc, _+_, _-_, _*_, _/_, _%_, _<_, _≤_}
+use Prim.Native.Nat.{ℕ, suc, _+_, _-_, _*_, _/_, _%_, _<_, _≤_}
 use mathlib.Core.Path.{_≡_, refl, sym, ap, _∙_, subst}
-use mathlib.Core.Bool.{Bool, true, false, cond}
+use mathlib.Core.Bool.{Bool, true, false}
 use mathlib.Core.List.{List, [], _∷_, _++_, append-nil}
 use native.Mathlib.Nat.{add-mul-mod-self-left, add-mod-mod}
 use native.Mathlib.Omega.{arith}
 use lib.ListN.{length, getD, take, drop, take-append-drop, length-drop, length-append}
-use lib.Seq.{drop-cons, take-suc, take-length, length-take-le, getD-at}
+use lib.Seq.{take-suc, take-length, getD-at}
 use lib.Dec.{eqb}
 use borrow.Author.Tests.{le-leb, lt-leb, eq-eqb, ne-eqb}
 use Rattle.laws.specs.Choice.{splitB, no-way}
 use Rattle.laws.specs.Lists.{drop-step, drop-end}
 use Rattle.laws.specs.Numbers.{be32}
-use Rattle.laws.specs.Answers.{Answer, refused, Outcome, gives, refuses}
+use Rattle.laws.specs.Answers.{refused, Outcome, gives, refuses}
 use Rattle.mdr.specs.Sum.{total, checksumOf}
 use Rattle.mdr.specs.Escape.{escapee, push, unescape, unescapeFrom}
 use Rattle.mdr.specs.Escaping.{count-append}
-use Rattle.mdr.specs.Frame.{declaredOf, lastOf, computedOf, payloadOf, judged, bodied, unpackOf}
+use Rattle.mdr.specs.Frame.{declaredOf, lastOf, computedOf, judged, bodied, unpackOf}
 use Rattle.mdr.specs.Wire.{judged-whole, wire-body}
-use Rattle.mdr.specs.Told.{told}
-use Rattle.mdr.specs.Steps.{Minus, sentries, Measured, bytesOf, ahead, Sound, FlawIs, GotIs, HeaderIs, Summed, Bare, RefusedBy, Holds, Reads, inside}
+use Rattle.mdr.specs.Steps.{Minus, sentries, Measured, bytesOf, ahead, Sound, FlawIs, GotIs, HeaderIs, Summed, Bare, RefusedBy, Reads, inside}
 use Rattle.mdr.specs.declared.Got.{Got}
 use Rattle.mdr.specs.declared.Header.{Header}
 use Rattle.mdr.specs.declared.Head.{Head}
 use Rattle.mdr.specs.declared.Flaw.{Flaw}
 use Rattle.mdr.specs.declared.Flaw.the-variants as flaw
-use Rattle.mdr.specs.declared.Unpacked.{Unpacked}
-use Rattle.mdr.specs.declared.Unpacked.the-variants.{Frame, TooShort, NoStart, NoEnd, TrailingSentry, BadEscapee, BodyTooShort, LengthMismatch, BadChecksum, OutShort}
+use Rattle.mdr.specs.declared.Unpacked.the-variants.{TooShort, NoStart, NoEnd, TrailingSentry, BadEscapee, BodyTooShort, LengthMismatch, BadChecksum}
 use Rattle.mdr.specs.declared.Reading.{Reading}
 use Rattle.mdr.specs.declared.Reading.the-variants.{Whole, Refused}
 use Rattle.mdr.proofs.Counting.{total-append}
@@ -67,14 +65,14 @@ bare-sound s e = rw append-nil at (unescape-bare s [] e ∙ pushes-gives s [] []
 
 -- ---- the header
 
-pub header-is : (s : List ℕ) (a b c d e f : Got) → GotIs s 0 a → GotIs s (a .next) b → GotIs s (b .next) c → GotIs s (c .next) d → GotIs s (d .next) e → GotIs s (e .next) f → (h : Header) → h .kind ≡ a .byte → h .seq ≡ b .byte → h .declared ≡ c .byte * 16777216 + d .byte * 65536 + e .byte * 256 + f .byte → h .at ≡ f .next → HeaderIs s h
+pub header-is : (s : List ℕ) (a b c d e f : Got) → GotIs s 0 a → GotIs s (a .next) b → GotIs s (b .next) c → GotIs s (c .next) d → GotIs s (d .next) e → GotIs s (e .next) f → (h : Header) → h .kind ≡ a .byte → h .seq ≡ b .byte → h .declared ≡ 16777216 * c .byte + 65536 * d .byte + 256 * e .byte + f .byte → h .at ≡ f .next → HeaderIs s h
 unfolding be32
 header-is s a b c d e f ga gb gc gd ge gf h p q r t =
     let v : ahead s 0 ≡ a .byte ∷ b .byte ∷ c .byte ∷ d .byte ∷ e .byte ∷ f .byte ∷ ahead s (f .next)
     = ga .step ∙ rw (gb .step, gc .step, gd .step, ge .step, gf .step) in
     record { kind = rw (v, p); seq = rw (v, q); declared = rw (v, r); rest = rw (v, t) }
 
-pub header-bare : (s : List ℕ) (t : Bool) → Bare 0x3D 0x3D s t → t ≡ true → (h : Header) → h .kind ≡ getD s 0 0 → h .seq ≡ getD s 1 0 → h .declared ≡ getD s 2 0 * 16777216 + getD s 3 0 * 65536 + getD s 4 0 * 256 + getD s 5 0 → h .at ≡ 6 → HeaderIs s h
+pub header-bare : (s : List ℕ) (t : Bool) → Bare 0x3D 0x3D s t → t ≡ true → (h : Header) → h .kind ≡ getD s 0 0 → h .seq ≡ getD s 1 0 → h .declared ≡ 16777216 * getD s 2 0 + 65536 * getD s 3 0 + 256 * getD s 4 0 + getD s 5 0 → h .at ≡ 6 → HeaderIs s h
 unfolding be32
 header-bare s t v y h p q r e =
     let z = ahead-bare s 0 (v .none y) in

@@ -1,25 +1,21 @@
 -- Reading an escaped part byte by byte, and what its last bytes tell.
-use Prim.Native.Nat.{ℕ, zero, suc, _+_, _-_, _*_, _<_, _≤_}
+use Prim.Native.Nat.{ℕ, suc, _+_, _-_, _<_, _≤_}
 use mathlib.Core.Path.{_≡_, refl, sym, ap, _∙_}
-use mathlib.Core.Bool.{Bool, true, false, cond}
+use mathlib.Core.Bool.{Bool, true, false}
 use mathlib.Core.List.{List, [], _∷_, _++_}
 use native.Mathlib.Numerals.{add-one}
 use native.Mathlib.Omega.{arith}
-use lib.ListN.{length, getD, take, drop, take-append-drop, length-drop, length-append, List·getD-eq-default}
-use lib.Seq.{drop-cons, take-at, getD-at}
-use lib.Dec.{eqb}
-use borrow.Author.Tests.{eqb-true, eqb-false, eq-eqb, ne-eqb}
+use lib.ListN.{length, getD, drop, List·getD-eq-default}
+use borrow.Author.Tests.{eq-eqb, ne-eqb}
 use Rattle.laws.specs.Choice.{splitB, split≡, split≤, no-way}
 use Rattle.laws.specs.Lists.{drop-step, drop-end}
 use Rattle.laws.specs.Answers.{Outcome, gives, refuses}
-use Rattle.mdr.specs.Sum.{total, checksumOf}
-use Rattle.mdr.specs.Escape.{within, escapee, push, unescape, unescapeFrom}
+use Rattle.mdr.specs.Escape.{escapee, push, unescape, unescapeFrom}
 use Rattle.mdr.specs.Escaping.{within-range}
-use Rattle.mdr.specs.Frame.{lastOf, computedOf}
-use Rattle.mdr.specs.Steps.{sentries, bytesOf, ahead, Sound, breach, Flawless, FlawIs, GotIs}
+use Rattle.mdr.specs.Steps.{bytesOf, ahead, Sound, breach, Flawless, FlawIs, GotIs}
 use Rattle.mdr.specs.declared.Flaw.the-variants as flaw
 use Rattle.mdr.specs.declared.Got.{Got}
-use Rattle.mdr.proofs.Unescaping.{pushes, pushes-gives, pushes-refuses, pushes-more, Kept, kept-sound, closing, Ends, ends}
+use Rattle.mdr.proofs.Unescaping.{pushes, pushes-gives, pushes-refuses, pushes-more, kept-sound}
 
 -- ---- the loop that looks for a broken pair
 

@@ -1,17 +1,17 @@
 -- What a sound escaped part is: its bytes, their number and sum, its last byte; and the place where one is not sound.
-use Prim.Native.Nat.{ℕ, zero, suc, _+_, _-_, _*_, _<_, _≤_}
-use mathlib.Core.Path.{_≡_, refl, sym, ap, _∙_}
+use Prim.Native.Nat.{ℕ, suc, _+_, _*_, _<_, _≤_}
+use mathlib.Core.Path.{_≡_, refl, ap, _∙_}
 use mathlib.Core.Bool.{Bool, true, false, cond}
-use mathlib.Core.List.{List, [], _∷_, _++_, append-assoc}
+use mathlib.Core.List.{List, [], _∷_, _++_}
 use native.Mathlib.Omega.{arith}
-use lib.ListN.{length, getD, take, drop}
+use lib.ListN.{length, getD}
 use lib.Dec.{eqb}
-use borrow.Author.Tests.{eqb-true, eqb-false, eq-eqb, ne-eqb}
+use borrow.Author.Tests.{eqb-true, eqb-false, ne-eqb}
 use Rattle.laws.specs.Choice.{splitB, no-way}
 use Rattle.laws.specs.Answers.{Outcome, gives, refuses}
 use Rattle.mdr.specs.Sum.{total}
 use Rattle.mdr.specs.Escape.{within, escapee, push, unescape, unescapeFrom}
-use Rattle.mdr.specs.Escaping.{within-range, countIn}
+use Rattle.mdr.specs.Escaping.{within-range}
 use Rattle.mdr.specs.Steps.{sentries, bytesOf, ahead, Sound, breach}
 
 -- the two tests for a 3D

@@ -1,16 +1,16 @@
 -- Laws of escaping: back again, how long, and that no mark of a frame is left inside.
-use Prim.Native.Nat.{ℕ, suc, _+_, _-_, _*_, _≤_}
+use Prim.Native.Nat.{ℕ, _+_, _-_, _≤_}
 use mathlib.Core.Path.{_≡_, refl, sym}
 use mathlib.Core.List.{List, [], _∷_, _++_, append-assoc}
-use mathlib.Core.Bool.{Bool, true, false, cond}
+use mathlib.Core.Bool.{true, false, cond}
 use native.Mathlib.Omega.{arith}
 use lib.ListN.{length}
-use lib.Dec.{leb, eqb}
-use borrow.Author.Tests.{leb-true, leb-false, le-leb, eq-eqb, ne-eqb}
+use lib.Dec.{leb}
+use borrow.Author.Tests.{leb-true, le-leb, ne-eqb}
 use Rattle.laws.specs.Choice.{splitB, no-way}
 use Rattle.laws.specs.Lists.{All, all-nil, all-cons}
-use Rattle.laws.specs.Answers.{Outcome, gives, refuses}
-use Rattle.mdr.specs.Escape.{within, special, escapee, escapeByte, escape, push, unescape, unescapeFrom}
+use Rattle.laws.specs.Answers.{gives}
+use Rattle.mdr.specs.Escape.{within, special, escapee, escapeByte, escape, unescape}
 
 pub all-append : {A : Type 0} {P : A → Type 0} {xs ys : List A} → All P xs → All P ys → All P (xs ++ ys)
 all-append all-nil q = q

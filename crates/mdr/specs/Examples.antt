@@ -1,9 +1,8 @@
 -- Document 01's examples of the refusals 10 to 17, with the values they carry.
-use Prim.Native.Nat.{ℕ}
 use mathlib.Core.Path.{_≡_, refl}
-use mathlib.Core.List.{List, [], _∷_}
+use mathlib.Core.List.{[], _∷_}
 use Rattle.laws.specs.Numbers.{be32}
-use Rattle.laws.specs.Answers.{Outcome, gives, refuses}
+use Rattle.laws.specs.Answers.{refuses}
 use Rattle.mdr.specs.Sum.{checksumOf}
 use Rattle.mdr.specs.Escape.{within, escape}
 use Rattle.mdr.specs.Frame.{judged, unpackOf}

@@ -1,5 +1,5 @@
 -- For each case of the answers document 01's number and the values it carries.
-use mathlib.Core.List.{List, [], _∷_, _++_}
+use mathlib.Core.List.{[], _∷_, _++_}
 use lib.ListN.{getD}
 use Rattle.laws.specs.Answers.{Answer, accepted, refused, Outcome, gives, refuses}
 use Rattle.mdr.specs.declared.Unpacked.{Unpacked}

@@ -2,14 +2,14 @@
 use Prim.Native.Nat.{ℕ, suc, _+_, _-_, _*_, _/_, _%_, _<_, _≤_}
 use mathlib.Core.Path.{_≡_, refl, sym, ap, _∙_}
 use mathlib.Core.List.{List, [], _∷_, _++_}
-use mathlib.Core.Bool.{Bool, true, false, cond}
+use mathlib.Core.Bool.{true}
 use native.Mathlib.Omega.{arith}
 use lib.ListN.{length, getD, take, drop, length-append}
 use lib.Seq.{take-at, getD-at}
 use borrow.Author.Tests.{le-leb, eq-eqb}
 use Rattle.laws.specs.Lists.{All}
 use Rattle.laws.specs.Numbers.{be32}
-use Rattle.laws.specs.Answers.{Outcome, gives, refuses, isGiven}
+use Rattle.laws.specs.Answers.{gives, isGiven}
 use Rattle.mdr.specs.Sum.{checksumOf}
 use Rattle.mdr.specs.Escape.{escape, unescape}
 use Rattle.mdr.specs.Frame.{headOf, summedOf, bodyOf, packed, declaredOf, lastOf, computedOf, payloadOf, judged, bodied, unpackOf, unpacksOf}
@@ -27,7 +27,7 @@ wire-body w h s e = rw (le-leb 9 (length w) h, eq-eqb (getD w 0 0) 0x3E s, eq-eq
 
 -- ---- the body
 
-pub be32-back : (n : ℕ) → n < 4294967296 → n / 256 / 256 / 256 % 256 * 16777216 + n / 256 / 256 % 256 * 65536 + n / 256 % 256 * 256 + n % 256 ≡ n
+pub be32-back : (n : ℕ) → n < 4294967296 → 16777216 * (n / 256 / 256 / 256 % 256) + 65536 * (n / 256 / 256 % 256) + 256 * (n / 256 % 256) + n % 256 ≡ n
 be32-back n h = omega arith
 
 module _ (t q : ℕ) (p : List ℕ) where

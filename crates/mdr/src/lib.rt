@@ -269,9 +269,9 @@ fn wide(b: u8) -> u64
 
 // The number that four bytes are, the highest first.
 fn join(a: u8, b: u8, c: u8, d: u8) -> u64
-    ensures { λ r. ⌜ r ≡ a * 16777216 + b * 65536 + c * 256 + d ⌝ }
+    ensures { λ r. ⌜ r ≡ 16777216 * a + 65536 * b + 256 * c + d ⌝ }
 {
-    wide(a) * 16777216 + wide(b) * 65536 + wide(c) * 256 + wide(d)
+    16777216 * wide(a) + 65536 * wide(b) + 256 * wide(c) + wide(d)
 }
 
 // The first six bytes, and where the payload starts.
@@ -372,13 +372,13 @@ fn judge(s: &[u8], n: usize, sum: u8, last: u8, bare: bool) -> Reading
     if n < 7 {
         return Reading::Refused(Unpacked::BodyTooShort);
     }
-    if last != sum {
-        return Reading::Refused(Unpacked::BadChecksum(last, sum));
-    }
     let len = n - 7;
     let actual = len as u64;
     let h = read_header(s, bare);
     let declared = h.declared;
+    if last != sum {
+        return Reading::Refused(Unpacked::BadChecksum(last, sum));
+    }
     if declared != actual {
         return Reading::Refused(Unpacked::LengthMismatch(declared, actual));
     }

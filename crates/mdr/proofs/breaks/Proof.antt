@@ -1,29 +1,21 @@
 use mathlib.Core.Path.{sym, _∙_}
 use borrow.Author.Tests.{eq-eqb, ne-eqb}
 use Rattle.mdr.specs.Steps.{breach}
-use native.Mathlib.Omega.{arith}
 use borrow.Author.Needs.{needs}
 use Rattle.mdr.proofs.breaks.Statement.{statement}
 use Rattle.mdr.proofs.breaks.Tie as tie
-use Rattle.mdr.proofs.breaks.Reads as reads
-use Rattle.mdr.proofs.breaks.Lts as lts
-use Rattle.mdr.proofs.is_within.Reads as is-within-reads
 
--- src/lib.rt:161:9
 returns : tie.Need-returns
 unfolding breach
 returns c = rw (ne-eqb _ _ (c .if1 .taken))
 
--- src/lib.rt:163:8
 is-within-requires : tie.Need-is-within-requires
 is-within-requires c κs = search needs
 
--- src/lib.rt:157:1
 returns-2 : tie.Need-returns-2
 unfolding breach
 returns-2 c = rw (eq-eqb _ _ (c .before .before .if1 .left), sym (c .before .is-within .ensures) ∙ c .if2 .taken)
 
--- src/lib.rt:157:1
 returns-3 : tie.Need-returns-3
 unfolding breach
 returns-3 c = rw (eq-eqb _ _ (c .before .before .if1 .left), sym (c .before .is-within .ensures) ∙ c .if2 .left)

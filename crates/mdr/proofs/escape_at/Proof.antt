@@ -2,13 +2,8 @@ use Prim.Native.Nat.{_-_}
 use lib.ListN.{length}
 use Rattle.mdr.proofs.Escapes.{Escaping, escape-start, block-is, escape-block-room, escape-block-turn, escape-last-room, escape-last}
 use borrow.Author.Needs.{needs}
-use native.Mathlib.Omega.{arith}
 use Rattle.mdr.proofs.escape_at.Statement.{statement}
 use Rattle.mdr.proofs.escape_at.Tie as tie
-use Rattle.mdr.proofs.escape_at.Reads as reads
-use Rattle.mdr.proofs.escape_at.Lts as lts
-use Rattle.mdr.proofs.escape_block.Reads as escape-block-reads
-use Rattle.mdr.proofs.escape_few.Reads as escape-few-reads
 
 abbrev Inv-loop : tie.InvT-loop
 Inv-loop src out₀ from n at₀ i₀ out at i = Escaping out₀ from src out at i
@@ -16,63 +11,48 @@ Inv-loop src out₀ from n at₀ i₀ out at i = Escaping out₀ from src out at
 abbrev μ-loop : tie.MeasureT-loop
 μ-loop src out₀ from n at₀ i₀ out at i = length src - i
 
--- src/lib.rt:667:5
 loop-holds : tie.Need-loop-holds Inv-loop μ-loop
 loop-holds c = search escape-start
 
--- src/lib.rt:667:17
 sub-loop : tie.Need-sub-loop Inv-loop μ-loop
 sub-loop c = search needs
 
--- src/lib.rt:668:17
 add-j : tie.Need-add-j Inv-loop μ-loop
 add-j c = search needs
 
--- src/lib.rt:669:27
 sub-escape-block : tie.Need-sub-escape-block Inv-loop μ-loop
 sub-escape-block c = search needs
 
--- src/lib.rt:669:27
 part-escape-block-start : tie.Need-part-escape-block-start Inv-loop μ-loop
 part-escape-block-start c = search needs
 
--- src/lib.rt:669:27
 part-escape-block-end : tie.Need-part-escape-block-end Inv-loop μ-loop
 part-escape-block-end c = search needs
 
--- src/lib.rt:669:9
 escape-block-requires : tie.Need-escape-block-requires Inv-loop μ-loop
 escape-block-requires c κs = (search block-is, search escape-block-room)
 
--- src/lib.rt:667:5
 loop-less : tie.Need-loop-less Inv-loop μ-loop
 loop-less c = search needs
 
--- src/lib.rt:667:5
 loop-again : tie.Need-loop-again Inv-loop μ-loop
 loop-again c = search escape-block-turn
 
--- src/lib.rt:672:16
 sub-escape-few : tie.Need-sub-escape-few Inv-loop μ-loop
 sub-escape-few c = search needs
 
--- src/lib.rt:672:16
 part-escape-few-start : tie.Need-part-escape-few-start Inv-loop μ-loop
 part-escape-few-start c = search needs
 
--- src/lib.rt:672:16
 part-escape-few-end : tie.Need-part-escape-few-end Inv-loop μ-loop
 part-escape-few-end c = search needs
 
--- src/lib.rt:672:5
 escape-few-requires : tie.Need-escape-few-requires Inv-loop μ-loop
 escape-few-requires c κs = search escape-last-room
 
--- src/lib.rt:660:1
 same-length : tie.Need-same-length Inv-loop μ-loop
 same-length c = search needs
 
--- src/lib.rt:660:1
 returns : tie.Need-returns Inv-loop μ-loop
 returns c = search escape-last
 

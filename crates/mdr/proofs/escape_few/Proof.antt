@@ -2,12 +2,8 @@ use Prim.Native.Nat.{_-_}
 use lib.ListN.{length}
 use Rattle.mdr.proofs.Escapes.{Escaping, escape-start, escape-room, escape-turn, escape-end}
 use borrow.Author.Needs.{needs}
-use native.Mathlib.Omega.{arith}
 use Rattle.mdr.proofs.escape_few.Statement.{statement}
 use Rattle.mdr.proofs.escape_few.Tie as tie
-use Rattle.mdr.proofs.escape_few.Reads as reads
-use Rattle.mdr.proofs.escape_few.Lts as lts
-use Rattle.mdr.proofs.put.Reads as put-reads
 
 abbrev Inv-loop : tie.InvT-loop
 Inv-loop part out₀ from at₀ i₀ out at i = Escaping out₀ from part out at i
@@ -15,35 +11,27 @@ Inv-loop part out₀ from at₀ i₀ out at i = Escaping out₀ from part out at
 abbrev μ-loop : tie.MeasureT-loop
 μ-loop part out₀ from at₀ i₀ out at i = length part - i
 
--- src/lib.rt:640:5
 loop-holds : tie.Need-loop-holds Inv-loop μ-loop
 loop-holds c = search escape-start
 
--- src/lib.rt:641:27
 shared-slice-read-put : tie.Need-shared-slice-read-put Inv-loop μ-loop
 shared-slice-read-put c = search needs
 
--- src/lib.rt:641:9
 put-requires : tie.Need-put-requires Inv-loop μ-loop
 put-requires c κs = search escape-room
 
--- src/lib.rt:642:9
 add-i : tie.Need-add-i Inv-loop μ-loop
 add-i c = search needs
 
--- src/lib.rt:640:5
 loop-less : tie.Need-loop-less Inv-loop μ-loop
 loop-less c = search needs
 
--- src/lib.rt:640:5
 loop-again : tie.Need-loop-again Inv-loop μ-loop
 loop-again c = search escape-turn
 
--- src/lib.rt:634:1
 same-length : tie.Need-same-length Inv-loop μ-loop
 same-length c = search needs
 
--- src/lib.rt:634:1
 returns : tie.Need-returns Inv-loop μ-loop
 returns c = search escape-end
 

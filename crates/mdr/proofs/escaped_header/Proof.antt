@@ -1,42 +1,29 @@
 use Rattle.mdr.proofs.Judging.{header-is}
-use native.Mathlib.Omega.{arith}
 use borrow.Author.Needs.{needs}
 use Rattle.mdr.proofs.escaped_header.Statement.{statement}
 use Rattle.mdr.proofs.escaped_header.Tie as tie
-use Rattle.mdr.proofs.escaped_header.Reads as reads
-use Rattle.mdr.proofs.escaped_header.Lts as lts
-use Rattle.mdr.proofs.get.Reads as get-reads
-use Rattle.mdr.proofs.join.Reads as join-reads
 
--- src/lib.rt:283:9
 get-requires : tie.Need-get-requires
 get-requires c κs = search needs
 
--- src/lib.rt:285:9
 get-requires-2 : tie.Need-get-requires-2
 get-requires-2 c κs = search needs
 
--- src/lib.rt:287:9
 get-requires-3 : tie.Need-get-requires-3
 get-requires-3 c κs = search needs
 
--- src/lib.rt:289:9
 get-requires-4 : tie.Need-get-requires-4
 get-requires-4 c κs = search needs
 
--- src/lib.rt:291:9
 get-requires-5 : tie.Need-get-requires-5
 get-requires-5 c κs = search needs
 
--- src/lib.rt:293:9
 get-requires-6 : tie.Need-get-requires-6
 get-requires-6 c κs = search needs
 
--- src/lib.rt:297:19
 join-requires : tie.Need-join-requires
 join-requires c κs = search needs
 
--- src/lib.rt:279:1
 returns : tie.Need-returns
 returns c = search header-is
 

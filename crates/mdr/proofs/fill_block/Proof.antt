@@ -3,65 +3,46 @@ use native.Mathlib.Omega.{arith}
 use borrow.Author.Needs.{needs}
 use Rattle.mdr.proofs.fill_block.Statement.{statement}
 use Rattle.mdr.proofs.fill_block.Tie as tie
-use Rattle.mdr.proofs.fill_block.Reads as reads
-use Rattle.mdr.proofs.fill_block.Lts as lts
-use Rattle.mdr.proofs.copy_block.Reads as copy-block-reads
-use Rattle.mdr.proofs.fill_few.Reads as fill-few-reads
-use Rattle.mdr.proofs.tally_few.Reads as tally-few-reads
 
--- src/lib.rt:499:14
 add-to : tie.Need-add-to
 add-to c = omega (arith, block-inside _ _ (c .before .before .pre .0))
 
--- src/lib.rt:500:23
 sub-tally-few : tie.Need-sub-tally-few
 sub-tally-few c = search needs
 
--- src/lib.rt:500:23
 part-tally-few-start : tie.Need-part-tally-few-start
 part-tally-few-start c = search needs
 
--- src/lib.rt:500:23
 part-tally-few-end : tie.Need-part-tally-few-end
 part-tally-few-end c = omega (arith, block-inside _ _ (c .before .before .pre .0))
 
--- src/lib.rt:500:9
 tally-few-requires : tie.Need-tally-few-requires
 tally-few-requires c κs = search needs
 
--- src/lib.rt:502:20
 sub-copy-block : tie.Need-sub-copy-block
 sub-copy-block c = search needs
 
--- src/lib.rt:502:20
 part-copy-block-start : tie.Need-part-copy-block-start
 part-copy-block-start c = search needs
 
--- src/lib.rt:502:20
 part-copy-block-end : tie.Need-part-copy-block-end
 part-copy-block-end c = omega (arith, block-inside _ _ (c .before .before .before .before .before .before .pre .0))
 
--- src/lib.rt:502:9
 copy-block-requires : tie.Need-copy-block-requires
 copy-block-requires c κs = search needs
 
--- src/lib.rt:503:9
 same-length : tie.Need-same-length
 same-length c = search needs
 
--- src/lib.rt:503:9
 returns : tie.Need-returns
 returns c = search block-bare
 
--- src/lib.rt:505:5
 fill-few-requires : tie.Need-fill-few-requires
 fill-few-requires c κs = search needs
 
--- src/lib.rt:494:1
 same-length-2 : tie.Need-same-length-2
 same-length-2 c = search needs
 
--- src/lib.rt:494:1
 returns-2 : tie.Need-returns-2
 returns-2 c = search needs
 

@@ -2,12 +2,8 @@ use Prim.Native.Nat.{_-_}
 use lib.ListN.{length}
 use Rattle.mdr.proofs.Places.{Passed, passed-start, passed-plain, passed-pair, flaw-trailing, flaw-bad, flaw-end}
 use borrow.Author.Needs.{needs}
-use native.Mathlib.Omega.{arith}
 use Rattle.mdr.proofs.first_flaw.Statement.{statement}
 use Rattle.mdr.proofs.first_flaw.Tie as tie
-use Rattle.mdr.proofs.first_flaw.Reads as reads
-use Rattle.mdr.proofs.first_flaw.Lts as lts
-use Rattle.mdr.proofs.is_within.Reads as is-within-reads
 
 abbrev Inv-loop : tie.InvT-loop
 Inv-loop s i₀ i = Passed s i
@@ -15,55 +11,42 @@ Inv-loop s i₀ i = Passed s i
 abbrev μ-loop : tie.MeasureT-loop
 μ-loop s i₀ i = length s - i
 
--- src/lib.rt:203:5
 loop-holds : tie.Need-loop-holds Inv-loop μ-loop
 loop-holds c = search passed-start
 
--- src/lib.rt:204:17
 shared-slice-read-b : tie.Need-shared-slice-read-b Inv-loop μ-loop
 shared-slice-read-b c = search needs
 
--- src/lib.rt:205:9
 add-i : tie.Need-add-i Inv-loop μ-loop
 add-i c = search needs
 
--- src/lib.rt:208:17
 returns : tie.Need-returns Inv-loop μ-loop
 returns c = search flaw-trailing
 
--- src/lib.rt:210:21
 shared-slice-read-e : tie.Need-shared-slice-read-e Inv-loop μ-loop
 shared-slice-read-e c = search needs
 
--- src/lib.rt:211:16
 is-within-requires : tie.Need-is-within-requires Inv-loop μ-loop
 is-within-requires c κs = search needs
 
--- src/lib.rt:212:17
 add-i-2 : tie.Need-add-i-2 Inv-loop μ-loop
 add-i-2 c = search needs
 
--- src/lib.rt:203:5
 loop-less : tie.Need-loop-less Inv-loop μ-loop
 loop-less c = search needs
 
--- src/lib.rt:203:5
 loop-again : tie.Need-loop-again Inv-loop μ-loop
 loop-again c = search passed-pair
 
--- src/lib.rt:214:17
 returns-2 : tie.Need-returns-2 Inv-loop μ-loop
 returns-2 c = search flaw-bad
 
--- src/lib.rt:203:5
 loop-less-2 : tie.Need-loop-less-2 Inv-loop μ-loop
 loop-less-2 c = search needs
 
--- src/lib.rt:203:5
 loop-again-2 : tie.Need-loop-again-2 Inv-loop μ-loop
 loop-again-2 c = search passed-plain
 
--- src/lib.rt:199:1
 returns-3 : tie.Need-returns-3 Inv-loop μ-loop
 returns-3 c = search flaw-end
 

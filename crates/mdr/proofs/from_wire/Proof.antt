@@ -1,73 +1,53 @@
 use borrow.Author.Tests.{ne-eqb}
 use Rattle.mdr.specs.Types.{typeOf, kind-is}
-use borrow.Author.Needs.{needs}
-use native.Mathlib.Omega.{arith}
 use Rattle.mdr.proofs.from_wire.Statement.{statement}
 use Rattle.mdr.proofs.from_wire.Tie as tie
-use Rattle.mdr.proofs.from_wire.Reads as reads
-use Rattle.mdr.proofs.from_wire.Lts as lts
 
--- src/lib.rt:52:1
 returns : tie.Need-returns
 returns c = search kind-is
 
--- src/lib.rt:52:1
 returns-2 : tie.Need-returns-2
 returns-2 c = search kind-is
 
--- src/lib.rt:52:1
 returns-3 : tie.Need-returns-3
 returns-3 c = search kind-is
 
--- src/lib.rt:52:1
 returns-4 : tie.Need-returns-4
 returns-4 c = search kind-is
 
--- src/lib.rt:52:1
 returns-5 : tie.Need-returns-5
 returns-5 c = search kind-is
 
--- src/lib.rt:52:1
 returns-6 : tie.Need-returns-6
 returns-6 c = search kind-is
 
--- src/lib.rt:52:1
 returns-7 : tie.Need-returns-7
 returns-7 c = search kind-is
 
--- src/lib.rt:52:1
 returns-8 : tie.Need-returns-8
 returns-8 c = search kind-is
 
--- src/lib.rt:52:1
 returns-9 : tie.Need-returns-9
 returns-9 c = search kind-is
 
--- src/lib.rt:52:1
 returns-10 : tie.Need-returns-10
 returns-10 c = search kind-is
 
--- src/lib.rt:52:1
 returns-11 : tie.Need-returns-11
 returns-11 c = search kind-is
 
--- src/lib.rt:52:1
 returns-12 : tie.Need-returns-12
 returns-12 c = search kind-is
 
--- src/lib.rt:52:1
 returns-13 : tie.Need-returns-13
 returns-13 c = search kind-is
 
--- src/lib.rt:52:1
 returns-14 : tie.Need-returns-14
 returns-14 c = search kind-is
 
--- src/lib.rt:52:1
 returns-15 : tie.Need-returns-15
 returns-15 c = search kind-is
 
--- src/lib.rt:52:1
 returns-16 : tie.Need-returns-16
 unfolding typeOf
 returns-16 c = rw (ne-eqb _ _ (c .match .rest .0 .0 .0 .0 .0 .0 .0 .0 .0 .0 .0 .0 .0 .0 .1), ne-eqb _ _ (c .match .rest .0 .0 .0 .0 .0 .0 .0 .0 .0 .0 .0 .0 .0 .1), ne-eqb _ _ (c .match .rest .0 .0 .0 .0 .0 .0 .0 .0 .0 .0 .0 .0 .1), ne-eqb _ _ (c .match .rest .0 .0 .0 .0 .0 .0 .0 .0 .0 .0 .0 .1), ne-eqb _ _ (c .match .rest .0 .0 .0 .0 .0 .0 .0 .0 .0 .0 .1), ne-eqb _ _ (c .match .rest .0 .0 .0 .0 .0 .0 .0 .0 .0 .1), ne-eqb _ _ (c .match .rest .0 .0 .0 .0 .0 .0 .0 .0 .1), ne-eqb _ _ (c .match .rest .0 .0 .0 .0 .0 .0 .0 .1), ne-eqb _ _ (c .match .rest .0 .0 .0 .0 .0 .0 .1), ne-eqb _ _ (c .match .rest .0 .0 .0 .0 .0 .1), ne-eqb _ _ (c .match .rest .0 .0 .0 .0 .1), ne-eqb _ _ (c .match .rest .0 .0 .0 .1), ne-eqb _ _ (c .match .rest .0 .0 .1), ne-eqb _ _ (c .match .rest .0 .1), ne-eqb _ _ (c .match .rest .1))

@@ -1,40 +1,29 @@
 use Rattle.mdr.proofs.Places.{got-inside, got-second, got-fits, got-plain, got-escaped}
-use borrow.Author.Needs.{needs}
 use native.Mathlib.Omega.{arith}
 use Rattle.mdr.proofs.get.Statement.{statement}
 use Rattle.mdr.proofs.get.Tie as tie
-use Rattle.mdr.proofs.get.Reads as reads
-use Rattle.mdr.proofs.get.Lts as lts
 
--- src/lib.rt:244:13
 shared-slice-read-b : tie.Need-shared-slice-read-b
 shared-slice-read-b c = search got-inside
 
--- src/lib.rt:247:21
 add-t7 : tie.Need-add-t7
 add-t7 c = omega (arith, got-inside _ _ (c .before .before .pre))
 
--- src/lib.rt:247:19
 shared-slice-read-t9 : tie.Need-shared-slice-read-t9
 shared-slice-read-t9 c = search got-second
 
--- src/lib.rt:247:19
 add-t10 : tie.Need-add-t10
 add-t10 c = omega (arith, got-fits _ _ (c .before .before .before .pre) (c .before .if1 .taken))
 
--- src/lib.rt:248:19
 add-t11 : tie.Need-add-t11
 add-t11 c = omega (arith, got-inside _ _ (c .before .before .before .pre))
 
--- src/lib.rt:246:9
 returns : tie.Need-returns
 returns c = search got-escaped
 
--- src/lib.rt:253:15
 add-t12 : tie.Need-add-t12
 add-t12 c = omega (arith, got-inside _ _ (c .before .before .pre))
 
--- src/lib.rt:240:1
 returns-2 : tie.Need-returns-2
 returns-2 c = search got-plain
 

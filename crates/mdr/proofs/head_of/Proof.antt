@@ -1,29 +1,21 @@
 use Rattle.mdr.specs.Frame.{headOf}
 use mathlib.Core.Path.{refl}
-use native.Mathlib.Omega.{arith}
 use borrow.Author.Needs.{needs}
 use Rattle.mdr.proofs.head_of.Statement.{statement}
 use Rattle.mdr.proofs.head_of.Tie as tie
-use Rattle.mdr.proofs.head_of.Reads as reads
-use Rattle.mdr.proofs.head_of.Lts as lts
 
--- src/lib.rt:613:9
 cast-t8 : tie.Need-cast-t8
 cast-t8 c = search needs
 
--- src/lib.rt:614:9
 cast-t12 : tie.Need-cast-t12
 cast-t12 c = search needs
 
--- src/lib.rt:615:9
 cast-t15 : tie.Need-cast-t15
 cast-t15 c = search needs
 
--- src/lib.rt:616:9
 cast-t17 : tie.Need-cast-t17
 cast-t17 c = search needs
 
--- src/lib.rt:607:1
 returns : tie.Need-returns
 unfolding headOf
 returns c = refl

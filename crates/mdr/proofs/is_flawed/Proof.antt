@@ -2,12 +2,8 @@ use Prim.Native.Nat.{_-_}
 use lib.ListN.{length}
 use Rattle.mdr.proofs.Places.{Flawing, flaw-start, flaw-worse, flaw-same, flaw-none, flaw-some}
 use borrow.Author.Needs.{needs}
-use native.Mathlib.Omega.{arith}
 use Rattle.mdr.proofs.is_flawed.Statement.{statement}
 use Rattle.mdr.proofs.is_flawed.Tie as tie
-use Rattle.mdr.proofs.is_flawed.Reads as reads
-use Rattle.mdr.proofs.is_flawed.Lts as lts
-use Rattle.mdr.proofs.breaks.Reads as breaks-reads
 
 abbrev Inv-loop : tie.InvT-loop
 Inv-loop s n worst₀ i₀ worst i = Flawing s worst i
@@ -15,63 +11,48 @@ Inv-loop s n worst₀ i₀ worst i = Flawing s worst i
 abbrev μ-loop : tie.MeasureT-loop
 μ-loop s n worst₀ i₀ worst i = length s - i
 
--- src/lib.rt:176:13
 sub-n : tie.Need-sub-n Inv-loop μ-loop
 sub-n c = search needs
 
--- src/lib.rt:177:28
 shared-slice-read-breaks : tie.Need-shared-slice-read-breaks Inv-loop μ-loop
 shared-slice-read-breaks c = search needs
 
--- src/lib.rt:177:9
 breaks-requires : tie.Need-breaks-requires Inv-loop μ-loop
 breaks-requires c κs = search needs
 
--- src/lib.rt:179:5
 loop-holds : tie.Need-loop-holds Inv-loop μ-loop
 loop-holds c = search flaw-start
 
--- src/lib.rt:180:24
 shared-slice-read-breaks-2 : tie.Need-shared-slice-read-breaks-2 Inv-loop μ-loop
 shared-slice-read-breaks-2 c = search needs
 
--- src/lib.rt:180:32
 add-breaks : tie.Need-add-breaks Inv-loop μ-loop
 add-breaks c = search needs
 
--- src/lib.rt:180:30
 shared-slice-read-breaks-3 : tie.Need-shared-slice-read-breaks-3 Inv-loop μ-loop
 shared-slice-read-breaks-3 c = search needs
 
--- src/lib.rt:180:13
 breaks-requires-2 : tie.Need-breaks-requires-2 Inv-loop μ-loop
 breaks-requires-2 c κs = search needs
 
--- src/lib.rt:181:9
 add-i : tie.Need-add-i Inv-loop μ-loop
 add-i c = search needs
 
--- src/lib.rt:179:5
 loop-less : tie.Need-loop-less Inv-loop μ-loop
 loop-less c = search needs
 
--- src/lib.rt:179:5
 loop-again : tie.Need-loop-again Inv-loop μ-loop
 loop-again c = search flaw-worse
 
--- src/lib.rt:179:5
 loop-less-2 : tie.Need-loop-less-2 Inv-loop μ-loop
 loop-less-2 c = search needs
 
--- src/lib.rt:179:5
 loop-again-2 : tie.Need-loop-again-2 Inv-loop μ-loop
 loop-again-2 c = search flaw-same
 
--- src/lib.rt:187:9
 returns : tie.Need-returns Inv-loop μ-loop
 returns c = search flaw-none
 
--- src/lib.rt:172:1
 returns-2 : tie.Need-returns-2 Inv-loop μ-loop
 returns-2 c = search flaw-some
 

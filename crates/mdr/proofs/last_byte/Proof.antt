@@ -3,34 +3,25 @@ use native.Mathlib.Omega.{arith}
 use borrow.Author.Needs.{needs}
 use Rattle.mdr.proofs.last_byte.Statement.{statement}
 use Rattle.mdr.proofs.last_byte.Tie as tie
-use Rattle.mdr.proofs.last_byte.Reads as reads
-use Rattle.mdr.proofs.last_byte.Lts as lts
 
--- src/lib.rt:325:15
 sub-b : tie.Need-sub-b
 sub-b c = search needs
 
--- src/lib.rt:325:13
 shared-slice-read-b : tie.Need-shared-slice-read-b
 shared-slice-read-b c = search needs
 
--- src/lib.rt:326:10
 sub-if1 : tie.Need-sub-if1
 sub-if1 c = search needs
 
--- src/lib.rt:326:8
 shared-slice-read-if1 : tie.Need-shared-slice-read-if1
 shared-slice-read-if1 c = search needs
 
--- src/lib.rt:326:27
 add-result : tie.Need-add-result
 add-result c = omega (arith, last-fits _ (c .before .before .before .pre .0) (c .before .before .before .pre .1) (c .if1 .taken))
 
--- src/lib.rt:319:1
 returns : tie.Need-returns
 returns c = search last-escaped
 
--- src/lib.rt:319:1
 returns-2 : tie.Need-returns-2
 returns-2 c = search last-plain
 

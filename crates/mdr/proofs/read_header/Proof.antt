@@ -3,48 +3,34 @@ use native.Mathlib.Omega.{arith}
 use borrow.Author.Needs.{needs}
 use Rattle.mdr.proofs.read_header.Statement.{statement}
 use Rattle.mdr.proofs.read_header.Tie as tie
-use Rattle.mdr.proofs.read_header.Reads as reads
-use Rattle.mdr.proofs.read_header.Lts as lts
-use Rattle.mdr.proofs.escaped_header.Reads as escaped-header-reads
-use Rattle.mdr.proofs.join.Reads as join-reads
 
--- src/lib.rt:309:19
 shared-slice-read-t5 : tie.Need-shared-slice-read-t5
 shared-slice-read-t5 c = omega (arith, ahead-most _ 0 6 (c .before .before .before .pre .0))
 
--- src/lib.rt:310:18
 shared-slice-read-t7 : tie.Need-shared-slice-read-t7
 shared-slice-read-t7 c = omega (arith, ahead-most _ 0 6 (c .before .before .before .before .pre .0))
 
--- src/lib.rt:311:28
 shared-slice-read-join : tie.Need-shared-slice-read-join
 shared-slice-read-join c = omega (arith, ahead-most _ 0 6 (c .before .before .before .before .before .pre .0))
 
--- src/lib.rt:311:34
 shared-slice-read-join-2 : tie.Need-shared-slice-read-join-2
 shared-slice-read-join-2 c = omega (arith, ahead-most _ 0 6 (c .before .before .before .before .before .before .pre .0))
 
--- src/lib.rt:311:40
 shared-slice-read-join-3 : tie.Need-shared-slice-read-join-3
 shared-slice-read-join-3 c = omega (arith, ahead-most _ 0 6 (c .before .before .before .before .before .before .before .pre .0))
 
--- src/lib.rt:311:46
 shared-slice-read-join-4 : tie.Need-shared-slice-read-join-4
 shared-slice-read-join-4 c = omega (arith, ahead-most _ 0 6 (c .before .before .before .before .before .before .before .before .pre .0))
 
--- src/lib.rt:311:23
 join-requires : tie.Need-join-requires
 join-requires c κs = search needs
 
--- src/lib.rt:308:9
 returns : tie.Need-returns
 returns c = search header-bare
 
--- src/lib.rt:315:5
 escaped-header-requires : tie.Need-escaped-header-requires
 escaped-header-requires c κs = search needs
 
--- src/lib.rt:302:1
 returns-2 : tie.Need-returns-2
 returns-2 c = search needs
 

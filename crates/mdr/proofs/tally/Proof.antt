@@ -2,13 +2,8 @@ use Prim.Native.Nat.{_-_}
 use lib.ListN.{length}
 use Rattle.mdr.proofs.Counting.{Tallying, tally-start, tally-block, tally-last}
 use borrow.Author.Needs.{needs}
-use native.Mathlib.Omega.{arith}
 use Rattle.mdr.proofs.tally.Statement.{statement}
 use Rattle.mdr.proofs.tally.Tie as tie
-use Rattle.mdr.proofs.tally.Reads as reads
-use Rattle.mdr.proofs.tally.Lts as lts
-use Rattle.mdr.proofs.tally_few.Reads as tally-few-reads
-use Rattle.std.proofs.num.wrapping_add_u8.Reads as wrapping-add-u8-reads
 
 abbrev Inv-loop : tie.InvT-loop
 Inv-loop s lo hi n sum₀ hits₀ i₀ sum hits i = Tallying s lo hi sum hits i
@@ -16,75 +11,57 @@ Inv-loop s lo hi n sum₀ hits₀ i₀ sum hits i = Tallying s lo hi sum hits i
 abbrev μ-loop : tie.MeasureT-loop
 μ-loop s lo hi n sum₀ hits₀ i₀ sum hits i = length s - i
 
--- src/lib.rt:130:5
 loop-holds : tie.Need-loop-holds Inv-loop μ-loop
 loop-holds c = search tally-start
 
--- src/lib.rt:130:17
 sub-loop : tie.Need-sub-loop Inv-loop μ-loop
 sub-loop c = search needs
 
--- src/lib.rt:131:17
 add-j : tie.Need-add-j Inv-loop μ-loop
 add-j c = search needs
 
--- src/lib.rt:132:27
 sub-tally-few : tie.Need-sub-tally-few Inv-loop μ-loop
 sub-tally-few c = search needs
 
--- src/lib.rt:132:27
 part-tally-few-start : tie.Need-part-tally-few-start Inv-loop μ-loop
 part-tally-few-start c = search needs
 
--- src/lib.rt:132:27
 part-tally-few-end : tie.Need-part-tally-few-end Inv-loop μ-loop
 part-tally-few-end c = search needs
 
--- src/lib.rt:132:13
 tally-few-requires : tie.Need-tally-few-requires Inv-loop μ-loop
 tally-few-requires c κs = search needs
 
--- src/lib.rt:133:9
 wrapping-add-u8-requires : tie.Need-wrapping-add-u8-requires Inv-loop μ-loop
 wrapping-add-u8-requires c κs = search needs
 
--- src/lib.rt:134:9
 add-hits : tie.Need-add-hits Inv-loop μ-loop
 add-hits c = search needs
 
--- src/lib.rt:130:5
 loop-less : tie.Need-loop-less Inv-loop μ-loop
 loop-less c = search needs
 
--- src/lib.rt:130:5
 loop-again : tie.Need-loop-again Inv-loop μ-loop
 loop-again c = search tally-block
 
--- src/lib.rt:137:23
 sub-tally-few-2 : tie.Need-sub-tally-few-2 Inv-loop μ-loop
 sub-tally-few-2 c = search needs
 
--- src/lib.rt:137:23
 part-tally-few-start-2 : tie.Need-part-tally-few-start-2 Inv-loop μ-loop
 part-tally-few-start-2 c = search needs
 
--- src/lib.rt:137:23
 part-tally-few-end-2 : tie.Need-part-tally-few-end-2 Inv-loop μ-loop
 part-tally-few-end-2 c = search needs
 
--- src/lib.rt:137:9
 tally-few-requires-2 : tie.Need-tally-few-requires-2 Inv-loop μ-loop
 tally-few-requires-2 c κs = search needs
 
--- src/lib.rt:138:19
 wrapping-add-u8-requires-2 : tie.Need-wrapping-add-u8-requires-2 Inv-loop μ-loop
 wrapping-add-u8-requires-2 c κs = search needs
 
--- src/lib.rt:138:64
 add-t17 : tie.Need-add-t17 Inv-loop μ-loop
 add-t17 c = search needs
 
--- src/lib.rt:123:1
 returns : tie.Need-returns Inv-loop μ-loop
 returns c = search tally-last
 
