@@ -12,7 +12,6 @@ use Rattle.laws.specs.Count.{count, nub, mem}
 use Rattle.laws.specs.Numbers.{le16, le32, le64, be32, be64}
 use Rattle.items.specs.Items.{Span, item, spanList}
 use Rattle.mdr.specs.Frame.{judged as judgedFrame, unpackOf, unpacksOf}
-use Rattle.mdr.specs.Escape.{escapee}
 use Rattle.mdr.specs.Sum.{checksumOf}
 use Rattle.btsnoop.specs.Header.{isBtsnoop, datalink, isDatalink}
 use Rattle.btsnoop.specs.Records.{recordSize, isWhole, recordsIn, records, tailOffset}
@@ -41,5 +40,5 @@ pub example :
     (outcome sample none strict ≡ found 18 (record { rx = 1; time = 0; wire = frame } ∷ []) 0 62) ×
     (outcome (take 61 sample) none strict ≡ missing 5 (16 ∷ [])) ×
     (outcome (take 61 sample) none tolerant ≡ missing 6 [])
-unfolding outcome isBtsnoop datalink isDatalink endsWell read tailOffset records recordsIn chop chopFrom isWhole recordSize be32 be64 le16 eqK filePieces packets packetOf milliseconds fragment hciPacket monitorPacket pdus run after joined isComplete stillOpen pduOf completed commandSize isCommand commands body signalOf signalsIn pduSignals signals any names named asksFor admits admittedAfter admitted isTried asksRfcomm asksSession isSabm isUih shortLength infoLength infoStart creditOf frameOf uihKind frameKind kindOf judged counted pieceOf brought pieces seek spansN restN spansOf restOf capped spans unfinished onDlci count nub mem onChannel first hasFrame chosen listed unpacksOf unpackOf judgedFrame isGiven escapee checksumOf
+unfolding outcome isBtsnoop datalink isDatalink endsWell read tailOffset records recordsIn chop chopFrom isWhole recordSize be32 be64 le16 eqK filePieces packets packetOf milliseconds fragment hciPacket monitorPacket pdus run after joined isComplete stillOpen pduOf completed commandSize isCommand commands body signalOf signalsIn pduSignals signals any names named asksFor admits admittedAfter admitted isTried asksRfcomm asksSession isSabm isUih shortLength infoLength infoStart creditOf frameOf uihKind frameKind kindOf judged counted pieceOf brought pieces seek spansN restN spansOf restOf capped spans unfinished onDlci count nub mem onChannel first hasFrame chosen listed unpacksOf unpackOf judgedFrame isGiven checksumOf
 example = (refl, refl, refl)
