@@ -100,6 +100,17 @@ lowCid = oneLink (sends 0x40 Rx 5 0x3F 18 (wire ack) ∷ []) (linkOf 0x3F (ack �
 abbrev pub namedChannel : Recording
 namedChannel = oneLink (freely 0x40 Tx 1 1 (requestOf 1 0x41) ∷ sends 0x40 Rx 5 0x41 18 (wire ack) ∷ []) (linkOf 0x41 (ack ∷ []) [])
 
+-- a channel that is named, and admitted only after its data
+abbrev pub admittedLate : Recording
+admittedLate =
+    oneLink
+    (freely 0x40 Rx 1 1 (requestOf 3 0x99) ∷ freely 0x40 Tx 2 1 (requestOf 1 0x41) ∷ sends 0x40 Rx 5 0x41 18 (wire ack) ∷ freely 0x40 Tx 6 1 (responseOf 0x41 0x99 0) ∷ [])
+    (linkOf 0x41 (ack ∷ []) [])
+
+-- a mark that tells other information than is sent
+abbrev pub falseMark : Recording
+falseMark = oneLink (record { bytes = row 1 5 (acl 0x40 2 (pdu 0x41 (uihOn 18 (wire ack)))); mark = last (wire f₂) } ∷ []) (linkOf 0x41 (f₂ ∷ []) [])
+
 -- a first fragment with flag 1
 abbrev pub noStart : Recording
 noStart = oneLink (record { bytes = row 1 5 (acl 0x40 1 (pdu 0x41 (uihOn 18 (wire ack)))); mark = last (wire ack) } ∷ []) (linkOf 0x41 (ack ∷ []) [])

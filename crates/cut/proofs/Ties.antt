@@ -144,7 +144,7 @@ module _ (read : List ℕ → Option Packet) where
       one x q k z ih (c ∷ a) e =
           let h : q ≡ c = head-eq-of-cons-eq e in
           let u : UpTo read (step reassembly m x) rs a p = ih (step reassembly m x) a (tail-eq-of-cons-eq e) in
-          record { front = r ∷ u .front; back = u .back; whole = ap (λ (l : List Record). r ∷ l) (u .whole); are = rw (k, z, u .are) (ap (λ (y : Pdu). y ∷ (a ++ (p ∷ []))) h) }
+          record { front = r ∷ u .front; back = u .back; whole = ap (λ (l : List Record). r ∷ l) (u .whole); are = rw (k, z, u .are, h) }
 
       by-packet : (k : Option Packet) → read (r .bytes) ≡ k → Next → UpTo read m (r ∷ rs) a p
       by-packet none k ih =

@@ -58,7 +58,7 @@ isDataOf h p free = false
 isDataOf h p part = eqb (p .link) h
 isDataOf h p (last i) = eqb (p .link) h
 
--- the PDUs that are completed after the packet with a handle's first data fragment, from what is open before
+-- the PDUs that records after the one with a handle's first data fragment complete, from what is open before
 unfoldable pub afterData : ℕ → (Key → Option (List ℕ)) → List Sent → List MarkedPdu
 afterData h m [] = []
 afterData h m (x ∷ xs) = cond (isDataOf h (x .packet) (x .mark)) (run marking (step marking m x) xs) (afterData h (step marking m x) xs)
@@ -121,6 +121,7 @@ pub data Channel (R : Recording) (l : Link) (t : Direction) : Type 0 where
   before :
       (n : ℕ) → of dataKey (linkKey l t) (dataLeft R n) ≡ [] →
       admitted (signals (pdusIn R (recordsLeft R n))) (triple (l .handle) (rxOf t) (l .cid t)) ≡ true → Channel R l t
+  -- named by nothing in the file: its handle, direction and CID together
   unnamed : named (signals (pdusIn R (R .records))) (triple (l .handle) (rxOf t) (l .cid t)) ≡ false → Channel R l t
 
 -- the first bytes of a packed frame, fewer than all; none of them if nothing follows the whole frames

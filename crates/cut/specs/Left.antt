@@ -37,14 +37,14 @@ pub record Sent : Type 0 where
   pub packet : Packet
   pub mark : Mark
 
-abbrev pub orNone : Option Packet → Mark → List Sent → List Sent
-orNone none m xs = xs
-orNone (some p) m xs = record { packet = p; mark = m } ∷ xs
+abbrev pub orPassed : Option Packet → Mark → List Sent → List Sent
+orPassed none m xs = xs
+orPassed (some p) m xs = record { packet = p; mark = m } ∷ xs
 
 -- the packets of records, by the recording's datalink; a record that holds none is passed over
 unfoldable pub sent : ℕ → List Record → List Sent
 sent datalink [] = []
-sent datalink (r ∷ rs) = orNone (packetOf datalink (r .bytes)) (r .mark) (sent datalink rs)
+sent datalink (r ∷ rs) = orPassed (packetOf datalink (r .bytes)) (r .mark) (sent datalink rs)
 
 abbrev pub sentIn : Recording → List Record → List Sent
 sentIn R rs = sent (datalink (R .header)) rs
@@ -81,7 +81,7 @@ informationOf k xs = flat (map (λ x. x .information) (of dataKey k xs))
 
 -- ---- frames
 
--- the wires that stand one after another from `at` on, whose closing 3C lies in the bytes from a up to b
+-- the wires that stand one after another from `at` on, whose closing 3C, the byte before `at + length w`, lies in the bytes from a up to b
 unfoldable pub closedIn : ℕ → ℕ → ℕ → List (List ℕ) → List (List ℕ)
 closedIn at a b [] = []
 closedIn at a b (w ∷ ws) = cond (ltb a (at + length w) && leb (at + length w) b) (w ∷ closedIn (at + length w) a b ws) (closedIn (at + length w) a b ws)

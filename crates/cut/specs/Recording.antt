@@ -6,7 +6,7 @@ use Rattle.laws.specs.Lists.{flat}
 use Rattle.items.specs.declared.Direction.{Direction}
 use Rattle.mdr.specs.Frame.{packed}
 
--- a frame before it is packed
+-- a frame before it is packed. (That its numbers are bytes is not asked.)
 pub record Frame : Type 0 where
   pub type : ℕ
   pub seq : ℕ

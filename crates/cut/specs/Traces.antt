@@ -16,7 +16,7 @@ use Rattle.btsnoop.specs.Header.{datalink}
 use Rattle.btsnoop.specs.Packets.{Packet, packetOf, orNone, packets}
 use Rattle.l2cap.specs.Pdus.{Pdu, joined, isComplete, stillOpen, pduOf, completed, packetKey, reassembly, pdus}
 use Rattle.cut.specs.Recording.{Link, Mark, free, part, last, Record, Recording, rows}
-use Rattle.cut.specs.Left.{Sent, orNone as orPassed, sent, sentIn, Data, dataKey, linkKey, ifLast, dataOf}
+use Rattle.cut.specs.Left.{Sent, orPassed, sent, sentIn, Data, dataKey, linkKey, ifLast, dataOf}
 use Rattle.cut.specs.Honest.{pdusIn, MarkedPdu, marking, nothingOpen, markedPdus, Joins, first, further, Fragments, stop, other, more, end}
 
 -- ---- in two parts
