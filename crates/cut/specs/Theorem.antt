@@ -1,0 +1,328 @@
+-- The theorem: tolerant import of a cut of an honest recording finds exactly what is left of it.
+use Prim.Native.Nat.{ℕ, _+_, _-_, _*_, _/_, _≤_, _<_}
+use mathlib.Core.Path.{_≡_, refl, sym, ap, _∙_}
+use mathlib.Core.Logic.{_≢_}
+use mathlib.Core.Bool.{true, false, _&&_}
+use mathlib.Core.List.{List, [], _∷_, _++_, map, nil≢cons, List·Memᴰ}
+use mathlib.Core.Option.{Option, some}
+use native.Mathlib.Omega.{arith}
+use native.Mathlib.Nat.{zero-add}
+use lib.ListN.{length, getD, take, drop, length-append, length-take, List·getD-append}
+use lib.Seq.{take-append-le}
+use lib.Dec.{leb, ltb}
+use borrow.Author.Tests.{le-leb}
+use Rattle.laws.specs.Choice.{splitB, no-way, split≤}
+use Rattle.laws.specs.Lists.{flat, All, all-nil, all-cons}
+use Rattle.laws.specs.Numbers.{be32}
+use Rattle.laws.specs.Stores.{filled}
+use Rattle.laws.specs.Answers.{Answer, Outcome, gives, refuses, answer, output, Meets}
+use Rattle.laws.specs.Keys.{Key, splitK, eq-eqK, ne-eqK}
+use Rattle.laws.specs.Keyed.{of, step, run, after}
+use Rattle.laws.specs.Count.{mem, nub}
+use Rattle.items.specs.declared.Direction.{Direction}
+use Rattle.items.specs.Items.{Span, span, rxOf, spanList}
+use Rattle.mdr.specs.Escaping.{all-append}
+use Rattle.mdr.specs.Frame.{unpacksOf}
+use Rattle.btsnoop.specs.Header.{isBtsnoop, datalink}
+use Rattle.btsnoop.specs.Records.{records, tailOffset}
+use Rattle.btsnoop.specs.Packets.{packets}
+use Rattle.l2cap.specs.Pdus.{Pdu}
+use Rattle.channels.specs.Channels.{any}
+use Rattle.rfcomm.specs.Pieces.{Piece, Kind, judged, counting, noCounts, pieces}
+use Rattle.spans.specs.Bytewise.{held}
+use Rattle.spans.specs.Spans.{scanner, emptied, spans, unfinished, onDlci}
+use Rattle.outcome.specs.Import.{Tail, tolerant, hasFrame, chosen, listed, filePieces, read, endsWell, outcome, given, fits, workSuffices, imported}
+use Rattle.cut.specs.Recording.{Link, Record, Recording, rows, file, cut}
+use Rattle.cut.specs.Left.{recordsLeft, tailLeft, sentIn, Data, dataKey, linkKey, informationOf, dataOf, dataLeft, closedIn, wires, wiresOf, closing, framesLeft, midLeft}
+use Rattle.cut.specs.Honest.{pdusIn, kindIn, MarkedPdu, nothingOpen, markedPdus, Fragments, Honest}
+use Rattle.cut.specs.Claim.{answerLeft, listLeft, CutClaim}
+use Rattle.cut.specs.Parts.{map-map, take-past, all-at}
+use Rattle.cut.specs.Kept.{records-front, cut-records}
+use Rattle.cut.specs.Wires.{stream, held-mid, mid-none}
+use Rattle.cut.specs.Streams.{information-append, plain, Framed, asPiece, Apart, came-after, Fed, fed-run, fed-after}
+use Rattle.cut.specs.Counts.{mem-nub, once-nub, count-same, count-respell}
+use Rattle.cut.specs.Links.{partialOf, wires-all, links-framed, wire-unpacks, handles, found, directions, on-directions, directions-once, midAt, mid-counted}
+use Rattle.cut.specs.Traces.{pdusOf, pdus-in, dataIn, trace-data, under-none, fragments-front, sent-append, data-append, OnLink, trace-links}
+use Rattle.cut.specs.Calm.{judgedBy, stretch, stretch-apart, calm-pieces, Near, calm-near, chosen-yes, chosen-no}
+use Rattle.cut.specs.Rules.{cidOf, cut-calm}
+
+-- ---- the header
+
+module _ (h x : List ℕ) (e : length h ≡ 16) where
+  be32-front : (i : ℕ) → i + 3 < 16 → be32 (h ++ x) i ≡ be32 h i
+  unfolding be32
+  be32-front i g = rw (List·getD-append h x 0 i (omega arith), List·getD-append h x 0 (i + 1) (omega arith), List·getD-append h x 0 (i + 2) (omega arith), List·getD-append h x 0 (i + 3) (omega arith))
+
+  header-datalink : datalink (h ++ x) ≡ datalink h
+  unfolding datalink
+  header-datalink = be32-front 12 (omega arith)
+
+  header-btsnoop : isBtsnoop (h ++ x) ≡ isBtsnoop h
+  unfolding isBtsnoop
+  header-btsnoop = rw (be32-front 8 (omega arith), take-append-le 8 h x (omega arith), le-leb 16 (length (h ++ x)) (simp length-append (omega arith)), le-leb 16 (length h) (omega arith))
+
+-- ---- where a key of data PDUs is
+
+data Where (ls : List Link) (k : Key) (xs : List Data) : Type 0 where
+  nowhere : of dataKey k xs ≡ [] → Where ls k xs
+  at-link : (l : Link) (t : Direction) → List·Memᴰ l ls → k ≡ linkKey l t → Where ls k xs
+
+where-is : (ls : List Link) (k : Key) {xs : List Data} → All (OnLink ls) xs → Where ls k xs
+unfolding of
+where-is ls k all-nil = nowhere refl
+where-is ls k (all-cons {x = x} {xs = xs} o os) =
+    splitK (dataKey x) k
+    (λ e. at-link (o .link) (o .direction) (o .listed) (sym e ∙ o .is))
+    (λ n. go n (where-is ls k os))
+  where
+    go : dataKey x ≢ k → Where ls k xs → Where ls k (x ∷ xs)
+    go n (nowhere e) = nowhere (rw (ne-eqK (dataKey x) k n) e)
+    go n (at-link l t m e) = at-link l t m e
+
+-- a key with information is among the data PDUs' keys, and is a link direction
+occurs : (k : Key) (xs : List Data) → 0 < length (informationOf k xs) → mem k (map dataKey xs) ≡ true
+unfolding of mem
+occurs k [] h = absurd (omega arith)
+occurs k (x ∷ xs) h =
+    splitK k (dataKey x)
+    (λ e. rw (eq-eqK k (dataKey x) e))
+    (λ n. rw (ne-eqK k (dataKey x) n) (occurs k xs (rw (ne-eqK (dataKey x) k (λ q. n (sym q))) at h)))
+
+within : (k : Key) (ls : List Link) {xs : List Data} → All (OnLink ls) xs → mem k (map dataKey xs) ≡ true → mem k (directions ls) ≡ true
+unfolding mem
+within k ls all-nil h = no-way h refl
+within k ls (all-cons {x = x} {xs = xs} o os) h =
+    splitK k (dataKey x)
+    (λ e. rw (e, o .is) (on-directions (o .link) (o .direction) (o .listed)))
+    (λ n. within k ls os (rw (ne-eqK k (dataKey x) n) at h))
+
+-- ---- the frames closed unpack
+
+abbrev Unpacks : Span → Type 0
+Unpacks s = unpacksOf (s .wire) ≡ true
+
+all-closed : (T : List ℕ → Type 0) (at a b : ℕ) {ws : List (List ℕ)} → All T ws → All T (closedIn at a b ws)
+unfolding closedIn
+all-closed T at a b all-nil = all-nil
+all-closed T at a b (all-cons {x = w} {xs = ws} p ps) =
+    splitB (ltb a (at + length w) && leb (at + length w) b)
+    (λ e. rw e (all-cons p (all-closed T (at + length w) a b ps)))
+    (λ e. rw e (all-closed T (at + length w) a b ps))
+
+all-spans : (r t : ℕ) {ws : List (List ℕ)} → All (λ (w : List ℕ). unpacksOf w ≡ true) ws → All Unpacks (map (λ w. span r t w) ws)
+all-spans r t all-nil = all-nil
+all-spans r t (all-cons p ps) = all-cons p (all-spans r t ps)
+
+closing-unpacks : (W : ℕ → ℕ → List (List ℕ)) → ((h r : ℕ) → All (λ (w : List ℕ). unpacksOf w ≡ true) (W h r)) → (came : Key → ℕ) (xs : List Data) → All Unpacks (run (closing W) came xs)
+unfolding run
+closing-unpacks W u came [] = all-nil
+closing-unpacks W u came (x ∷ xs) =
+    all-append
+    (all-spans (x .rx) (x .time) (all-closed (λ (w : List ℕ). unpacksOf w ≡ true) 0 (came (dataKey x)) (came (dataKey x) + length (x .information)) (u (x .link) (x .rx))))
+    (closing-unpacks W u (step (closing W) came x) xs)
+
+-- ---- one cut
+
+module _ (R : Recording) (H : Honest R) (n : ℕ) where
+  abbrev rs : List Record
+  rs = recordsLeft R n
+
+  abbrev back : List Record
+  back = records-front R n .back
+
+  abbrev D : List Data
+  D = dataLeft R n
+
+  abbrev Q : List MarkedPdu
+  Q = markedPdus (sentIn R rs)
+
+  abbrev K : Pdu → Kind
+  K = kindIn R rs
+
+  abbrev ps : List Piece
+  ps = run counting noCounts (judgedBy K (pdusOf Q))
+
+  abbrev F : ℕ → ℕ → Key
+  F = stretch (cidOf (R .links)) (R .d) (after counting noCounts (judgedBy K (pdusOf Q)))
+
+  apart : Apart F
+  apart = stretch-apart (cidOf (R .links)) (R .d) (after counting noCounts (judgedBy K (pdusOf Q)))
+
+  -- all packets, and all data PDUs, are those of the cut and more
+  sent-whole : sentIn R (R .records) ≡ sentIn R rs ++ sentIn R back
+  sent-whole = ap (sentIn R) (records-front R n .whole) ∙ sent-append (datalink (R .header)) rs back
+
+  data-whole : dataOf (sentIn R (R .records)) ≡ D ++ dataOf (sentIn R back)
+  unfolding dataLeft
+  data-whole = rw sent-whole (data-append (sentIn R rs) (sentIn R back))
+
+  trace : Fragments R nothingOpen (sentIn R rs)
+  trace = fragments-front (sentIn R rs) (sentIn R back) (rw sent-whole at (H .fragments))
+
+  data-is : dataIn Q ≡ D
+  unfolding markedPdus dataLeft
+  data-is = trace-data nothingOpen under-none trace
+
+  on-links : All (OnLink (R .links)) D
+  unfolding dataLeft
+  on-links = trace-links trace
+
+  -- the pieces on d
+  pieces-on : onDlci (R .d) ps ≡ map (asPiece (R .d) F) D
+  pieces-on = calm-pieces (R .d) K (cidOf (R .links)) noCounts (cut-calm R H n) ∙ ap (map (asPiece (R .d) F)) data-is
+
+  framed : Framed (wiresOf (R .links)) (partialOf (R .links))
+  framed = links-framed (H .sizes) (H .beginnings)
+
+  -- the information left is a front of what the link direction sends
+  record Comes (h r : ℕ) : Type 0 where
+    rest : List ℕ
+    is : stream (wiresOf (R .links) h r) (partialOf (R .links) h r) ≡ informationOf (plain h r) D ++ rest
+
+  comes : (h r : ℕ) → Comes h r
+  comes h r = go (where-is (R .links) (plain h r) on-links)
+    where
+      go : Where (R .links) (plain h r) D → Comes h r
+      go (nowhere e) = record { rest = stream (wiresOf (R .links) h r) (partialOf (R .links) h r); is = rw e }
+      go (at-link l t m e) =
+          let eh : h ≡ l .handle = cc in
+          let er : r ≡ rxOf t = cc in
+          let s : stream (wiresOf (R .links) (l .handle) (rxOf t)) (partialOf (R .links) (l .handle) (rxOf t)) ≡ flat (wires l t) ++ l .partial t = rw (found [] wires l t m (H .handles), found [] (λ l t. l .partial t) l t m (H .handles)) in
+          let i : informationOf (linkKey l t) D ++ informationOf (linkKey l t) (dataOf (sentIn R back)) ≡ flat (wires l t) ++ l .partial t =
+          sym (information-append (linkKey l t) D (dataOf (sentIn R back))) ∙ ap (informationOf (linkKey l t)) (sym data-whole) ∙ all-at m (H .information) t in
+          record { rest = informationOf (linkKey l t) (dataOf (sentIn R back)); is = rw (eh, er) (s ∙ sym i) }
+
+  fed : Fed (wiresOf (R .links)) (partialOf (R .links)) framed (R .d) F apart emptied (λ k. 0) D
+  unfolding held
+  fed = record { holds = λ h r. refl; rest = λ h r. comes h r .rest; comes = λ h r. comes h r .is }
+
+  -- the spans are the frames left
+  spans-left : spans (onDlci (R .d) ps) ≡ framesLeft R n
+  unfolding spans framesLeft
+  spans-left = rw pieces-on (fed-run (wiresOf (R .links)) (partialOf (R .links)) framed (R .d) F apart emptied (λ k. 0) D fed)
+
+  -- a buffer is not empty if its link direction ends mid-frame
+  buffers : (h r : ℕ) → ltb 0 (length (after scanner emptied (map (asPiece (R .d) F) D) (F h r))) ≡ midAt R n (plain h r)
+  buffers h r =
+      let c : after (closing (wiresOf (R .links))) (λ k. 0) D (plain h r) ≡ length (informationOf (plain h r) D) = came-after (wiresOf (R .links)) (λ k. 0) D (plain h r) ∙ zero-add (length (informationOf (plain h r) D)) in
+      let g : length (informationOf (plain h r) D) ≤ length (stream (wiresOf (R .links) h r) (partialOf (R .links) h r)) = omega (arith, ap length (comes h r .is), length-append (informationOf (plain h r) D) (comes h r .rest)) in
+      rw (fed-after (wiresOf (R .links)) (partialOf (R .links)) framed (R .d) F apart emptied (λ k. 0) D fed h r, c)
+      (held-mid (wiresOf (R .links) h r) (partialOf (R .links) h r) (framed .whole h r) (framed .begun h r) (length (informationOf (plain h r) D)) g)
+
+  same-keys : (k : Key) → midAt R n k ≡ true → mem k (nub (map dataKey D)) ≡ mem k (directions (R .links))
+  same-keys k q =
+      let lt : 0 < length (informationOf k D) = split≤ (length (informationOf k D)) 0 (λ z. no-way q (mid-none 0 (length (informationOf k D)) (wiresOf (R .links) (getD k 0 0) (getD k 1 0)) z)) (λ z. z) in
+      let o : mem k (map dataKey D) ≡ true = occurs k D lt in
+      mem-nub k (map dataKey D) ∙ o ∙ sym (within k (R .links) on-links o)
+
+  unfinished-left : unfinished (onDlci (R .d) ps) ≡ midLeft R n
+  unfolding unfinished midLeft
+  unfinished-left =
+      rw (pieces-on, map-map (λ (p : Piece). p .key) (asPiece (R .d) F) D)
+      (count-respell (λ (x : Data). F (x .link) (x .rx)) dataKey (λ x y. apart (x .link) (x .rx) (y .link) (y .rx)) (λ k. ltb 0 (length (after scanner emptied (map (asPiece (R .d) F) D) k))) (midAt R n) (λ x. buffers (x .link) (x .rx)) D
+      ∙ count-same (midAt R n) (once-nub (map dataKey D)) (directions-once (R .links) (H .handles)) same-keys
+      ∙ sym (mid-counted R n (H .handles)))
+
+  left-unpack : All Unpacks (framesLeft R n)
+  unfolding framesLeft
+  left-unpack = closing-unpacks (wiresOf (R .links)) (wires-all (λ (w : List ℕ). unpacksOf w ≡ true) wire-unpacks (H .sizes)) (λ k. 0) D
+
+  near : All (Near (R .d)) ps
+  near = calm-near (R .d) K (cidOf (R .links)) noCounts (cut-calm R H n)
+
+  -- ---- the DLCI chosen, and what is listed
+
+  good-yes : (s : Span) (ss : List Span) → framesLeft R n ≡ s ∷ ss → Unpacks s → hasFrame ps (R .d) ≡ true
+  unfolding hasFrame any
+  good-yes s ss e u = rw (spans-left, e, u)
+
+  good-no : framesLeft R n ≡ [] → hasFrame ps (R .d) ≡ false
+  unfolding hasFrame any
+  good-no e = rw (spans-left, e)
+
+  some-piece : (s : Span) (ss : List Span) → framesLeft R n ≡ s ∷ ss → onDlci (R .d) ps ≢ []
+  unfolding spans run
+  some-piece s ss e z = let q : spans (onDlci (R .d) ps) ≡ s ∷ ss = spans-left ∙ e in nil≢cons (rw z at q)
+
+-- what import gives, as it is left
+unfoldable pub outcomeLeft : Recording → ℕ → List Span → Outcome
+outcomeLeft R n [] = refuses 6 []
+outcomeLeft R n (s ∷ ss) = gives (R .d ∷ length (s ∷ ss) ∷ midLeft R n ∷ tailLeft R n ∷ length (spanList (s ∷ ss)) ∷ []) (spanList (s ∷ ss))
+
+module _ (R : Recording) (H : Honest R) (n : ℕ) where
+  none-left : framesLeft R n ≡ [] → given (listed (ps R H n) (tailLeft R n) (chosen (some (R .d / 2)) (ps R H n))) ≡ outcomeLeft R n []
+  unfolding chosen given listed outcomeLeft
+  none-left e = rw (chosen-no (R .d) (hasFrame (ps R H n)) (near R H n) (good-no R H n e))
+
+  some-left : (s : Span) (ss : List Span) → framesLeft R n ≡ s ∷ ss → Unpacks s → given (listed (ps R H n) (tailLeft R n) (chosen (some (R .d / 2)) (ps R H n))) ≡ outcomeLeft R n (s ∷ ss)
+  unfolding chosen given listed outcomeLeft
+  some-left s ss e u = rw (chosen-yes (R .d) (hasFrame (ps R H n)) (near R H n) (good-yes R H n s ss e u) (some-piece R H n s ss e), spans-left R H n, e, unfinished-left R H n)
+
+  listed-left : given (listed (ps R H n) (tailLeft R n) (chosen (some (R .d / 2)) (ps R H n))) ≡ outcomeLeft R n (framesLeft R n)
+  listed-left = go (framesLeft R n) refl (left-unpack R H n)
+    where
+      go : (ss : List Span) → framesLeft R n ≡ ss → All Unpacks ss → given (listed (ps R H n) (tailLeft R n) (chosen (some (R .d / 2)) (ps R H n))) ≡ outcomeLeft R n ss
+      go [] e a = none-left e
+      go (s ∷ ss) e (all-cons u a) = some-left s ss e u
+
+  -- ---- the file
+
+  pieces-of : pieces (judged (pdusIn R (recordsLeft R n))) ≡ ps R H n
+  unfolding pieces judged judgedBy kindIn
+  pieces-of = ap (λ (l : List Pdu). run counting noCounts (judgedBy (kindIn R (recordsLeft R n)) l)) (pdus-in R (recordsLeft R n))
+
+  module _ (lo : 16 ≤ n) where
+    cut-header : cut R n ≡ R .header ++ take (n - 16) (flat (rows (R .records)))
+    unfolding cut file
+    cut-header = take-past n (R .header) (flat (rows (R .records))) (omega (arith, H .header .0)) ∙ rw (H .header .0)
+
+    cut-datalink : datalink (cut R n) ≡ datalink (R .header)
+    cut-datalink = rw cut-header (header-datalink (R .header) (take (n - 16) (flat (rows (R .records)))) (H .header .0))
+
+    cut-btsnoop : isBtsnoop (cut R n) ≡ true
+    cut-btsnoop = rw cut-header (header-btsnoop (R .header) (take (n - 16) (flat (rows (R .records)))) (H .header .0) ∙ H .header .1)
+
+    cut-rows : records (cut R n) ≡ rows (recordsLeft R n)
+    unfolding records
+    cut-rows = cut-records R n (H .header .0) lo (H .whole)
+
+    cut-pieces : filePieces (cut R n) ≡ ps R H n
+    unfolding filePieces pdusIn
+    cut-pieces = rw (cut-datalink, cut-rows) pieces-of
+
+    cut-tail : tailOffset (cut R n) ≡ tailLeft R n
+    unfolding tailOffset tailLeft
+    cut-tail = rw cut-rows
+
+    cut-read : outcome (cut R n) (some (R .d / 2)) tolerant ≡ listed (ps R H n) (tailLeft R n) (chosen (some (R .d / 2)) (ps R H n))
+    unfolding outcome endsWell read
+    cut-read = rw (cut-btsnoop, cut-datalink, H .header .2, cut-pieces, cut-tail)
+
+    cut-length : length (cut R n) ≤ n
+    unfolding cut
+    cut-length = rw (length-take n (file R)) (omega arith)
+
+    cut-small : length (cut R n) ≤ 1048576
+    unfolding cut
+    cut-small = rw (length-take n (file R)) (omega (arith, H .small))
+
+    -- import of the cut gives what is left
+    pub cut-imported : (work : ℕ) → 8 * n ≤ work → imported (cut R n) work (some (R .d / 2)) tolerant ≡ outcomeLeft R n (framesLeft R n)
+    unfolding imported fits workSuffices
+    cut-imported work w = rw (le-leb (length (cut R n)) 1048576 cut-small, le-leb (8 * length (cut R n)) work (omega (arith, cut-length)), cut-read) listed-left
+
+-- ---- the claim
+
+left-met : (R : Recording) (n : ℕ) (ss : List Span) (out : List ℕ) → length (spanList ss) ≤ length out →
+    (answer (outcomeLeft R n ss) (length out) ≡ answerLeft R n ss) × (output (outcomeLeft R n ss) out ≡ spanList ss ++ drop (length (spanList ss)) out)
+unfolding outcomeLeft answer output answerLeft filled spanList
+left-met R n [] out h = (refl, refl)
+left-met R n (s ∷ ss) out h = (rw le-leb, rw le-leb)
+
+-- whatever meets import's definition meets the claim
+pub cut-claim : (lent : List ℕ) (work : ℕ) (channel : Option ℕ) (tail : Tail) (out : List ℕ) (a : Answer) (out′ : List ℕ) → Meets (imported lent work channel tail) out a out′ → CutClaim lent work channel tail out a out′
+unfolding listLeft
+cut-claim lent work channel tail out a out′ m R H n lo hi el ec et w room =
+    let i : imported lent work channel tail ≡ outcomeLeft R n (framesLeft R n) = rw (el, ec, et) (cut-imported R H n lo work w) in
+    let k = left-met R n (framesLeft R n) out room in
+    record { answers = m .answers ∙ rw i (k .0); writes = m .writes ∙ rw i (k .1) }
