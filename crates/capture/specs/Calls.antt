@@ -24,6 +24,8 @@ use Rattle.streams.specs.declared.Channel.{Channel}
 use Rattle.streams.specs.declared.Listed.{Listed}
 use Rattle.outcome.specs.Import.{strict, tolerant, chosen, listed, filePieces, read, endsWell, missing, outcome, given, fits, workSuffices, imported}
 use Rattle.outcome.specs.Import as import
+use Rattle.cut.specs.Claim.{CutClaim}
+use Rattle.cut.specs.Theorem.{cut-claim}
 use Rattle.capture.specs.Gathered.{Gathered}
 use Rattle.capture.specs.declared.Imported.{Imported}
 use Rattle.capture.specs.declared.Imported.the-variants.{Spans, FileLong, WorkShort, NotBtsnoop, Datalink, Truncated, NoStream, OutShort}
@@ -45,9 +47,6 @@ toldImported (OutShort needed) = refused 7 (needed ∷ [])
 abbrev pub ruleOf : Tail → import.Tail
 ruleOf Strict = strict
 ruleOf Tolerant = tolerant
-
-abbrev pub StrictRule : Tail
-StrictRule = Strict
 
 abbrev pub toldAs : ℕ → Listed → Answer
 toldAs tail l = told tail l
@@ -177,26 +176,31 @@ module _ (f w : List ℕ) (size : Sized f w) (h : Header) (eh : h ≡ headerOf f
 
 -- ---- the call
 
--- Answer and output by the definition; work is unchanged after 1 and 2.
+-- Answer and output by the definition; work is unchanged after 1 and 2; and whoever stops an honest recording, at whichever byte after its header,
+-- cannot make a tolerant import lose, alter, invent or reorder a frame.
 pub record Imports (f w : List ℕ) (channel : Channel) (tail : Tail) (out : List ℕ) (r : Imported) (w′ out′ : List ℕ) : Type 0 where
   pub meets : Meets (imported f (length w) (channelOf channel) (ruleOf tail)) out (toldImported r) out′
   pub spared : (fits f && workSuffices f (length w)) ≡ false → w′ ≡ w
+  pub cut : CutClaim f (length w) (channelOf channel) (ruleOf tail) out (toldImported r) out′
+
+imports-by : (f w : List ℕ) (channel : Channel) (tail : Tail) (out : List ℕ) (r : Imported) (w′ out′ : List ℕ) → Meets (imported f (length w) (channelOf channel) (ruleOf tail)) out (toldImported r) out′ → ((fits f && workSuffices f (length w)) ≡ false → w′ ≡ w) → Imports f w channel tail out r w′ out′
+imports-by f w channel tail out r w′ out′ m s = record { meets = m; spared = s; cut = cut-claim f (length w) (channelOf channel) (ruleOf tail) out (toldImported r) out′ m }
 
 module _ (f w : List ℕ) (channel : Channel) (tail : Tail) (out : List ℕ) where
   pub import-long : 1048576 < length f → Imports f w channel tail out FileLong w out
   unfolding imported fits
-  import-long h = record { meets = meets-refused (imported f (length w) (channelOf channel) (ruleOf tail)) out 1 [] (rw (lt-leb (length f) 1048576 h)); spared = λ e. refl }
+  import-long h = imports-by f w channel tail out FileLong w out (meets-refused (imported f (length w) (channelOf channel) (ruleOf tail)) out 1 [] (rw (lt-leb (length f) 1048576 h))) (λ e. refl)
 
   pub import-short : length f ≤ 1048576 → length w < 8 * length f → Imports f w channel tail out WorkShort w out
   unfolding imported fits workSuffices
-  import-short h g = record { meets = meets-refused (imported f (length w) (channelOf channel) (ruleOf tail)) out 2 [] (rw (le-leb (length f) 1048576 h, lt-leb (8 * length f) (length w) g)); spared = λ e. refl }
+  import-short h g = imports-by f w channel tail out WorkShort w out (meets-refused (imported f (length w) (channelOf channel) (ruleOf tail)) out 2 [] (rw (le-leb (length f) 1048576 h, lt-leb (8 * length f) (length w) g))) (λ e. refl)
 
   pub import-size : length f ≤ 1048576 → 8 * length f ≤ length w → Sized f w
   import-size h g = record { small = h; room = g }
 
   pub import-meets : length f ≤ 1048576 → 8 * length f ≤ length w → (r : Imported) (w′ out′ : List ℕ) → HeadMeets f channel tail out r out′ → Imports f w channel tail out r w′ out′
   unfolding imported fits workSuffices
-  import-meets h g r w′ out′ m = record {
-    meets = meets-as (imported f (length w) (channelOf channel) (ruleOf tail)) (given (outcome f (channelOf channel) (ruleOf tail))) out (rw (le-leb (length f) 1048576 h, le-leb (8 * length f) (length w) g)) (m .meets);
-    spared = λ e. no-way (rw (le-leb (length f) 1048576 h, le-leb (8 * length f) (length w) g)) e;
-  }
+  import-meets h g r w′ out′ m =
+      imports-by f w channel tail out r w′ out′
+      (meets-as (imported f (length w) (channelOf channel) (ruleOf tail)) (given (outcome f (channelOf channel) (ruleOf tail))) out (rw (le-leb (length f) 1048576 h, le-leb (8 * length f) (length w) g)) (m .meets))
+      (λ e. no-way (rw (le-leb (length f) 1048576 h, le-leb (8 * length f) (length w) g)) e)

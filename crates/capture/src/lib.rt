@@ -3,7 +3,7 @@ ghost use mathlib.Core.Path.{_≡_};
 ghost use Rattle.btsnoop.specs.PacketTable.{Read};
 ghost use Rattle.btsnoop.specs.Adding.{ReadPre};
 ghost use Rattle.capture.specs.Gathered.{Gathered};
-ghost use Rattle.capture.specs.Calls.{toldImported, toldAs, truncates, StrictRule, PiecesMeet, PiecesPre, Sized, ReadMeets, HeadMeets, Imports};
+ghost use Rattle.capture.specs.Calls.{toldImported, toldAs, truncates, PiecesMeet, PiecesPre, Sized, ReadMeets, HeadMeets, Imports};
 use btsnoop::read_header;
 use btsnoop::read_packets;
 use btsnoop::Header;
@@ -105,7 +105,7 @@ fn import_sized(file: &[u8], work: &mut [u8], out: &mut [u8], channel: Channel, 
 }
 
 // Imports a trace: the spans of the first DLCI, on the channel if one is given, that has a span which unpacks.
-fn import_file(file: &[u8], work: &mut [u8], out: &mut [u8], channel: Channel, tail: Tail) -> Imported
+pub fn import(file: &[u8], work: &mut [u8], out: &mut [u8], channel: Channel, tail: Tail) -> Imported
     ensures { λ r. ⌜ Imports (now (file .entry)) (now (work .entry)) channel tail (now (out .entry)) r (now (work .exit)) (now (out .exit)) ⌝ }
 {
     let n = file.len();
@@ -116,11 +116,4 @@ fn import_file(file: &[u8], work: &mut [u8], out: &mut [u8], channel: Channel, t
         return Imported::WorkShort;
     }
     import_sized(file, work, out, channel, tail)
-}
-
-// Imports a trace strictly: a record that passes the end is refused.
-pub fn import_strict(file: &[u8], work: &mut [u8], out: &mut [u8], channel: Channel) -> Imported
-    ensures { λ r. ⌜ Imports (now (file .entry)) (now (work .entry)) channel StrictRule (now (out .entry)) r (now (work .exit)) (now (out .exit)) ⌝ }
-{
-    import_file(file, work, out, channel, Tail::Strict)
 }
