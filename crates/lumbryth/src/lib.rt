@@ -4,9 +4,19 @@ ghost use mathlib.Core.Path.{_≡_};
 ghost use mathlib.Core.List.{[], _∷_};
 ghost use Prim.Native.Nat.{_≤_};
 ghost use lib.ListN.{set, take};
+ghost use Rattle.capture.specs.Calls.{toldImported, ruleOf};
+ghost use Rattle.fixtures.specs.Plan.{planOf};
+ghost use Rattle.fixtures.specs.Told.{toldPlanned};
+ghost use Rattle.items.specs.Items.{rxOf};
 ghost use Rattle.mdr.specs.Frame.{unpackOf, packOf};
 ghost use Rattle.mdr.specs.Told.{told, toldPacked};
-ghost use Rattle.lumbryth.specs.Calls.{numberOf, valuesOf, stored, Calls, Shows};
+ghost use Rattle.names.specs.Commands.{isCommandName};
+ghost use Rattle.names.specs.Names.{fixtureName};
+ghost use Rattle.names.specs.Told.{toldNamed};
+ghost use Rattle.order.specs.Order.{captureOrder, toldOrdered};
+ghost use Rattle.streams.specs.Streams.{channelOf};
+ghost use Rattle.lumbryth.specs.Calls.{numberOf, valuesOf, stored, Calls, Shows, Tells};
+ghost use Rattle.lumbryth.specs.Imports.{bit, wayOf, channelNumber, ruleNumber, ImportCalls};
 
 // An answer's number, and its values: the first count of a, b and c.
 struct Shown {
@@ -116,4 +126,195 @@ pub extern "C" fn lumbryth_pack(
     let s = shown_packed(p);
     store(values, s.count, s.a, s.b, s.c);
     s.number
+}
+
+// Which way a frame went, by number: 1 is Rx, any other Tx.
+fn direction_of(way: u8) -> items::Direction
+    ensures { λ r. ⌜ rxOf r ≡ wayOf way ⌝ }
+{
+    if way == 1 {
+        return items::Direction::Rx;
+    }
+    items::Direction::Tx
+}
+
+fn shown_named(n: names::Named) -> Shown
+    ensures { λ r. ⌜ Shows (numberOf (toldNamed n)) (valuesOf (toldNamed n)) r ⌝ }
+{
+    match n {
+        names::Named::Name(len) => show(0, 1, len as u64, 0, 0),
+        names::Named::TooShort => show(10, 0, 0, 0, 0),
+        names::Named::NoStart => show(11, 0, 0, 0, 0),
+        names::Named::NoEnd => show(12, 0, 0, 0, 0),
+        names::Named::TrailingSentry => show(13, 0, 0, 0, 0),
+        names::Named::BadEscapee(b) => show(14, 1, b as u64, 0, 0),
+        names::Named::BodyTooShort => show(15, 0, 0, 0, 0),
+        names::Named::LengthMismatch(declared, actual) => show(16, 2, declared, actual, 0),
+        names::Named::BadChecksum(declared, computed) => show(17, 2, declared as u64, computed as u64, 0),
+        names::Named::OutShort(needed) => show(7, 1, needed as u64, 0, 0),
+    }
+}
+
+fn shown_planned(p: fixtures::Planned) -> Shown
+    ensures { λ r. ⌜ Shows (numberOf (toldPlanned p)) (valuesOf (toldPlanned p)) r ⌝ }
+{
+    match p {
+        fixtures::Planned::Wrote(count, len) => show(0, 2, count as u64, len as u64, 0),
+        fixtures::Planned::SpansIll(offset) => show(19, 1, offset as u64, 0, 0),
+        fixtures::Planned::NamesIll(offset) => show(20, 1, offset as u64, 0, 0),
+        fixtures::Planned::OutShort(needed) => show(7, 1, needed as u64, 0, 0),
+    }
+}
+
+fn shown_ordered(o: order::Ordered) -> Shown
+    ensures { λ r. ⌜ Shows (numberOf (toldOrdered o)) (valuesOf (toldOrdered o)) r ⌝ }
+{
+    match o {
+        order::Ordered::Wrote(len) => show(0, 1, len as u64, 0, 0),
+        order::Ordered::IllFormed(offset) => show(20, 1, offset as u64, 0, 0),
+        order::Ordered::OutShort(needed) => show(7, 1, needed as u64, 0, 0),
+    }
+}
+
+// Writes the name of a frame's wire to the front of out; way is 1 for Rx and 2 for Tx. Value: the name's length.
+#[no_mangle]
+pub extern "C" fn lumbryth_fixture_name(
+    ms: u64,
+    counter: u32,
+    way: u8,
+    wire: &[u8],
+    out: &mut [u8],
+    values: &mut [u64],
+) -> u32
+    ensures { λ r. ⌜ Calls (fixtureName ms counter (wayOf way) (now (wire .entry))) (now (out .entry)) (now (out .exit)) (now (values .entry)) r (now (values .exit)) ⌝ }
+{
+    let direction = direction_of(way);
+    let n = names::fixture_name(ms, counter, direction, wire, out);
+    let s = shown_named(n);
+    store(values, s.count, s.a, s.b, s.c);
+    s.number
+}
+
+// 1 if either table has the name, else 0.
+#[no_mangle]
+pub extern "C" fn lumbryth_is_command_name(name: &[u8]) -> u32
+    ensures { λ r. ⌜ r ≡ bit (isCommandName (now (name .entry))) ⌝ }
+{
+    if names::is_command_name(name) {
+        return 1;
+    }
+    0
+}
+
+// Writes the plan of a list of spans, but for the excluded commands, to the front of out. Values: fixtures, bytes.
+#[no_mangle]
+pub extern "C" fn lumbryth_plan(spans: &[u8], excluded: &[u8], out: &mut [u8], values: &mut [u64]) -> u32
+    ensures { λ r. ⌜ Calls (planOf (now (spans .entry)) (now (excluded .entry))) (now (out .entry)) (now (out .exit)) (now (values .entry)) r (now (values .exit)) ⌝ }
+{
+    let p = fixtures::plan(spans, excluded, out);
+    let s = shown_planned(p);
+    store(values, s.count, s.a, s.b, s.c);
+    s.number
+}
+
+// Writes a list of names in the order of their frames to the front of out. Value: its length.
+#[no_mangle]
+pub extern "C" fn lumbryth_capture_order(names: &[u8], out: &mut [u8], values: &mut [u64]) -> u32
+    ensures { λ r. ⌜ Calls (captureOrder (now (names .entry))) (now (out .entry)) (now (out .exit)) (now (values .entry)) r (now (values .exit)) ⌝ }
+{
+    let o = order::capture_order(names, out);
+    let s = shown_ordered(o);
+    store(values, s.count, s.a, s.b, s.c);
+    s.number
+}
+
+// The channel by number: over 255 is none.
+fn channel_of(channel: u32) -> streams::Channel
+    ensures { λ r. ⌜ channelOf r ≡ channelNumber channel ⌝ }
+{
+    if channel <= 255 {
+        return streams::Channel::Only(channel as u8);
+    }
+    streams::Channel::Any
+}
+
+// The tail rule by number: 0 is strict, any other tolerant.
+fn tail_of(tolerant: u32) -> capture::Tail
+    ensures { λ r. ⌜ ruleOf r ≡ ruleNumber tolerant ⌝ }
+{
+    if tolerant == 0 {
+        return capture::Tail::Strict;
+    }
+    capture::Tail::Tolerant
+}
+
+// Stores five values, as many as there is room for.
+fn store_five(values: &mut [u64], a: u64, b: u64, c: u64, d: u64, e: u64)
+    ensures { λ _. ⌜ now (values .exit) ≡ stored (a ∷ b ∷ c ∷ d ∷ e ∷ []) (now (values .entry)) ⌝ }
+{
+    put(values, 0, a);
+    put(values, 1, b);
+    put(values, 2, c);
+    put(values, 3, d);
+    put(values, 4, e);
+}
+
+// Stores one value, if there is room, and returns the number.
+fn tell_one(number: u32, values: &mut [u64], a: u64) -> u32
+    ensures { λ r. ⌜ (r ≡ number) × (now (values .exit) ≡ stored (a ∷ []) (now (values .entry))) ⌝ }
+{
+    put(values, 0, a);
+    number
+}
+
+// Tells an answer of import.
+fn tell_import(i: capture::Imported, values: &mut [u64]) -> u32
+    ensures { λ r. ⌜ Tells (toldImported i) (now (values .entry)) r (now (values .exit)) ⌝ }
+{
+    match i {
+        capture::Imported::Spans(dlci, frames, unfinished, tail, written) => {
+            store_five(values, dlci as u64, frames as u64, unfinished as u64, tail as u64, written as u64);
+            0
+        }
+        capture::Imported::FileLong => 1,
+        capture::Imported::WorkShort => 2,
+        capture::Imported::NotBtsnoop => 3,
+        capture::Imported::Datalink(n) => tell_one(4, values, n as u64),
+        capture::Imported::Truncated(offset) => tell_one(5, values, offset as u64),
+        capture::Imported::NoStream => 6,
+        capture::Imported::OutShort(needed) => tell_one(7, values, needed as u64),
+    }
+}
+
+// Imports a trace: writes the list of the spans of one DLCI to the front of out. A channel over 255 is none; tolerant is 0
+// for the strict rule. Values: DLCI, frames, unfinished, tail offset, bytes written.
+#[no_mangle]
+pub extern "C" fn lumbryth_import(
+    file: &[u8],
+    work: &mut [u8],
+    out: &mut [u8],
+    channel: u32,
+    tolerant: u32,
+    values: &mut [u64],
+) -> u32
+    ensures { λ r. ⌜ ImportCalls (now (file .entry)) (now (work .entry)) (now (out .entry)) channel tolerant (now (values .entry)) r (now (work .exit)) (now (out .exit)) (now (values .exit)) ⌝ }
+{
+    let which = channel_of(channel);
+    let tail = tail_of(tolerant);
+    let i = capture::import(file, work, out, which, tail);
+    tell_import(i, values)
+}
+
+// Imports a trace by the strict rule.
+#[no_mangle]
+pub extern "C" fn lumbryth_import_strict(
+    file: &[u8],
+    work: &mut [u8],
+    out: &mut [u8],
+    channel: u32,
+    values: &mut [u64],
+) -> u32
+    ensures { λ r. ⌜ ImportCalls (now (file .entry)) (now (work .entry)) (now (out .entry)) channel 0 (now (values .entry)) r (now (work .exit)) (now (out .exit)) (now (values .exit)) ⌝ }
+{
+    lumbryth_import(file, work, out, channel, 0, values)
 }
