@@ -160,9 +160,6 @@ refused-by : (o : Outcome) (n : ℕ) (vs : List ℕ) → o ≡ refuses n vs → 
 refused-by o n vs e = record { number = n; values = vs; is = e; tells = refl }
 
 module _ (s : List ℕ) (n sum last : ℕ) (m : Summed (ahead s 0) n sum last) where
-  B : List ℕ
-  B = ahead s 0
-
   pub judge-short : n < 7 → Reads (judged (ahead s 0)) s (Refused BodyTooShort)
   unfolding judged
   judge-short h = record { is = refused-by _ 15 [] (rw (lt-leb 7 (length (ahead s 0)) (omega (arith, m .long)))) }

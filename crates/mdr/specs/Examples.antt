@@ -1,11 +1,12 @@
--- Document 01's examples of the refusals 10 to 17, with the values they carry.
+-- Document 01's examples of the refusals 10 to 18, with the values they carry.
 use mathlib.Core.Path.{_≡_, refl}
 use mathlib.Core.List.{[], _∷_}
+use lib.ListN.{replicate}
 use Rattle.laws.specs.Numbers.{be32}
 use Rattle.laws.specs.Answers.{refuses}
 use Rattle.mdr.specs.Sum.{checksumOf}
 use Rattle.mdr.specs.Escape.{within, escape}
-use Rattle.mdr.specs.Frame.{judged, unpackOf}
+use Rattle.mdr.specs.Frame.{packOf, judged, unpackOf}
 
 pub examples :
     (unpackOf [] ≡ refuses 10 [])
@@ -18,6 +19,10 @@ pub examples :
     × (unpackOf (0x3E ∷ 0x01 ∷ 0x00 ∷ 0x00 ∷ 0x00 ∷ 0x00 ∷ 0x00 ∷ 0x02 ∷ 0x3C ∷ []) ≡ refuses 17 (2 ∷ 1 ∷ []))
 unfolding unpackOf judged within checksumOf be32
 examples = (refl, refl, refl, refl, refl, refl, refl, refl)
+
+pub too-long : packOf 0x01 0x00 (replicate 32761 0x00) ≡ refuses 18 []
+unfolding packOf
+too-long = refl
 
 -- the three bytes that are escaped, between two that are not
 pub escapes : escape (0x3B ∷ 0x3C ∷ 0x3D ∷ 0x3E ∷ 0x3F ∷ []) ≡ 0x3B ∷ 0x3D ∷ 0x2C ∷ 0x3D ∷ 0x2D ∷ 0x3D ∷ 0x2E ∷ 0x3F ∷ []
