@@ -1,15 +1,14 @@
 -- What a look at a wire says of its name.
 use mathlib.Core.Path.{_≡_, refl, sym, ap, _∙_}
-use mathlib.Core.Bool.{Bool, true, false, cond}
 use mathlib.Core.List.{List, [], _∷_, _++_}
-use Prim.Native.Nat.{ℕ, _+_, _-_, _<_, _≤_}
+use Prim.Native.Nat.{ℕ, _-_, _<_, _≤_}
 use native.Mathlib.Omega.{arith}
 use lib.Dec.{leb, eqb}
 use lib.ListN.{length, getD, take, drop, length-drop}
 use lib.Seq.{length-take-le}
 use borrow.Author.Tests.{leb-true}
 use Rattle.laws.specs.Choice.{splitB}
-use Rattle.laws.specs.Answers.{Answer, accepted, refused, Outcome, gives, refuses, Meets, meets-refused, meets-short, meets-wrote, meets-as}
+use Rattle.laws.specs.Answers.{accepted, refused, Outcome, gives, refuses, Meets, meets-refused, meets-short, meets-wrote, meets-as}
 use Rattle.laws.specs.Stores.{Writes}
 use Rattle.mdr.specs.Escape.{unescape}
 use Rattle.mdr.specs.Frame.{lastOf, computedOf, declaredOf, payloadOf, judged, bodied, unpackOf}
@@ -18,11 +17,10 @@ use Rattle.mdr.specs.declared.Unpacked.{Unpacked}
 use Rattle.mdr.specs.declared.Unpacked.the-variants as unpacked
 use Rattle.mdr.specs.declared.Inspected.{Inspected}
 use Rattle.mdr.specs.declared.Inspected.the-variants.{Sound, Unsound}
-use Rattle.names.specs.Names.{frameName, nameLen, frameOf, lookOf, lookAt, given, named, fixtureName}
+use Rattle.names.specs.Names.{frameName, lookOf, lookAt, given, named, fixtureName}
 use Rattle.names.specs.Parts.{NameLen, length-frame-name, fixture-seen}
 use Rattle.names.specs.Told.{toldNamed, refusalOf}
 use Rattle.names.specs.declared.Frame.{Frame}
-use Rattle.names.specs.declared.Look.{Look}
 use Rattle.names.specs.declared.Look.the-variants.{Seen, Unseen}
 use Rattle.names.specs.declared.Named.{Named}
 

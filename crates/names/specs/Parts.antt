@@ -1,7 +1,6 @@
 -- The parts of a name, its length, and the name of a wire that was looked at.
-use mathlib.Core.Path.{_≡_, refl, sym, ap, _∙_}
-use mathlib.Core.Bool.{Bool, cond}
-use mathlib.Core.List.{List, [], _∷_, _++_, append-assoc}
+use mathlib.Core.Path.{_≡_}
+use mathlib.Core.List.{List, _++_, append-assoc}
 use Prim.Native.Nat.{ℕ, _+_, _<_}
 use native.Mathlib.Omega.{arith}
 use lib.Dec.{eqb}
@@ -14,8 +13,7 @@ use Rattle.names.specs.Text.{ascii}
 use Rattle.names.specs.Digits.{decimal, decimal6, hex2, length-hex}
 use Rattle.names.specs.Names.{typeName, commandName, wayName, frameName, nameLen, frameOf, lookOf, lookAt, given, named, fixtureName}
 use Rattle.names.specs.declared.Frame.{Frame}
-use Rattle.names.specs.declared.Look.{Look}
-use Rattle.names.specs.declared.Look.the-variants.{Seen, Unseen}
+use Rattle.names.specs.declared.Look.the-variants.{Seen}
 
 -- mdr-packet-<ms>-<counter>-<rx|tx>
 unfoldable pub headOf : ℕ → ℕ → ℕ → List ℕ
