@@ -1,14 +1,14 @@
 -- What the code reads at a place, and the walk of the check.
 use Prim.Native.Nat.{ℕ, suc, _+_, _-_, _<_, _≤_}
-use mathlib.Core.Path.{_≡_, refl, sym, ap, _∙_}
-use mathlib.Core.Bool.{Bool, true, false, cond}
-use mathlib.Core.List.{List, [], _∷_, _++_}
-use native.Mathlib.Nat.{zero-add, add-zero}
+use mathlib.Core.Path.{_≡_, refl, sym, _∙_}
+use mathlib.Core.Bool.{Bool, true, false}
+use mathlib.Core.List.{List, _++_}
+use native.Mathlib.Nat.{zero-add}
 use native.Mathlib.Omega.{arith}
 use lib.Dec.{leb, eqb}
 use lib.ListN.{length, take, drop}
-use borrow.Author.Tests.{leb-true, leb-false, le-leb, lt-leb, eq-eqb, ne-eqb}
-use Rattle.laws.specs.Choice.{splitB, no-way}
+use borrow.Author.Tests.{leb-true, le-leb, lt-leb, eq-eqb, ne-eqb}
+use Rattle.laws.specs.Choice.{splitB}
 use Rattle.laws.specs.Numbers.{le, le16, le32}
 use Rattle.laws.specs.Stores.{Writes, writes-then}
 use Rattle.items.specs.Items.{item, itemHead, span, spanItem, spanTest, Item, itemAt, endAt, Test, isItem, Listed, wellFormed, illFormed, more, readItems}

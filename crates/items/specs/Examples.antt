@@ -4,7 +4,7 @@ use mathlib.Core.Path.{_≡_, refl}
 use mathlib.Core.List.{List, [], _∷_, _++_}
 use lib.ListN.{length}
 use Rattle.laws.specs.Numbers.{le16, le32, le64}
-use Rattle.items.specs.Items.{item, Span, span, spanItem, spanList, nameItem, nameList, Item, itemAt, endAt, isItem, Listed, wellFormed, illFormed, passing, readItems, spanTest, spanOf, spansIn, nameTest, namesIn}
+use Rattle.items.specs.Items.{item, Span, span, spanItem, spanList, nameItem, nameList, itemAt, endAt, isItem, wellFormed, illFormed, passing, readItems, spanTest, spanOf, spansIn, nameTest, namesIn}
 
 ack : List ℕ
 ack = 0x3E ∷ 0x01 ∷ 0x00 ∷ 0x00 ∷ 0x00 ∷ 0x00 ∷ 0x00 ∷ 0x01 ∷ 0x3C ∷ []

@@ -1,18 +1,18 @@
 -- Laws of reading a list: one item after another, and back what was written.
 use Prim.Native.Nat.{ℕ, zero, suc, _+_, _-_, _*_, _/_, _%_, _<_, _≤_}
-use mathlib.Core.Path.{_≡_, refl, sym, ap, _∙_}
-use mathlib.Core.Bool.{Bool, true, false, cond, _||_}
-use mathlib.Core.List.{List, [], _∷_, _++_, map, append-assoc}
-use native.Mathlib.Nat.{add-zero, zero-add}
+use mathlib.Core.Path.{_≡_, refl, _∙_}
+use mathlib.Core.Bool.{true, false, _||_}
+use mathlib.Core.List.{List, [], _∷_, _++_, map}
+use native.Mathlib.Nat.{add-zero}
 use native.Mathlib.Omega.{arith}
-use lib.Dec.{leb, eqb, lit<}
-use lib.ListN.{length, getD, take, drop, length-append, length-drop, drop-of-length-le}
+use lib.Dec.{eqb, lit<}
+use lib.ListN.{length, drop, length-append, length-drop, drop-of-length-le}
 use lib.Seq.{drop-drop, getD-drop, drop-nil, drop-at, take-at}
 use borrow.Author.Tests.{le-leb, lt-leb, eq-eqb}
 use Rattle.laws.specs.Choice.{split≤}
 use Rattle.laws.specs.Lists.{flat, All, all-nil, all-cons}
-use Rattle.laws.specs.Numbers.{le, le16, le32, le64, length-le}
-use Rattle.items.specs.Items.{item, Span, spanItem, spanList, nameItem, nameList, Item, itemAt, endAt, Test, isItem, Listed, wellFormed, illFormed, more, mapped, passing, readItems, spanTest, spanOf, spansIn, nameTest, namesIn}
+use Rattle.laws.specs.Numbers.{le, le16, le32, le64}
+use Rattle.items.specs.Items.{item, Span, spanItem, spanList, nameItem, nameList, Item, itemAt, endAt, Test, isItem, Listed, wellFormed, illFormed, more, passing, readItems, spanTest, spanOf, spansIn, nameTest, namesIn}
 
 -- ---- the item at a place is that at the front of the list from there on
 

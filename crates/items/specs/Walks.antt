@@ -1,17 +1,17 @@
 -- Walking a list in code: what a step reads, what a check answers, and, once a list is checked, what stands at each place of it.
 use Prim.Native.Nat.{ℕ, zero, suc, _+_, _-_, _*_, _<_, _≤_}
-use mathlib.Core.Path.{_≡_, refl, sym, ap, _∙_}
-use mathlib.Core.Bool.{Bool, true, false, cond, _||_}
-use mathlib.Core.List.{List, [], _∷_, _++_, map}
-use native.Mathlib.Nat.{add-zero, zero-add, sub-zero}
+use mathlib.Core.Path.{_≡_, refl, sym, _∙_}
+use mathlib.Core.Bool.{true, cond, _||_}
+use mathlib.Core.List.{List, [], _∷_, map}
+use native.Mathlib.Nat.{sub-zero}
 use native.Mathlib.Omega.{arith}
 use lib.Dec.{leb, eqb}
-use lib.ListN.{length, getD, take, drop, length-drop, length-map}
-use lib.Seq.{drop-drop, getD-take, drop-nil, take-nil, length-take-le}
-use borrow.Author.Tests.{leb-true, leb-false, le-leb, lt-leb, eqb-true, eq-eqb}
+use lib.ListN.{length, take, drop, length-drop}
+use lib.Seq.{drop-drop, getD-take, take-nil, length-take-le}
+use borrow.Author.Tests.{leb-true, le-leb, eqb-true}
 use Rattle.laws.specs.Choice.{splitB, split≤, no-way}
 use Rattle.laws.specs.Numbers.{le16, le32, le64}
-use Rattle.items.specs.Items.{Span, span, rxOf, Item, itemAt, endAt, Test, isItem, Listed, wellFormed, illFormed, more, mapped, passing, readItems, spanTest, spanOf, spansIn, nameTest, namesIn}
+use Rattle.items.specs.Items.{Span, span, rxOf, Item, itemAt, endAt, Test, isItem, Listed, wellFormed, illFormed, more, readItems, spanTest, spanOf, spansIn, nameTest, namesIn}
 use Rattle.items.specs.Reading.{readFrom, read-good, read-bad, read-end, le32-drop}
 use Rattle.items.specs.declared.Direction.{Direction}
 use Rattle.items.specs.declared.Direction.the-variants.{Rx, Tx}

@@ -1,9 +1,9 @@
 -- Laws of writing: lengths, and lists part by part.
 use Prim.Native.Nat.{ℕ, _+_}
-use mathlib.Core.Path.{_≡_, refl, _∙_}
-use mathlib.Core.List.{List, [], _∷_, _++_, map, append-assoc}
+use mathlib.Core.Path.{_≡_, refl}
+use mathlib.Core.List.{List, [], _∷_, _++_, append-assoc}
 use native.Mathlib.Omega.{arith}
-use lib.ListN.{length, length-append}
+use lib.ListN.{length}
 use Rattle.items.specs.Items.{item, itemHead, Span, spanItem, spanList, nameItem, nameList, wireItem}
 
 pub item-split : (kind : ℕ) (body : List ℕ) → item kind body ≡ itemHead kind (length body) ++ body

@@ -1,11 +1,11 @@
 -- Digits counted and written one by one.
-use mathlib.Core.Path.{_≡_, refl, sym, ap, _∙_}
+use mathlib.Core.Path.{_≡_, refl, sym, _∙_}
 use mathlib.Core.List.{List, [], _∷_, _++_}
 use Prim.Native.Nat.{ℕ, zero, suc, _+_, _-_, _/_, _%_, _<_, _≤_}
 use native.Mathlib.Omega.{arith}
 use native.Mathlib.Numerals.{add-one}
 use lib.ListN.{length, set, take, length-set, replicate, length-replicate}
-use lib.Seq.{sets, set-comm, length-sets}
+use lib.Seq.{sets, set-comm}
 use Rattle.laws.specs.Stores.{Writes, writes-then, sets-append}
 use Rattle.names.specs.Digits.{hexDigit, hex2, decimal, decimal6, DigitCount, decimal-small, decimal-more, length-small, length-more, decimal-some, decimal-few}
 

@@ -1,15 +1,14 @@
 -- What a look at a wire says of its name.
 use mathlib.Core.Path.{_≡_, refl, sym, ap, _∙_}
-use mathlib.Core.Bool.{Bool, true, false, cond}
 use mathlib.Core.List.{List, [], _∷_, _++_}
-use Prim.Native.Nat.{ℕ, _+_, _-_, _<_, _≤_}
+use Prim.Native.Nat.{ℕ, _-_, _<_, _≤_}
 use native.Mathlib.Omega.{arith}
 use lib.Dec.{leb, eqb}
 use lib.ListN.{length, getD, take, drop, length-drop}
 use lib.Seq.{length-take-le}
 use borrow.Author.Tests.{leb-true}
 use Rattle.laws.specs.Choice.{splitB}
-use Rattle.laws.specs.Answers.{Answer, accepted, refused, Outcome, gives, refuses, Meets, meets-refused, meets-short, meets-wrote, meets-as}
+use Rattle.laws.specs.Answers.{accepted, refused, Outcome, gives, refuses, Meets, meets-refused, meets-short, meets-wrote, meets-as}
 use Rattle.laws.specs.Stores.{Writes}
 use Rattle.mdr.specs.Escape.{unescape}
 use Rattle.mdr.specs.Frame.{lastOf, computedOf, declaredOf, payloadOf, judged, bodied, unpackOf}
@@ -18,10 +17,11 @@ use Rattle.mdr.specs.declared.Unpacked.{Unpacked}
 use Rattle.mdr.specs.declared.Unpacked.the-variants as unpacked
 use Rattle.mdr.specs.declared.Inspected.{Inspected}
 use Rattle.mdr.specs.declared.Inspected.the-variants.{Sound, Unsound}
-use Rattle.names.specs.Names.{frameName, nameLen, frameOf, given, named, fixtureName}
-use Rattle.names.specs.Parts.{NameLen, length-frame-name}
+use Rattle.names.specs.Names.{frameName, lookOf, lookAt, given, named, fixtureName}
+use Rattle.names.specs.Parts.{NameLen, length-frame-name, fixture-seen}
 use Rattle.names.specs.Told.{toldNamed, refusalOf}
 use Rattle.names.specs.declared.Frame.{Frame}
+use Rattle.names.specs.declared.Look.the-variants.{Seen, Unseen}
 use Rattle.names.specs.declared.Named.{Named}
 
 -- ---- unpacking gives three values, the last of them the payload's length
@@ -93,33 +93,52 @@ told-refusal (unpacked.LengthMismatch x y) n vs e = e
 told-refusal (unpacked.BadChecksum x y) n vs e = e
 told-refusal (unpacked.OutShort x) n vs e = e
 
-module _ (ms counter rx : ℕ) (d : List ℕ) where
-  refused-by : (u : Unpacked) (o : Outcome) → ((vs p : List ℕ) → o ≡ gives vs p → Three vs p) → told u ≡ glance o → Meets (named ms counter rx o) d (toldNamed (refusalOf u)) d
-  unfolding glance
-  refused-by u (gives vs p) three e =
-      let q : told u ≡ accepted (getD vs 0 0 ∷ getD vs 1 0 ∷ length p ∷ getD p 0 0 ∷ []) = e ∙ ap (λ (l : List ℕ). accepted (l ++ (getD p 0 0 ∷ []))) (three vs p refl .is) in
-      no-three u (getD vs 0 0) (getD vs 1 0) (length p) (getD p 0 0) q
-  refused-by u (refuses n vs) three e = rw (told-refusal u n vs e) (meets-refused (refuses n vs) d n vs refl)
+-- ---- what a look at a wire answers, of any outcome with three values
 
-  named-by : (t q n b : ℕ) (o : Outcome) → ((vs p : List ℕ) → o ≡ gives vs p → Three vs p) → accepted (t ∷ q ∷ n ∷ b ∷ []) ≡ glance o → named ms counter rx o ≡ given (frameName ms counter rx (record { kind = t; seq = q; size = n; first = b }))
+module _ (o : Outcome) (three : (vs p : List ℕ) → o ≡ gives vs p → Three vs p) where
+  four : (vs p : List ℕ) → o ≡ gives vs p → glance o ≡ accepted (getD vs 0 0 ∷ getD vs 1 0 ∷ length p ∷ getD p 0 0 ∷ [])
   unfolding glance
-  named-by t q n b (gives vs p) three e =
-      let r : accepted (t ∷ q ∷ n ∷ b ∷ []) ≡ accepted (getD vs 0 0 ∷ getD vs 1 0 ∷ length p ∷ getD p 0 0 ∷ []) = e ∙ ap (λ (l : List ℕ). accepted (l ++ (getD p 0 0 ∷ []))) (three vs p refl .is) in
-      let x : getD vs 0 0 ≡ t = cc in
-      let y : getD vs 1 0 ≡ q = cc in
-      let z : length p ≡ n = cc in
-      let w : getD p 0 0 ≡ b = cc in
-      rw (x, y, z, w)
-  named-by t q n b (refuses m vs) three e = let z : _≡_ {A = ℕ} 0 1 = cc in absurd (omega arith)
+  four vs p e = rw e (ap (λ (l : List ℕ). accepted (l ++ (getD p 0 0 ∷ []))) (three vs p e .is))
 
-  module _ (wire : List ℕ) (x : Inspected) (i : toldInspected x ≡ glance (unpackOf wire)) where
+seen-by : (t q n b : ℕ) (o : Outcome) → ((vs p : List ℕ) → o ≡ gives vs p → Three vs p) → accepted (t ∷ q ∷ n ∷ b ∷ []) ≡ glance o → lookOf o ≡ Seen (record { kind = t; seq = q; size = n; first = b })
+unfolding glance
+seen-by t q n b (gives vs p) three e =
+    let r : accepted (t ∷ q ∷ n ∷ b ∷ []) ≡ accepted (getD vs 0 0 ∷ getD vs 1 0 ∷ length p ∷ getD p 0 0 ∷ []) = e ∙ four (gives vs p) three vs p refl in
+    let x : getD vs 0 0 ≡ t = cc in
+    let y : getD vs 1 0 ≡ q = cc in
+    let z : length p ≡ n = cc in
+    let w : getD p 0 0 ≡ b = cc in
+    rw (x, y, z, w)
+seen-by t q n b (refuses m vs) three e = let z : _≡_ {A = ℕ} 0 1 = cc in absurd (omega arith)
+
+unseen-by : (u : Unpacked) (o : Outcome) → ((vs p : List ℕ) → o ≡ gives vs p → Three vs p) → told u ≡ glance o → lookOf o ≡ Unseen
+unfolding glance
+unseen-by u (gives vs p) three e = no-three u (getD vs 0 0) (getD vs 1 0) (length p) (getD p 0 0) (e ∙ four (gives vs p) three vs p refl)
+unseen-by u (refuses n vs) three e = refl
+
+refused-by : (ms counter rx : ℕ) (d : List ℕ) (u : Unpacked) (o : Outcome) → lookOf o ≡ Unseen → told u ≡ glance o → Meets (named ms counter rx o) d (toldNamed (refusalOf u)) d
+unfolding glance
+refused-by ms counter rx d u (gives vs p) l e = let z : _≡_ {A = ℕ} 0 1 = cc in absurd (omega arith)
+refused-by ms counter rx d u (refuses n vs) l e = rw (told-refusal u n vs e) (meets-refused (refuses n vs) d n vs refl)
+
+module _ (wire : List ℕ) (x : Inspected) (i : toldInspected x ≡ glance (unpackOf wire)) where
+  pub look-sound : (t q n b : ℕ) → x ≡ Sound t q n b → Seen (record { kind = t; seq = q; size = n; first = b }) ≡ lookAt wire
+  unfolding lookAt
+  look-sound t q n b e = sym (seen-by t q n b (unpackOf wire) (unpacked-three wire) (rw e at i))
+
+  pub look-unsound : (u : Unpacked) → x ≡ Unsound u → Unseen ≡ lookAt wire
+  unfolding lookAt
+  look-unsound u e = sym (unseen-by u (unpackOf wire) (unpacked-three wire) (rw e at i))
+
+  module _ (ms counter rx : ℕ) (d : List ℕ) where
     pub unsound : (u : Unpacked) (r : Named) → x ≡ Unsound u → r ≡ refusalOf u → Meets (fixtureName ms counter rx wire) d (toldNamed r) d
     unfolding fixtureName
-    unsound u r e q = rw q (refused-by u (unpackOf wire) (unpacked-three wire) (rw e at i))
+    unsound u r e q =
+        let j : told u ≡ glance (unpackOf wire) = rw e at i in
+        rw q (refused-by ms counter rx d u (unpackOf wire) (unseen-by u (unpackOf wire) (unpacked-three wire) j) j)
 
     pub sound : (t q n b : ℕ) (a : Named) (e : List ℕ) → x ≡ Sound t q n b → Meets (given (frameName ms counter rx (record { kind = t; seq = q; size = n; first = b }))) d (toldNamed a) e → Meets (fixtureName ms counter rx wire) d (toldNamed a) e
-    unfolding fixtureName
-    sound t q n b a e p m = meets-as _ _ d (named-by t q n b (unpackOf wire) (unpacked-three wire) (rw p at i)) m
+    sound t q n b a e p m = meets-as _ _ d (fixture-seen ms counter rx wire _ (sym (look-sound t q n b p))) m
 
 -- ---- the output's length, and the name
 

@@ -1,9 +1,8 @@
 -- Where each name stands in the run of letters.
 use mathlib.Core.Path.{_≡_, refl, sym, ap, _∙_}
-use mathlib.Core.Bool.{Bool, true, false, cond}
+use mathlib.Core.Bool.{Bool, true}
 use mathlib.Core.List.{List, [], _∷_, _++_, map, append-assoc}
 use Prim.Native.Nat.{ℕ, zero, suc, _+_, _-_, _<_, _≤_}
-use native.Mathlib.Nat.{add-zero}
 use native.Mathlib.Omega.{arith}
 use lib.Dec.{leb}
 use lib.ListN.{length, getD, take, drop, length-append, length-drop, length-map}
@@ -13,9 +12,9 @@ use Rattle.laws.specs.Choice.{splitB, no-way}
 use Rattle.laws.specs.Keys.{eqK}
 use Rattle.laws.specs.Lists.{flat}
 use Rattle.laws.specs.Stores.{Writes}
-use Rattle.names.specs.Commands.{Entry, t1, t2, nameIn}
+use Rattle.names.specs.Commands.{t1, t2}
 use Rattle.names.specs.Names.{typeName}
-use Rattle.names.specs.Run.{codesOf, namesOf, allCodes, commands, others, allNames, allLetters, allStarts, allLens, startsFrom, nameAt, inside, PlaceIs, Tables}
+use Rattle.names.specs.Run.{commands, others, allNames, allLetters, allStarts, allLens, startsFrom, nameAt, inside, PlaceIs, Tables}
 use Rattle.names.specs.declared.Place.{Place}
 
 -- ---- the letters from a start on, as many as the length, are the name

@@ -1,13 +1,13 @@
 -- Searching a table's codes, and comparing names.
-use mathlib.Core.Path.{_≡_, refl, sym, ap, _∙_}
+use mathlib.Core.Path.{_≡_, refl, sym, _∙_}
 use mathlib.Core.Bool.{Bool, true, false, cond}
 use mathlib.Core.List.{List, [], _∷_, _++_, map}
 use Prim.Native.Nat.{ℕ, zero, suc, _+_, _-_, _/_, _<_, _≤_}
 use native.Mathlib.Omega.{arith}
 use native.Mathlib.Numerals.{add-one}
 use lib.Dec.{ltb, eqb, lit<, lit≤}
-use lib.ListN.{length, getD, take, drop, length-append, List·getD-append, drop-of-length-le}
-use lib.Seq.{take-at, drop-at, getD-append-add, drop-cons}
+use lib.ListN.{length, getD, take, drop, List·getD-append, drop-of-length-le}
+use lib.Seq.{getD-append-add, drop-cons}
 use borrow.Author.Tests.{ltb-true, eq-eqb, ne-eqb, lt-ltb, le-ltb}
 use Rattle.laws.specs.Choice.{splitB, split≡, split≤, no-way}
 use Rattle.laws.specs.Keys.{eqK}

@@ -2,10 +2,9 @@
 use Prim.Native.Nat.{ℕ}
 use Prim.Native.String.{String}
 use mathlib.Core.Path.{_≡_, refl}
-use mathlib.Core.Bool.{Bool, true, false}
+use mathlib.Core.Bool.{true, false}
 use mathlib.Core.List.{List, [], _∷_}
-use lib.ListN.{length}
-use Rattle.laws.specs.Answers.{Outcome, gives, refuses}
+use Rattle.laws.specs.Answers.{Outcome, refuses}
 use Rattle.laws.specs.Keys.{eqK}
 use Rattle.laws.specs.Numbers.{be32}
 use Rattle.mdr.specs.Sum.{checksumOf}

@@ -1,5 +1,5 @@
 -- The name of a fixture: mdr-packet-<ms>-<counter>-<rx|tx>.type-<NAME>-<hex>.seq-<hex>.cmd-<NAME>-<hex>.bin
-use mathlib.Core.Bool.{Bool, cond}
+use mathlib.Core.Bool.{cond}
 use mathlib.Core.List.{List, [], _∷_, _++_}
 use Prim.Native.Nat.{ℕ, _+_}
 use lib.Dec.{eqb}
@@ -13,6 +13,8 @@ use Rattle.names.specs.Text.{ascii}
 use Rattle.names.specs.Digits.{decimal, decimal6, hex2}
 use Rattle.names.specs.Commands.{Entry, t1, t2, nameIn}
 use Rattle.names.specs.declared.Frame.{Frame}
+use Rattle.names.specs.declared.Look.{Look}
+use Rattle.names.specs.declared.Look.the-variants.{Seen, Unseen}
 
 -- sixteen cases: fifteen values and the rest
 unfoldable pub typeName : DataType → List ℕ
@@ -61,6 +63,14 @@ nameLen ms counter f = 43 + length (decimal ms) + length (decimal6 counter) + le
 -- the frame that unpacking gives: its first two values are type and sequence number
 abbrev pub frameOf : List ℕ → List ℕ → Frame
 frameOf values payload = record { kind = getD values 0 0; seq = getD values 1 0; size = length payload; first = getD payload 0 0 }
+
+-- what a look at a wire sees: the frame that unpacking gives, or none
+abbrev pub lookOf : Outcome → Look
+lookOf (gives values payload) = Seen (frameOf values payload)
+lookOf (refuses n values) = Unseen
+
+unfoldable pub lookAt : List ℕ → Look
+lookAt wire = lookOf (unpackOf wire)
 
 -- a name, with its length as the answer
 abbrev pub given : List ℕ → Outcome

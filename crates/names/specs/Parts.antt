@@ -1,17 +1,19 @@
--- The parts of a name, and its length.
-use mathlib.Core.Path.{_≡_, refl, sym, ap, _∙_}
-use mathlib.Core.Bool.{Bool, cond}
-use mathlib.Core.List.{List, [], _∷_, _++_, append-assoc}
+-- The parts of a name, its length, and the name of a wire that was looked at.
+use mathlib.Core.Path.{_≡_}
+use mathlib.Core.List.{List, _++_, append-assoc}
 use Prim.Native.Nat.{ℕ, _+_, _<_}
 use native.Mathlib.Omega.{arith}
 use lib.Dec.{eqb}
 use lib.ListN.{length, length-append}
 use Rattle.laws.specs.Choice.{splitB}
+use Rattle.laws.specs.Answers.{Outcome, gives, refuses}
 use Rattle.mdr.specs.Types.{typeOf}
+use Rattle.mdr.specs.Frame.{unpackOf}
 use Rattle.names.specs.Text.{ascii}
 use Rattle.names.specs.Digits.{decimal, decimal6, hex2, length-hex}
-use Rattle.names.specs.Names.{typeName, commandName, wayName, frameName, nameLen}
+use Rattle.names.specs.Names.{typeName, commandName, wayName, frameName, nameLen, frameOf, lookOf, lookAt, given, named, fixtureName}
 use Rattle.names.specs.declared.Frame.{Frame}
+use Rattle.names.specs.declared.Look.the-variants.{Seen}
 
 -- mdr-packet-<ms>-<counter>-<rx|tx>
 unfoldable pub headOf : ℕ → ℕ → ℕ → List ℕ
@@ -85,3 +87,13 @@ length-frame-name ms counter rx f = simp length-append (omega (arith, length-way
 pub record NameLen (ms counter : ℕ) (f : Frame) (r : ℕ) : Type 0 where
   pub is : r ≡ nameLen ms counter f
   pub small : r < 10000
+
+-- ---- naming a wire that was looked at
+
+fixture-named : (ms counter rx : ℕ) (o : Outcome) (f : Frame) → lookOf o ≡ Seen f → named ms counter rx o ≡ given (frameName ms counter rx f)
+fixture-named ms counter rx (gives values payload) f e = let q : frameOf values payload ≡ f = cc in rw q
+fixture-named ms counter rx (refuses n values) f e = let z : _≡_ {A = ℕ} 0 1 = cc in absurd (omega arith)
+
+pub fixture-seen : (ms counter rx : ℕ) (wire : List ℕ) (f : Frame) → lookAt wire ≡ Seen f → fixtureName ms counter rx wire ≡ given (frameName ms counter rx f)
+unfolding fixtureName lookAt
+fixture-seen ms counter rx wire f e = fixture-named ms counter rx (unpackOf wire) f e

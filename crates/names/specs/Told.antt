@@ -1,5 +1,5 @@
 -- For each case of naming's answer document 01's number and the values it carries.
-use mathlib.Core.List.{List, [], _∷_}
+use mathlib.Core.List.{[], _∷_}
 use Rattle.laws.specs.Answers.{Answer, accepted, refused}
 use Rattle.mdr.specs.declared.Unpacked.{Unpacked}
 use Rattle.mdr.specs.declared.Unpacked.the-variants as unpacked

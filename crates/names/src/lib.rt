@@ -12,7 +12,7 @@ ghost use Rattle.laws.specs.Answers.{Meets};
 ghost use Rattle.laws.specs.Stores.{Writes};
 ghost use Rattle.names.specs.Run.{allLetters, allStarts, allLens, allCodes, nameAt, Spot, PlaceIs, Tables, rising, indexIn, spotIn, entriesOf};
 ghost use Rattle.names.specs.Commands.{nameIn, isCommandName};
-ghost use Rattle.names.specs.Names.{typeName, tableOf, commandName, wayName, frameName, nameLen, given, fixtureName};
+ghost use Rattle.names.specs.Names.{typeName, tableOf, commandName, wayName, frameName, nameLen, given, lookAt, fixtureName};
 ghost use Rattle.names.specs.Told.{toldNamed, refusalOf};
 ghost use Rattle.names.specs.Parts.{headOf, headLen, partOf, partLen, typePart, typeLen, seqPart, commandPart, commandLen, NameLen};
 ghost use Rattle.items.specs.Items.{rxOf};
@@ -25,6 +25,12 @@ pub struct Frame {
     pub seq: u8,
     pub size: usize,
     pub first: u8,
+}
+
+// What a look at a wire sees.
+pub enum Look {
+    Seen(Frame),
+    Unseen,
 }
 
 // ---- all names in one run of letters: those of table 1, of table 2, of the types, UNKNOWN and NO_COMMAND
@@ -795,6 +801,22 @@ fn name_frame(ms: u64, counter: u32, direction: Direction, f: Frame, out: &mut [
     }
     put_frame_name(out, 0, ms, counter, direction, f);
     Named::Name(needed)
+}
+
+// The frame of a wire, if it unpacks.
+pub fn look_at(wire: &[u8]) -> Look
+    ensures { λ r. ⌜ r ≡ lookAt (now (wire .entry)) ⌝ }
+{
+    let x = mdr::inspect(wire);
+    match x {
+        Inspected::Unsound(_) => Look::Unseen,
+        Inspected::Sound(kind, seq, size, first) => Look::Seen(Frame {
+            kind: kind,
+            seq: seq,
+            size: size,
+            first: first,
+        }),
+    }
 }
 
 // Writes the name of a frame's wire to the front of out.

@@ -1,33 +1,25 @@
 use Rattle.items.proofs.Steps.{span-short, span-rx, span-tx}
-use Rattle.items.specs.Items.{spanTest, nameTest}
+use Rattle.items.specs.Items.{nameTest}
 use native.Mathlib.Omega.{arith}
 use borrow.Author.Needs.{needs}
 use Rattle.items.proofs.allowed.Statement.{statement}
 use Rattle.items.proofs.allowed.Tie as tie
-use Rattle.items.proofs.allowed.Reads as reads
-use Rattle.items.proofs.allowed.Lts as lts
 
--- src/lib.rt:77:16
 enum-told : tie.Need-enum-told
 enum-told c = search needs
 
--- src/lib.rt:78:17
 returns : tie.Need-returns
 returns c = rw (c .before .enum-told .given .1) (span-short _ _ (omega arith))
 
--- src/lib.rt:81:17
 returns-2 : tie.Need-returns-2
 returns-2 c = rw (c .before .before .enum-told .given .1) (span-rx _ _ (omega arith) (search needs))
 
--- src/lib.rt:85:27
 enum-told-2 : tie.Need-enum-told-2
 enum-told-2 c = search needs
 
--- src/lib.rt:72:1
 returns-3 : tie.Need-returns-3
 returns-3 c = rw (c .before .before .enum-told .given .1) (span-tx _ _ (omega arith) (search needs))
 
--- src/lib.rt:72:1
 returns-4 : tie.Need-returns-4
 unfolding nameTest
 returns-4 c = rw (c .enum-told2 .given .1)

@@ -1,55 +1,38 @@
 use Rattle.items.proofs.Steps.{step-end, step-short, step-passes, step-whole}
-use native.Mathlib.Omega.{arith}
 use borrow.Author.Needs.{needs}
 use Rattle.items.proofs.item_at.Statement.{statement}
 use Rattle.items.proofs.item_at.Tie as tie
-use Rattle.items.proofs.item_at.Reads as reads
-use Rattle.items.proofs.item_at.Lts as lts
-use Rattle.words.proofs.get_le16.Reads as get-le16-reads
-use Rattle.words.proofs.get_le32.Reads as get-le32-reads
-use Rattle.words.proofs.wide32.Reads as wide32-reads
 
--- src/lib.rt:57:9
 returns : tie.Need-returns
 returns c = search step-end
 
--- src/lib.rt:59:16
 sub-left : tie.Need-sub-left
 sub-left c = search needs
 
--- src/lib.rt:61:9
 returns-2 : tie.Need-returns-2
 returns-2 c = search step-short
 
--- src/lib.rt:63:30
 get-le32-requires : tie.Need-get-le32-requires
 get-le32-requires c κs = search needs
 
--- src/lib.rt:63:9
 wide32-requires : tie.Need-wide32-requires
 wide32-requires c κs = search needs
 
--- src/lib.rt:65:9
 returns-3 : tie.Need-returns-3
 returns-3 c = search step-passes
 
--- src/lib.rt:67:17
 add-start : tie.Need-add-start
 add-start c = search needs
 
--- src/lib.rt:68:39
 add-get-le16 : tie.Need-add-get-le16
 add-get-le16 c = search needs
 
--- src/lib.rt:68:17
 get-le16-requires : tie.Need-get-le16-requires
 get-le16-requires c κs = search needs
 
--- src/lib.rt:68:55
 add-t10 : tie.Need-add-t10
 add-t10 c = search needs
 
--- src/lib.rt:53:1
 returns-4 : tie.Need-returns-4
 returns-4 c = step-whole _ _ _ _ _ (c .before .before .before .before .before .if1 .left) (c .before .before .before .before .if2 .left) (c .before .before .before .get-le32 .ensures) (c .before .before .wide32 .ensures) (c .before .if3 .left) (c .get-le16 .ensures)
 

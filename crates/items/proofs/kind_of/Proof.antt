@@ -1,26 +1,19 @@
 use mathlib.Core.Path.{refl}
 use Rattle.items.specs.Items.{rxOf}
-use native.Mathlib.Omega.{arith}
 use borrow.Author.Needs.{needs}
 use Rattle.items.proofs.kind_of.Statement.{statement}
 use Rattle.items.proofs.kind_of.Tie as tie
-use Rattle.items.proofs.kind_of.Reads as reads
-use Rattle.items.proofs.kind_of.Lts as lts
 
--- src/lib.rt:197:26
 enum-told : tie.Need-enum-told
 enum-told c = search needs
 
--- src/lib.rt:198:26
 enum-told-2 : tie.Need-enum-told-2
 enum-told-2 c = search needs
 
--- src/lib.rt:193:1
 returns : tie.Need-returns
 unfolding rxOf
 returns c = rw (c .enum-told .given .1) refl
 
--- src/lib.rt:193:1
 returns-2 : tie.Need-returns-2
 unfolding rxOf
 returns-2 c = rw (c .enum-told2 .given .1) refl

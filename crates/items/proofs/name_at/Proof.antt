@@ -3,32 +3,22 @@ use native.Mathlib.Omega.{arith}
 use borrow.Author.Needs.{needs}
 use Rattle.items.proofs.name_at.Statement.{statement}
 use Rattle.items.proofs.name_at.Tie as tie
-use Rattle.items.proofs.name_at.Reads as reads
-use Rattle.items.proofs.name_at.Lts as lts
-use Rattle.words.proofs.get_le32.Reads as get-le32-reads
-use Rattle.words.proofs.wide32.Reads as wide32-reads
 
--- src/lib.rt:166:30
 get-le32-requires : tie.Need-get-le32-requires
 get-le32-requires c κs = omega (arith, name-room _ _ (c .before .pre .0) (c .before .pre .1))
 
--- src/lib.rt:166:9
 wide32-requires : tie.Need-wide32-requires
 wide32-requires c κs = search needs
 
--- src/lib.rt:168:16
 add-t5 : tie.Need-add-t5
 add-t5 c = search needs
 
--- src/lib.rt:169:14
 add-t6 : tie.Need-add-t6
 add-t6 c = search needs
 
--- src/lib.rt:169:14
 add-t7 : tie.Need-add-t7
 add-t7 c = search needs
 
--- src/lib.rt:161:1
 returns : tie.Need-returns
 returns c = search name-is
 

@@ -2,14 +2,9 @@ use Rattle.names.specs.Run.{allLetters, allNames, commands, others}
 use Rattle.names.specs.Names.{typeName}
 use Rattle.names.specs.Commands.{t1, t2}
 use mathlib.Core.Path.{refl}
-use borrow.Author.Needs.{needs}
-use native.Mathlib.Omega.{arith}
 use Rattle.names.proofs.all_letters.Statement.{statement}
 use Rattle.names.proofs.all_letters.Tie as tie
-use Rattle.names.proofs.all_letters.Reads as reads
-use Rattle.names.proofs.all_letters.Lts as lts
 
--- src/lib.rt:998:1
 returns : tie.Need-returns
 unfolding allLetters allNames commands others typeName t1 t2
 returns c = refl

@@ -1,43 +1,31 @@
 use Rattle.names.proofs.Searching.{rising1, rising2, spot1, spot2, unknown-spot}
 use Rattle.names.specs.Commands.{nameIn}
 use lib.Dec.{lit≤}
-use native.Mathlib.Omega.{arith}
 use borrow.Author.Needs.{needs}
 use Rattle.names.proofs.command_in.Statement.{statement}
 use Rattle.names.proofs.command_in.Tie as tie
-use Rattle.names.proofs.command_in.Reads as reads
-use Rattle.names.proofs.command_in.Lts as lts
-use Rattle.names.proofs.find_in.Reads as find-in-reads
 
--- src/lib.rt:510:23
 enum-told : tie.Need-enum-told
 enum-told c = search needs
 
--- src/lib.rt:510:23
 find-in-requires : tie.Need-find-in-requires
 find-in-requires c κs = (lit≤ tt, rising1)
 
--- src/lib.rt:511:23
 enum-told-2 : tie.Need-enum-told-2
 enum-told-2 c = search needs
 
--- src/lib.rt:511:23
 find-in-requires-2 : tie.Need-find-in-requires-2
 find-in-requires-2 c κs = (lit≤ tt, rising2)
 
--- src/lib.rt:512:27
 enum-told-3 : tie.Need-enum-told-3
 enum-told-3 c = search needs
 
--- src/lib.rt:506:1
 returns : tie.Need-returns
 returns c = rw (c .before .enum-told .given .1) (search spot1)
 
--- src/lib.rt:506:1
 returns-2 : tie.Need-returns-2
 returns-2 c = rw (c .before .enum-told2 .given .1) (search spot2)
 
--- src/lib.rt:506:1
 returns-3 : tie.Need-returns-3
 unfolding nameIn
 returns-3 c = rw (c .enum-told3 .given .1) unknown-spot

@@ -1,11 +1,8 @@
 use Prim.Native.Nat.{_-_}
 use Rattle.names.proofs.Searching.{Searching, searching-start, searching-up, searching-down, searching-found, searching-other, searching-past}
 use borrow.Author.Needs.{needs}
-use native.Mathlib.Omega.{arith}
 use Rattle.names.proofs.find.Statement.{statement}
 use Rattle.names.proofs.find.Tie as tie
-use Rattle.names.proofs.find.Reads as reads
-use Rattle.names.proofs.find.Lts as lts
 
 abbrev Inv-loop : tie.InvT-loop
 Inv-loop codes b lo₀ hi₀ lo hi = Searching codes b lo hi
@@ -13,55 +10,42 @@ Inv-loop codes b lo₀ hi₀ lo hi = Searching codes b lo hi
 abbrev μ-loop : tie.MeasureT-loop
 μ-loop codes b lo₀ hi₀ lo hi = hi - lo
 
--- src/lib.rt:457:5
 loop-holds : tie.Need-loop-holds Inv-loop μ-loop
 loop-holds c = search searching-start
 
--- src/lib.rt:458:25
 sub-mid : tie.Need-sub-mid Inv-loop μ-loop
 sub-mid c = search needs
 
--- src/lib.rt:458:19
 add-mid : tie.Need-add-mid Inv-loop μ-loop
 add-mid c = search needs
 
--- src/lib.rt:459:12
 shared-slice-read-if1 : tie.Need-shared-slice-read-if1 Inv-loop μ-loop
 shared-slice-read-if1 c = search needs
 
--- src/lib.rt:460:18
 add-lo : tie.Need-add-lo Inv-loop μ-loop
 add-lo c = search needs
 
--- src/lib.rt:457:5
 loop-less : tie.Need-loop-less Inv-loop μ-loop
 loop-less c = search needs
 
--- src/lib.rt:457:5
 loop-again : tie.Need-loop-again Inv-loop μ-loop
 loop-again c = search searching-up
 
--- src/lib.rt:457:5
 loop-less-2 : tie.Need-loop-less-2 Inv-loop μ-loop
 loop-less-2 c = search needs
 
--- src/lib.rt:457:5
 loop-again-2 : tie.Need-loop-again-2 Inv-loop μ-loop
 loop-again-2 c = search searching-down
 
--- src/lib.rt:466:12
 shared-slice-read-if3 : tie.Need-shared-slice-read-if3 Inv-loop μ-loop
 shared-slice-read-if3 c = search needs
 
--- src/lib.rt:467:13
 returns : tie.Need-returns Inv-loop μ-loop
 returns c = search searching-found
 
--- src/lib.rt:451:1
 returns-2 : tie.Need-returns-2 Inv-loop μ-loop
 returns-2 c = search searching-other
 
--- src/lib.rt:451:1
 returns-3 : tie.Need-returns-3 Inv-loop μ-loop
 returns-3 c = search searching-past
 

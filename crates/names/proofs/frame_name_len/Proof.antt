@@ -1,70 +1,47 @@
 use Rattle.names.proofs.Writing.{name-length}
-use native.Mathlib.Omega.{arith}
 use borrow.Author.Needs.{needs}
 use Rattle.names.proofs.frame_name_len.Statement.{statement}
 use Rattle.names.proofs.frame_name_len.Tie as tie
-use Rattle.names.proofs.frame_name_len.Reads as reads
-use Rattle.names.proofs.frame_name_len.Lts as lts
-use Rattle.mdr.proofs.from_wire.Reads as from-wire-reads
-use Rattle.names.proofs.command_name.Reads as command-name-reads
-use Rattle.names.proofs.data_type_name.Reads as data-type-name-reads
-use Rattle.names.proofs.decimal_len.Reads as decimal-len-reads
-use Rattle.names.proofs.missing.Reads as missing-reads
-use Rattle.names.proofs.name_len.Reads as name-len-reads
 
--- src/lib.rt:756:28
 from-wire-requires : tie.Need-from-wire-requires
 from-wire-requires c κs = search needs
 
--- src/lib.rt:756:9
 data-type-name-requires : tie.Need-data-type-name-requires
 data-type-name-requires c κs = search needs
 
--- src/lib.rt:757:9
 command-name-requires : tie.Need-command-name-requires
 command-name-requires c κs = search needs
 
--- src/lib.rt:758:9
 decimal-len-requires : tie.Need-decimal-len-requires
 decimal-len-requires c κs = search needs
 
--- src/lib.rt:759:10
 decimal-len-requires-2 : tie.Need-decimal-len-requires-2
 decimal-len-requires-2 c κs = search needs
 
--- src/lib.rt:759:5
 add-result : tie.Need-add-result
 add-result c = search needs
 
--- src/lib.rt:759:28
 missing-requires : tie.Need-missing-requires
 missing-requires c κs = search needs
 
--- src/lib.rt:759:5
 add-result-2 : tie.Need-add-result-2
 add-result-2 c = search needs
 
--- src/lib.rt:759:5
 add-result-3 : tie.Need-add-result-3
 add-result-3 c = search needs
 
--- src/lib.rt:759:45
 name-len-requires : tie.Need-name-len-requires
 name-len-requires c κs = search needs
 
--- src/lib.rt:759:5
 add-result-4 : tie.Need-add-result-4
 add-result-4 c = search needs
 
--- src/lib.rt:759:59
 name-len-requires-2 : tie.Need-name-len-requires-2
 name-len-requires-2 c κs = search needs
 
--- src/lib.rt:759:5
 add-result-5 : tie.Need-add-result-5
 add-result-5 c = search needs
 
--- src/lib.rt:753:1
 returns : tie.Need-returns
 returns c = name-length _ _ _ _ _ _ _ _ _ _ _ (c .before .before .before .before .before .before .before .from-wire .ensures) (c .before .before .before .before .before .before .data-type-name .ensures) (c .before .before .before .before .before .command-name .ensures) (c .before .before .before .before .decimal-len .ensures) (c .before .before .before .decimal-len2 .ensures) (c .before .before .missing .ensures) (c .before .name-len .ensures) (c .name-len2 .ensures)
 

@@ -1,26 +1,19 @@
 use Rattle.names.specs.Digits.{hexDigit}
 use borrow.Author.Tests.{lt-ltb, le-ltb}
-use native.Mathlib.Omega.{arith}
 use borrow.Author.Needs.{needs}
 use Rattle.names.proofs.hex_digit.Statement.{statement}
 use Rattle.names.proofs.hex_digit.Tie as tie
-use Rattle.names.proofs.hex_digit.Reads as reads
-use Rattle.names.proofs.hex_digit.Lts as lts
 
--- src/lib.rt:15:16
 add-result : tie.Need-add-result
 add-result c = search needs
 
--- src/lib.rt:15:9
 returns : tie.Need-returns
 unfolding hexDigit
 returns c = rw (lt-ltb _ _ (c .if1 .taken))
 
--- src/lib.rt:17:5
 add-result-2 : tie.Need-add-result-2
 add-result-2 c = search needs
 
--- src/lib.rt:10:1
 returns-2 : tie.Need-returns-2
 unfolding hexDigit
 returns-2 c = rw (le-ltb _ _ (c .if1 .left))

@@ -3,32 +3,22 @@ use native.Mathlib.Omega.{arith}
 use borrow.Author.Needs.{needs}
 use Rattle.names.proofs.is_name.Statement.{statement}
 use Rattle.names.proofs.is_name.Tie as tie
-use Rattle.names.proofs.is_name.Reads as reads
-use Rattle.names.proofs.is_name.Lts as lts
-use Rattle.names.proofs.place_in.Reads as place-in-reads
-use Rattle.words.proofs.same.Reads as same-reads
 
--- src/lib.rt:441:9
 place-in-requires : tie.Need-place-in-requires
 place-in-requires c κs = search needs
 
--- src/lib.rt:444:17
 sub-same : tie.Need-sub-same
 sub-same c = search needs
 
--- src/lib.rt:444:17
 part-same-start : tie.Need-part-same-start
 part-same-start c = search needs
 
--- src/lib.rt:444:17
 part-same-end : tie.Need-part-same-end
 part-same-end c = omega (arith, all-long _ _ _ (c .before .before .before .before .before .pre .0))
 
--- src/lib.rt:444:5
 same-requires : tie.Need-same-requires
 same-requires c κs = search needs
 
--- src/lib.rt:436:1
 returns : tie.Need-returns
 returns c = search name-same
 

@@ -3,36 +3,25 @@ use native.Mathlib.Omega.{arith}
 use borrow.Author.Needs.{needs}
 use Rattle.names.proofs.place_in.Statement.{statement}
 use Rattle.names.proofs.place_in.Tie as tie
-use Rattle.names.proofs.place_in.Reads as reads
-use Rattle.names.proofs.place_in.Lts as lts
-use Rattle.names.proofs.wide16.Reads as wide16-reads
-use Rattle.words.proofs.wide.Reads as wide-reads
 
--- src/lib.rt:391:24
 mul-wide16 : tie.Need-mul-wide16
 mul-wide16 c = search needs
 
--- src/lib.rt:391:24
 shared-slice-read-wide16 : tie.Need-shared-slice-read-wide16
 shared-slice-read-wide16 c = omega (arith, starts-long _ (c .before .before .before .pre .0 .0))
 
--- src/lib.rt:391:9
 wide16-requires : tie.Need-wide16-requires
 wide16-requires c κs = search needs
 
--- src/lib.rt:392:28
 shared-slice-read-wide : tie.Need-shared-slice-read-wide
 shared-slice-read-wide c = omega (arith, lens-long _ (c .before .before .before .before .before .pre .0 .1))
 
--- src/lib.rt:392:9
 wide-requires : tie.Need-wide-requires
 wide-requires c κs = search needs
 
--- src/lib.rt:395:14
 add-t6 : tie.Need-add-t6
 add-t6 c = search needs
 
--- src/lib.rt:386:1
 returns : tie.Need-returns
 returns c = place-is _ _ _ (c .before .before .before .before .before .before .pre .1) _ _ (c .before .before .before .before .before .before .pre .0) (c .before .before .wide16 .ensures) (c .wide .ensures)
 

@@ -3,28 +3,19 @@ use native.Mathlib.Omega.{arith}
 use borrow.Author.Needs.{needs}
 use Rattle.names.proofs.put_command.Statement.{statement}
 use Rattle.names.proofs.put_command.Tie as tie
-use Rattle.names.proofs.put_command.Reads as reads
-use Rattle.names.proofs.put_command.Lts as lts
-use Rattle.names.proofs.command_name.Reads as command-name-reads
-use Rattle.names.proofs.put_part.Reads as put-part-reads
 
--- src/lib.rt:736:9
 command-name-requires : tie.Need-command-name-requires
 command-name-requires c κs = search needs
 
--- src/lib.rt:737:23
 slice-aggregate-put-part : tie.Need-slice-aggregate-put-part
 slice-aggregate-put-part c = search needs
 
--- src/lib.rt:737:5
 put-part-requires : tie.Need-put-part-requires
 put-part-requires c κs = (c .before .before .command-name .ensures .within, omega (arith, command-long _ _ (c .before .before .command-name .ensures)))
 
--- src/lib.rt:732:1
 same-length : tie.Need-same-length
 same-length c = search needs
 
--- src/lib.rt:732:1
 returns : tie.Need-returns
 returns c = search command-written
 

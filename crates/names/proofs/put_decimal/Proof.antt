@@ -4,9 +4,6 @@ use borrow.Author.Needs.{needs}
 use native.Mathlib.Omega.{arith}
 use Rattle.names.proofs.put_decimal.Statement.{statement}
 use Rattle.names.proofs.put_decimal.Tie as tie
-use Rattle.names.proofs.put_decimal.Reads as reads
-use Rattle.names.proofs.put_decimal.Lts as lts
-use Rattle.names.proofs.decimal_len.Reads as decimal-len-reads
 
 abbrev Inv-loop : tie.InvT-loop
 Inv-loop out₀ at n end to₀ rest₀ out to rest = Backward n out₀ at out to rest
@@ -14,59 +11,45 @@ Inv-loop out₀ at n end to₀ rest₀ out to rest = Backward n out₀ at out to
 abbrev μ-loop : tie.MeasureT-loop
 μ-loop out₀ at n end to₀ rest₀ out to rest = rest
 
--- src/lib.rt:48:20
 decimal-len-requires : tie.Need-decimal-len-requires Inv-loop μ-loop
 decimal-len-requires c κs = search needs
 
--- src/lib.rt:48:15
 add-end : tie.Need-add-end Inv-loop μ-loop
 add-end c = omega (arith, c .decimal-len .ensures .few)
 
--- src/lib.rt:51:5
 loop-holds : tie.Need-loop-holds Inv-loop μ-loop
 loop-holds c = search backward-start
 
--- src/lib.rt:52:9
 sub-to : tie.Need-sub-to Inv-loop μ-loop
 sub-to c = omega (arith, backward-past _ _ _ _ _ _ (c .before .loop .inv))
 
--- src/lib.rt:53:24
 cast-out : tie.Need-cast-out Inv-loop μ-loop
 cast-out c = search needs
 
--- src/lib.rt:53:19
 add-out : tie.Need-add-out Inv-loop μ-loop
 add-out c = search needs
 
--- src/lib.rt:53:9
 slice-write-out : tie.Need-slice-write-out Inv-loop μ-loop
 slice-write-out c = omega (arith, backward-past _ _ _ _ _ _ (c .before .loop .inv), c .before .loop .inv .room)
 
--- src/lib.rt:51:5
 loop-less : tie.Need-loop-less Inv-loop μ-loop
 loop-less c = search needs
 
--- src/lib.rt:51:5
 loop-again : tie.Need-loop-again Inv-loop μ-loop
 loop-again c = search backward-turn
 
--- src/lib.rt:56:20
 cast-out-2 : tie.Need-cast-out-2 Inv-loop μ-loop
 cast-out-2 c = search needs
 
--- src/lib.rt:56:15
 add-out-2 : tie.Need-add-out-2 Inv-loop μ-loop
 add-out-2 c = search needs
 
--- src/lib.rt:56:5
 slice-write-out-2 : tie.Need-slice-write-out-2 Inv-loop μ-loop
 slice-write-out-2 c = omega (arith, backward-past _ _ _ _ _ _ (c .before .loop .inv), c .before .loop .inv .room)
 
--- src/lib.rt:44:1
 same-length : tie.Need-same-length Inv-loop μ-loop
 same-length c = simp length-set (c .before .loop .inv .long)
 
--- src/lib.rt:44:1
 returns : tie.Need-returns Inv-loop μ-loop
 returns c = search backward-end
 

@@ -3,27 +3,19 @@ use native.Mathlib.Omega.{arith}
 use borrow.Author.Needs.{needs}
 use Rattle.names.proofs.put_zeros.Statement.{statement}
 use Rattle.names.proofs.put_zeros.Tie as tie
-use Rattle.names.proofs.put_zeros.Reads as reads
-use Rattle.names.proofs.put_zeros.Lts as lts
-use Rattle.words.proofs.copy_to.Reads as copy-to-reads
 
--- src/lib.rt:76:20
 array-share-prefix-zeros : tie.Need-array-share-prefix-zeros
 array-share-prefix-zeros c = search needs
 
--- src/lib.rt:76:20
 slice-aggregate-copy-to : tie.Need-slice-aggregate-copy-to
 slice-aggregate-copy-to c = zeros-long _ (c .before .before .pre .0)
 
--- src/lib.rt:76:5
 copy-to-requires : tie.Need-copy-to-requires
 copy-to-requires c κs = omega (arith, zeros-long _ (c .before .before .before .pre .0))
 
--- src/lib.rt:70:1
 same-length : tie.Need-same-length
 same-length c = search needs
 
--- src/lib.rt:70:1
 returns : tie.Need-returns
 returns c = search zeros-written
 

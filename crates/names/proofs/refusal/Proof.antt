@@ -1,87 +1,64 @@
-use native.Mathlib.Omega.{arith}
 use borrow.Author.Needs.{needs}
 use Rattle.names.proofs.refusal.Statement.{statement}
 use Rattle.names.proofs.refusal.Tie as tie
-use Rattle.names.proofs.refusal.Reads as reads
-use Rattle.names.proofs.refusal.Lts as lts
 
--- src/lib.rt:793:37
 enum-told : tie.Need-enum-told
 enum-told c = search needs
 
--- src/lib.rt:794:31
 enum-told-2 : tie.Need-enum-told-2
 enum-told-2 c = search needs
 
--- src/lib.rt:795:30
 enum-told-3 : tie.Need-enum-told-3
 enum-told-3 c = search needs
 
--- src/lib.rt:796:28
 enum-told-4 : tie.Need-enum-told-4
 enum-told-4 c = search needs
 
--- src/lib.rt:797:37
 enum-told-5 : tie.Need-enum-told-5
 enum-told-5 c = search needs
 
--- src/lib.rt:798:30
 enum-known-u : tie.Need-enum-known-u
 enum-known-u c = search needs
 
--- src/lib.rt:799:35
 enum-told-6 : tie.Need-enum-told-6
 enum-told-6 c = search needs
 
--- src/lib.rt:800:34
 enum-known-u-2 : tie.Need-enum-known-u-2
 enum-known-u-2 c = search needs
 
--- src/lib.rt:801:31
 enum-known-u-3 : tie.Need-enum-known-u-3
 enum-known-u-3 c = search needs
 
--- src/lib.rt:802:28
 enum-known-u-4 : tie.Need-enum-known-u-4
 enum-known-u-4 c = search needs
 
--- src/lib.rt:789:1
 returns : tie.Need-returns
 returns c = search needs
 
--- src/lib.rt:789:1
 returns-2 : tie.Need-returns-2
 returns-2 c = search needs
 
--- src/lib.rt:789:1
 returns-3 : tie.Need-returns-3
 returns-3 c = search needs
 
--- src/lib.rt:789:1
 returns-4 : tie.Need-returns-4
 returns-4 c = search needs
 
--- src/lib.rt:789:1
 returns-5 : tie.Need-returns-5
 returns-5 c = search needs
 
--- src/lib.rt:789:1
 returns-6 : tie.Need-returns-6
 returns-6 c = rw (c .before .u .given .1)
 
--- src/lib.rt:789:1
 returns-7 : tie.Need-returns-7
 returns-7 c = search needs
 
--- src/lib.rt:789:1
 returns-8 : tie.Need-returns-8
 returns-8 c = rw (c .before .u2 .given .1)
 
--- src/lib.rt:789:1
 returns-9 : tie.Need-returns-9
 returns-9 c = rw (c .before .u3 .given .1)
 
--- src/lib.rt:789:1
 returns-10 : tie.Need-returns-10
 returns-10 c = rw (c .before .u4 .given .1)
 
