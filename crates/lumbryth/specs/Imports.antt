@@ -20,7 +20,11 @@ use Rattle.capture.specs.Calls.{toldImported, ruleOf, Imports}
 use Rattle.capture.specs.declared.Imported.{Imported}
 use Rattle.capture.specs.declared.Tail.{Tail as TailCase}
 use Rattle.capture.specs.declared.Tail.the-variants.{Strict, Tolerant}
-use Rattle.lumbryth.specs.Calls.{numberOf, valuesOf, stored, Tells, Calls}
+use Rattle.names.specs.Names.{fixtureName}
+use Rattle.names.specs.Told.{toldNamed}
+use Rattle.names.specs.declared.Named.{Named}
+use Rattle.lumbryth.specs.Calls.{numberOf, valuesOf, stored, shownValues, Shows, Tells, Calls}
+use Rattle.lumbryth.specs.declared.Shown.{Shown}
 
 abbrev pub bit : Bool → ℕ
 bit true = 1
@@ -43,6 +47,18 @@ pub record ImportCalls (f w out : List ℕ) (channel rule : ℕ) (v : List ℕ) 
   pub calls : Calls (imported f (length w) (channelNumber channel) (ruleNumber rule)) out out′ v r v′
   pub spared : (fits f && workSuffices f (length w)) ≡ false → w′ ≡ w
   pub cut : CutClaim f (length w) (channelNumber channel) (ruleNumber rule) out (answer (imported f (length w) (channelNumber channel) (ruleNumber rule)) (length out)) out′
+
+-- a name's direction by number
+pub named-calls :
+    (ms counter way : ℕ) (d : Direction) → rxOf d ≡ wayOf way → (wire out : List ℕ) (n : Named) (out′ : List ℕ) → Meets (fixtureName ms counter (rxOf d) wire) out (toldNamed n) out′ →
+    (v : List ℕ) (s : Shown) → Shows (numberOf (toldNamed n)) (valuesOf (toldNamed n)) s → (v′ : List ℕ) → v′ ≡ stored (shownValues s) v →
+    Calls (fixtureName ms counter (wayOf way) wire) out out′ v (s .number) v′
+named-calls ms counter way d e wire out n out′ m v s p v′ q =
+    let k : toldNamed n ≡ answer (fixtureName ms counter (wayOf way) wire) (length out) = rw e at (m .answers) in
+    record {
+      writes = rw e at (m .writes);
+      tells = record { number = rw k at (p .number); values = q ∙ rw (p .values, k) };
+    }
 
 pub import-calls :
     (f w out : List ℕ) (channel rule : ℕ) (c : Channel) (t : TailCase) → channelOf c ≡ channelNumber channel → ruleOf t ≡ ruleNumber rule →
