@@ -22,6 +22,8 @@ use Rattle.rfcomm.specs.Pieces.{Piece}
 use Rattle.streams.specs.Streams.{channelOf, tablePieces, Tabled, tabled, told, ListsSpans}
 use Rattle.streams.specs.declared.Channel.{Channel}
 use Rattle.streams.specs.declared.Listed.{Listed}
+use Rattle.streams.specs.declared.Listed.the-variants.{NoStream as NoneListed, OutShort as ListShort, Spans as SpansListed}
+use Rattle.streams.specs.declared.Stream.{Stream}
 use Rattle.outcome.specs.Import.{strict, tolerant, chosen, listed, filePieces, read, endsWell, missing, outcome, given, fits, workSuffices, imported}
 use Rattle.outcome.specs.Import as import
 use Rattle.cut.specs.Claim.{CutClaim}
@@ -50,6 +52,19 @@ ruleOf Tolerant = tolerant
 
 abbrev pub toldAs : ℕ → Listed → Answer
 toldAs tail l = told tail l
+
+module _ (tail : ℕ) (l : Listed) where
+  pub told-none : l ≡ NoneListed → toldImported NoStream ≡ toldAs tail l
+  unfolding told
+  told-none e = rw e
+
+  pub told-short : (n : ℕ) → l ≡ ListShort n → toldImported (OutShort n) ≡ toldAs tail l
+  unfolding told
+  told-short n e = rw e
+
+  pub told-spans : (s : Stream) → l ≡ SpansListed s → toldImported (Spans (s .dlci) (s .spans) (s .unfinished) tail (s .bytes)) ≡ toldAs tail l
+  unfolding told
+  told-spans s e = rw e
 
 -- ---- from the packets on
 
@@ -95,7 +110,7 @@ truncates-is f Strict at e = rw e
 truncates-is f Tolerant at e = refl
 
 not-not : (b : Bool) → not b ≡ true → b ≡ false
-not-not true e = no-way refl e
+not-not true e = sym e
 not-not false e = refl
 
 not-true : (b : Bool) → not b ≡ false → b ≡ true
@@ -132,8 +147,8 @@ unfolding headerOf
 no-header f e =
     splitB (isBtsnoop f)
     (λ a. splitB (isDatalink (datalink f))
-      (λ b. let q = rw (a, b) at e in let z : _≡_ {A = ℕ} 0 1 = cc in absurd (omega arith))
-      (λ b. let q = rw (a, b) at e in let z : _≡_ {A = ℕ} 0 1 = cc in absurd (omega arith)))
+    (λ b. let q = rw (a, b) at e in let z : _≡_ {A = ℕ} 0 1 = cc in absurd (omega arith))
+    (λ b. let q = rw (a, b) at e in let z : _≡_ {A = ℕ} 0 1 = cc in absurd (omega arith)))
     (λ a. a)
 
 other-link : (f : List ℕ) (n : ℕ) → headerOf f ≡ Other n → (isBtsnoop f ≡ true) × (isDatalink (datalink f) ≡ false) × (n ≡ datalink f)
@@ -141,8 +156,8 @@ unfolding headerOf
 other-link f n e =
     splitB (isBtsnoop f)
     (λ a. splitB (isDatalink (datalink f))
-      (λ b. let q = rw (a, b) at e in let z : _≡_ {A = ℕ} 0 1 = cc in absurd (omega arith))
-      (λ b. let q = rw (a, b) at e in (a, b, (let z : n ≡ datalink f = cc in z))))
+    (λ b. let q = rw (a, b) at e in let z : _≡_ {A = ℕ} 0 1 = cc in absurd (omega arith))
+    (λ b. let q = rw (a, b) at e in (a, b, (let z : n ≡ datalink f = cc in z))))
     (λ a. let q = rw a at e in let z : _≡_ {A = ℕ} 0 1 = cc in absurd (omega arith))
 
 known-link : (f : List ℕ) (n : ℕ) → headerOf f ≡ Known n → (isBtsnoop f ≡ true) × (isDatalink (datalink f) ≡ true)
@@ -150,8 +165,8 @@ unfolding headerOf
 known-link f n e =
     splitB (isBtsnoop f)
     (λ a. splitB (isDatalink (datalink f))
-      (λ b. (a, b))
-      (λ b. let q = rw (a, b) at e in let z : _≡_ {A = ℕ} 0 1 = cc in absurd (omega arith)))
+    (λ b. (a, b))
+    (λ b. let q = rw (a, b) at e in let z : _≡_ {A = ℕ} 0 1 = cc in absurd (omega arith)))
     (λ a. let q = rw a at e in let z : _≡_ {A = ℕ} 0 1 = cc in absurd (omega arith))
 
 module _ (f w : List ℕ) (size : Sized f w) (h : Header) (eh : h ≡ headerOf f) (channel : Channel) (tail : Tail) (out : List ℕ) where

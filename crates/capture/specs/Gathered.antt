@@ -19,19 +19,19 @@ pub record Gathered (f w u : List ℕ) (r : ℕ) : Type 0 where
   pub pieced : Pieced f u r (filePieces f)
   pub size : length u ≡ length w
 
+module _ (f v : List ℕ) (made : ℕ) (x : List ℕ) (rows : ℕ) (rc : ReadChannels f v made x rows) where
+  list-is : pdusFrom f x (2 * (length f / 4)) 0 made ≡ pdusFrom f v (2 * (length f / 4)) 0 made
+  list-is = rc .signalled .pdus .list
+
+  pub pieces-pre : PiecesPre f x made rows
+  pieces-pre = record { signalled = rw list-is (rc .signalled) }
+
 module _ (f w : List ℕ) (count : ℕ) (rd : Read f w count) (v : List ℕ) (made : ℕ) (ra : Reassembled f v made (pdus (packetsFrom f w 0 count))) where
   pub own-pdus : Reassembled f v made (pdusFrom f v (2 * (length f / 4)) 0 made)
   own-pdus = reassembled-own f v made (pdus (packetsFrom f w 0 count)) ra
 
-  module _ (x : List ℕ) (rows : ℕ) (rc : ReadChannels f v made x rows) where
-    list-is : pdusFrom f x (2 * (length f / 4)) 0 made ≡ pdusFrom f v (2 * (length f / 4)) 0 made
-    list-is = rc .signalled .pdus .list
-
-    pub pieces-pre : PiecesPre f x made rows
-    pieces-pre = record { signalled = rw list-is (rc .signalled) }
-
-    pub gathered : length v ≡ length w → (u : List ℕ) (r : ℕ) → ReadPieces f x made u r → Gathered f w u r
-    unfolding filePieces
-    gathered l u r rp =
-        let e : pdusFrom f x (2 * (length f / 4)) 0 made ≡ pdus (packets (packetOf (datalink f)) (records f)) = list-is ∙ ra .list ∙ rw (rd .list) in
-        record { pieced = rw e at (rp .pieced); size = rp .size ∙ rc .size ∙ l }
+  pub gathered : (x : List ℕ) (rows : ℕ) → ReadChannels f v made x rows → length v ≡ length w → (u : List ℕ) (r : ℕ) → ReadPieces f x made u r → Gathered f w u r
+  unfolding filePieces
+  gathered x rows rc l u r rp =
+      let e : pdusFrom f x (2 * (length f / 4)) 0 made ≡ pdus (packets (packetOf (datalink f)) (records f)) = list-is f v made x rows rc ∙ ra .list ∙ rw (rd .list) in
+      record { pieced = rw e at (rp .pieced); size = rp .size ∙ rc .size ∙ l }

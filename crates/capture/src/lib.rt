@@ -4,18 +4,18 @@ ghost use Rattle.btsnoop.specs.PacketTable.{Read};
 ghost use Rattle.btsnoop.specs.Adding.{ReadPre};
 ghost use Rattle.capture.specs.Gathered.{Gathered};
 ghost use Rattle.capture.specs.Calls.{toldImported, toldAs, truncates, PiecesMeet, PiecesPre, Sized, ReadMeets, HeadMeets, Imports};
-use btsnoop::read_header;
-use btsnoop::read_packets;
 use btsnoop::Header;
 use btsnoop::Packets;
+use btsnoop::read_header;
+use btsnoop::read_packets;
 use channels::read_channels;
-use l2cap::reassemble;
 use l2cap::Tables;
+use l2cap::reassemble;
 use rfcomm::read_pieces;
-use streams::list_spans;
 use streams::Channel;
 use streams::Listed;
 use streams::Stream;
+use streams::list_spans;
 
 // What import answers.
 pub enum Imported {
@@ -59,7 +59,13 @@ fn answer_of(l: Listed, tail: usize) -> Imported
 }
 
 // Lists the spans of a file whose packets' table stands at the start of work.
-fn import_packets(file: &[u8], work: &mut [u8], out: &mut [u8], channel: Channel, p: Packets) -> Imported
+fn import_packets(
+    file: &[u8],
+    work: &mut [u8],
+    out: &mut [u8],
+    channel: Channel,
+    p: Packets,
+) -> Imported
     requires { ⌜ PiecesPre (now file) (now work) p ⌝ }
     ensures { λ r. ⌜ PiecesMeet (now (file .entry)) channel (now (out .entry)) r (now (out .exit)) ⌝ }
 {
@@ -79,7 +85,13 @@ fn is_truncated(tail: Tail, at: usize, end: usize) -> bool
 }
 
 // Imports a file whose header is read.
-fn import_records(file: &[u8], work: &mut [u8], out: &mut [u8], channel: Channel, tail: Tail) -> Imported
+fn import_records(
+    file: &[u8],
+    work: &mut [u8],
+    out: &mut [u8],
+    channel: Channel,
+    tail: Tail,
+) -> Imported
     requires { ⌜ ReadPre (now file) (now work) ⌝ }
     ensures { λ r. ⌜ ReadMeets (now (file .entry)) channel tail (now (out .entry)) r (now (out .exit)) ⌝ }
 {
@@ -92,7 +104,13 @@ fn import_records(file: &[u8], work: &mut [u8], out: &mut [u8], channel: Channel
 }
 
 // Imports a file of a size that is taken, with work enough.
-fn import_sized(file: &[u8], work: &mut [u8], out: &mut [u8], channel: Channel, tail: Tail) -> Imported
+fn import_sized(
+    file: &[u8],
+    work: &mut [u8],
+    out: &mut [u8],
+    channel: Channel,
+    tail: Tail,
+) -> Imported
     requires { ⌜ Sized (now file) (now work) ⌝ }
     ensures { λ r. ⌜ HeadMeets (now (file .entry)) channel tail (now (out .entry)) r (now (out .exit)) ⌝ }
 {
@@ -105,7 +123,13 @@ fn import_sized(file: &[u8], work: &mut [u8], out: &mut [u8], channel: Channel, 
 }
 
 // Imports a trace: the spans of the first DLCI, on the channel if one is given, that has a span which unpacks.
-pub fn import(file: &[u8], work: &mut [u8], out: &mut [u8], channel: Channel, tail: Tail) -> Imported
+pub fn import(
+    file: &[u8],
+    work: &mut [u8],
+    out: &mut [u8],
+    channel: Channel,
+    tail: Tail,
+) -> Imported
     ensures { λ r. ⌜ Imports (now (file .entry)) (now (work .entry)) channel tail (now (out .entry)) r (now (work .exit)) (now (out .exit)) ⌝ }
 {
     let n = file.len();

@@ -150,7 +150,13 @@ fn shown_named(n: names::Named) -> Shown
         names::Named::BadEscapee(b) => show(14, 1, b as u64, 0, 0),
         names::Named::BodyTooShort => show(15, 0, 0, 0, 0),
         names::Named::LengthMismatch(declared, actual) => show(16, 2, declared, actual, 0),
-        names::Named::BadChecksum(declared, computed) => show(17, 2, declared as u64, computed as u64, 0),
+        names::Named::BadChecksum(declared, computed) => show(
+            17,
+            2,
+            declared as u64,
+            computed as u64,
+            0,
+        ),
         names::Named::OutShort(needed) => show(7, 1, needed as u64, 0, 0),
     }
 }
@@ -208,7 +214,12 @@ pub extern "C" fn lumbryth_is_command_name(name: &[u8]) -> u32
 
 // Writes the plan of a list of spans, but for the excluded commands, to the front of out. Values: fixtures, bytes.
 #[no_mangle]
-pub extern "C" fn lumbryth_plan(spans: &[u8], excluded: &[u8], out: &mut [u8], values: &mut [u64]) -> u32
+pub extern "C" fn lumbryth_plan(
+    spans: &[u8],
+    excluded: &[u8],
+    out: &mut [u8],
+    values: &mut [u64],
+) -> u32
     ensures { λ r. ⌜ Calls (planOf (now (spans .entry)) (now (excluded .entry))) (now (out .entry)) (now (out .exit)) (now (values .entry)) r (now (values .exit)) ⌝ }
 {
     let p = fixtures::plan(spans, excluded, out);
@@ -273,7 +284,14 @@ fn tell_import(i: capture::Imported, values: &mut [u64]) -> u32
 {
     match i {
         capture::Imported::Spans(dlci, frames, unfinished, tail, written) => {
-            store_five(values, dlci as u64, frames as u64, unfinished as u64, tail as u64, written as u64);
+            store_five(
+                values,
+                dlci as u64,
+                frames as u64,
+                unfinished as u64,
+                tail as u64,
+                written as u64,
+            );
             0
         }
         capture::Imported::FileLong => 1,

@@ -1,0 +1,35 @@
+use Rattle.capture.specs.Calls.{told-none, told-short, told-spans}
+use native.Mathlib.Omega.{arith}
+use borrow.Author.Needs.{needs}
+use Rattle.capture.proofs.answer_of.Statement.{statement}
+use Rattle.capture.proofs.answer_of.Tie as tie
+use Rattle.capture.proofs.answer_of.Reads as reads
+use Rattle.capture.proofs.answer_of.Lts as lts
+
+-- src/lib.rt:55:29
+enum-told : tie.Need-enum-told
+enum-told c = search needs
+
+-- src/lib.rt:56:26
+enum-known-l : tie.Need-enum-known-l
+enum-known-l c = search needs
+
+-- src/lib.rt:57:23
+enum-known-l-2 : tie.Need-enum-known-l-2
+enum-known-l-2 c = search needs
+
+-- src/lib.rt:51:1
+returns : tie.Need-returns
+returns c = search told-none
+
+-- src/lib.rt:51:1
+returns-2 : tie.Need-returns-2
+returns-2 c = search told-short
+
+-- src/lib.rt:51:1
+returns-3 : tie.Need-returns-3
+returns-3 c = search told-spans
+
+pub answer-of-spec : {M : Type 1} → statement M
+answer-of-spec =
+    tie.close (tie.spec enum-told enum-known-l enum-known-l-2 returns returns-2 returns-3)
