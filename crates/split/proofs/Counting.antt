@@ -25,7 +25,7 @@ use Rattle.spans.specs.Bytewise.{AllQuiet, quiet-emptied}
 use Rattle.spans.specs.declared.Tally.{Tally}
 use Rattle.spans.specs.declared.Counted.{Counted}
 use Rattle.split.specs.Rows.{piece, dlciAt, tailAt, heldIn, heldOf, streamOf, streamTo, opened, Fits, joined, cappedLength, ahead, all, keysTo, liveTo, sign, Laid}
-use Rattle.split.specs.Walks.{JoinPre, Joined, Silent, HoldPre, HeldMore, Moved, CountPre, CountHeld, Stepped, CountIs}
+use Rattle.split.specs.Walks.{JoinPre, Joined, Silent, HoldPre, HeldMore, Moved, OpenPre, CountPre, CountHeld, Stepped, CountIs}
 use Rattle.split.specs.Fronts.{dlci-front, tail-front, keys-front, laid-front}
 use Rattle.split.specs.declared.Plan.{Plan}
 use Rattle.split.specs.declared.Sums.{Sums}
@@ -86,18 +86,18 @@ module _ (f w : List ℕ) (p : Plan) (i : ℕ) (s : Sums) (q : CountPre f w p i 
       bytes = omega (arith, q .bytes, q .row, q .laid .many, joined-small f w p i (q .laid) (q .row) fits .0);
     })
 
-    module _ (c : Counted) (k : CountedIs (take (e - p .area) (drop (p .area) v)) (s .tally) c) (r : ℕ) (ec : r ≡ cappedLength (c .rest)) (u : List ℕ) (eu : u ≡ putWord v (p .held + i) r) (a b : ℕ) (ea : a ≡ sign r) (eb : b ≡ sign h) where
+    module _ (c : Counted) (k : CountedIs (take (e - p .area) (drop (p .area) v)) (s .tally) c) (r : ℕ) (ec : r ≡ cappedLength (c .rest)) (u : List ℕ) (eu : u ≡ putWord v (p .held + i) r) where
       counted : CountedIs (joined f w p i) (s .tally) c
       counted = rw (in-area f w p i v n j e ee) at k
 
       lives : liveTo u p (i + 1) + sign h ≡ s .unfinished + sign r
       lives = rw (eh, q .live) (step-live f w p i (q .laid) (q .row) fits v u r (c .rest) (joined-long f w p i v n j) (joined-front f w p i v n j) (counted .left) ec eu (q .own))
 
-      pub count-less : b ≤ s .unfinished + a
-      count-less = omega (arith, lives)
+      pub count-less : OpenPre (s .unfinished) r h
+      count-less = record { few = omega (arith, q .few, q .row, q .laid .many); less = omega (arith, lives) }
 
-      pub count-stepped : Stepped f w p i s u (record { tally = c .tally; unfinished = s .unfinished + a - b })
-      count-stepped = record {
+      pub count-stepped : (o : ℕ) → o ≡ s .unfinished + sign r - sign h → Stepped f w p i s u (record { tally = c .tally; unfinished = o })
+      count-stepped o eo = record {
         moves = moved f w p i (q .laid) (q .row) fits v u r (c .rest) (joined-long f w p i v n j) (joined-front f w p i v n j) (counted .left) ec eu (q .own) (q .fits);
         all = counted .all;
         fewer = counted .fewer;
@@ -106,16 +106,16 @@ module _ (f w : List ℕ) (p : Plan) (i : ℕ) (s : Sums) (q : CountPre f w p i 
         live = omega (arith, lives);
       }
 
-  module _ (y : Silent f w p i h) (u : List ℕ) (r : ℕ) (m : HeldMore w p i h u r) (a b : ℕ) (ea : a ≡ sign r) (eb : b ≡ sign h) where
+  module _ (y : Silent f w p i h) (u : List ℕ) (r : ℕ) (m : HeldMore w p i h u r) where
     quiet-lives : liveTo u p (i + 1) + sign h ≡ s .unfinished + sign r
     quiet-lives = rw (q .live) (silent-live f w p i (q .laid) (q .row) (q .own) (q .fits) (q .quiet) h eh y u r m)
 
-    pub silent-less : b ≤ s .unfinished + a
-    silent-less = omega (arith, quiet-lives)
+    pub silent-less : OpenPre (s .unfinished) r h
+    silent-less = record { few = omega (arith, q .few, q .row, q .laid .many); less = omega (arith, quiet-lives) }
 
-    pub silent-stepped : Stepped f w p i s u (record { tally = s .tally; unfinished = s .unfinished + a - b })
+    pub silent-stepped : (o : ℕ) → o ≡ s .unfinished + sign r - sign h → Stepped f w p i s u (record { tally = s .tally; unfinished = o })
     unfolding tallyAll
-    silent-stepped = record {
+    silent-stepped o eo = record {
       moves = silent-moved f w p i (q .laid) (q .row) (q .own) (q .fits) (q .quiet) h eh y u r m;
       all = rw (silent-spans f w p i (q .laid) (q .row) (q .own) (q .fits) (q .quiet) h eh y);
       fewer = q .fewer;
@@ -123,10 +123,6 @@ module _ (f w : List ℕ) (p : Plan) (i : ℕ) (s : Sums) (q : CountPre f w p i 
       few = omega (arith, q .few, sign-le r);
       live = omega (arith, quiet-lives);
     }
-
--- one buffer more can be counted
-pub count-fits : (f w : List ℕ) (p : Plan) (i : ℕ) (s : Sums) (n a : ℕ) → CountPre f w p i s → a ≡ sign n → s .unfinished + a ≤ 1048577
-count-fits f w p i s n a q ea = omega (arith, q .few, q .row, q .laid .many, sign-le n)
 
 -- ---- all pieces
 

@@ -17,7 +17,7 @@ use Rattle.spans.specs.Scan.{ended, spansOf}
 use Rattle.spans.specs.Spans.{scanner, spans, unfinished}
 use Rattle.spans.specs.Parts.{tagged, tallyAll}
 use Rattle.spans.specs.Bytewise.{AllQuiet}
-use Rattle.split.specs.Rows.{piece, dlciAt, lenAt, startAt, bytesAt, heldOf, streamTo, opened, Fits, joined, cappedLength, all, liveTo, Laid}
+use Rattle.split.specs.Rows.{piece, dlciAt, lenAt, startAt, bytesAt, heldOf, streamTo, opened, Fits, joined, cappedLength, all, liveTo, sign, Laid}
 use Rattle.split.specs.declared.Plan.{Plan}
 use Rattle.split.specs.declared.Sums.{Sums}
 
@@ -93,6 +93,11 @@ pub record Moved (f w : List ℕ) (p : Plan) (i : ℕ) (u : List ℕ) : Type 0 w
   pub long : length u ≡ length w
 
 -- ---- counting
+
+-- of so many buffers that are not empty one held h bytes, if any, and now holds r
+pub record OpenPre (many r h : ℕ) : Type 0 where
+  pub few : many ≤ 1048576
+  pub less : sign h ≤ many + sign r
 
 pub record CountPre (f w : List ℕ) (p : Plan) (i : ℕ) (s : Sums) : Type 0 where
   pub laid : Laid f w p

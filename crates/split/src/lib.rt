@@ -3,7 +3,7 @@
 // Nothing is stored but one word for each piece: how many bytes its key holds after it. The buffer of a key is then the
 // last that many bytes of all that came under the key, and is put together where a 3C may close something.
 ghost use mathlib.Core.Path.{_≡_};
-ghost use Prim.Native.Nat.{_+_, _%_, _≤_, _<_, min};
+ghost use Prim.Native.Nat.{_+_, _-_, _%_, _≤_, _<_, min};
 ghost use lib.ListN.{length, take, drop};
 ghost use lib.Seq.{sets};
 ghost use Rattle.laws.specs.Keys.{eqK};
@@ -11,7 +11,7 @@ ghost use Rattle.items.specs.Items.{rxOf};
 ghost use Rattle.spans.specs.Scan.{ended};
 ghost use Rattle.split.specs.Last.{lastn};
 ghost use Rattle.split.specs.Rows.{keyAt, lenAt, inWork, bytesAt, heldOf, streamTo, cappedLength, sign, Laid};
-ghost use Rattle.split.specs.Walks.{Row, TwoRows, StartIs, Placed, PutPre, GatherPre, JoinPre, Joined, Says, HoldPre, HeldMore, CountPre, CountHeld, Stepped, CountIs, WritePre, WriteHeld, WroteStep, ListPre, WriteIs};
+ghost use Rattle.split.specs.Walks.{Row, TwoRows, StartIs, Placed, PutPre, GatherPre, JoinPre, Joined, Says, HoldPre, HeldMore, OpenPre, CountPre, CountHeld, Stepped, CountIs, WritePre, WriteHeld, WroteStep, ListPre, WriteIs};
 use items::Direction;
 use spans::Counted;
 use spans::Tally;
@@ -228,6 +228,16 @@ fn sign_of(n: usize) -> usize
     0
 }
 
+// How many buffers are not empty, if there were so many, and one held h bytes and now holds r.
+fn count_open(many: usize, r: u32, h: usize) -> usize
+    requires { ⌜ OpenPre many r h ⌝ }
+    ensures { λ s. ⌜ s ≡ many + sign r - sign h ⌝ }
+{
+    let a = sign_of(r as usize);
+    let b = sign_of(h);
+    many + a - b
+}
+
 // Counts the spans that piece i brings, behind the h bytes held.
 fn count_joined(file: &[u8], w: &mut [u8], p: Plan, i: usize, s: Sums, h: usize) -> Sums
     requires { ⌜ CountHeld (now file) (now w) p i s h ⌝ }
@@ -240,12 +250,10 @@ fn count_joined(file: &[u8], w: &mut [u8], p: Plan, i: usize, s: Sums, h: usize)
     let c = count_part(&w[area..end], t);
     let r = capped(c.rest);
     put32(w, p.held + i, r);
-    let a = sign_of(r as usize);
-    let b = sign_of(h);
     let sum = c.tally;
     Sums {
         tally: sum,
-        unfinished: s.unfinished + a - b,
+        unfinished: count_open(s.unfinished, r, h),
     }
 }
 
@@ -257,12 +265,10 @@ fn count_piece(file: &[u8], w: &mut [u8], p: Plan, i: usize, s: Sums) -> Sums
     let h = held_before(w, p, i);
     if is_silent(file, w, p, i, h) {
         let r = hold_more(w, p, i, h);
-        let a = sign_of(r as usize);
-        let b = sign_of(h);
         let t = s.tally;
         return Sums {
             tally: t,
-            unfinished: s.unfinished + a - b,
+            unfinished: count_open(s.unfinished, r, h),
         };
     }
     count_joined(file, w, p, i, s, h)

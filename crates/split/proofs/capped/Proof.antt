@@ -8,7 +8,7 @@ use Rattle.split.proofs.capped.Lts as lts
 
 -- src/lib.rt:181:9
 returns : tie.Need-returns
-returns c = search capped-large
+returns c = capped-large _ (omega arith)
 
 -- src/lib.rt:183:5
 cast-result : tie.Need-cast-result
@@ -16,7 +16,7 @@ cast-result c = search needs
 
 -- src/lib.rt:177:1
 returns-2 : tie.Need-returns-2
-returns-2 c = search capped-small
+returns-2 c = capped-small _ (omega arith)
 
 pub capped-spec : {M : Type 1} → statement M
 capped-spec = tie.close (tie.spec returns cast-result returns-2)
