@@ -97,6 +97,7 @@ pub struct Scale {
 }
 
 pub const SMALL: Scale = Scale { links: 3, frames: 4, payload: 6, piece: 25, fragment: 12 };
+pub const LARGE: Scale = Scale { links: 4, frames: 400, payload: 900, piece: 900, fragment: 500 };
 
 fn way(direction: Direction) -> usize {
     usize::from(direction == Tx)
@@ -348,24 +349,52 @@ pub fn recording(rng: &mut Rng, scale: Scale) -> Honest {
     Honest { file: maker.trace.file, dlci, ends: maker.trace.ends, brought: maker.brought }
 }
 
+/// A random honest recording of up to 1,048,576 bytes.
+pub fn large(rng: &mut Rng) -> Honest {
+    loop {
+        let recording = recording(rng, LARGE);
+        if (200_000..=1_048_576).contains(&recording.file.len()) {
+            return recording;
+        }
+    }
+}
+
+/// One guessed link on DLCI 18 that sends these PDUs, Rx first.
+fn sent(rng: &mut Rng, sending: [VecDeque<Sending>; 2]) -> Honest {
+    let mut link = Link { handle: 0x40, setup: VecDeque::new(), sending, open: [None, None], begun: false, held: None };
+    let scale = Scale { fragment: 40_000, ..SMALL };
+    let mut maker = Maker { rng, trace: Trace::new(2001), brought: Vec::new(), dlci: 18, scale };
+    while link.waits() {
+        maker.step(0, &mut link);
+    }
+    Honest { file: maker.trace.file, dlci: 18, ends: maker.trace.ends, brought: maker.brought }
+}
+
 /// A recording whose frames are as long as they may be: a whole one of exactly 65,536
 /// bytes and a partial one of 65,535.
 pub fn longest(rng: &mut Rng) -> Honest {
     let wire = longest_frame();
-    let dlci = 18;
     let (one, two) = (frame(rng, 3), frame(rng, 3));
     let sending = [
-        data_pdus(rng, 0x41, dlci, &[wire.clone(), one], &wire[..65_535], 32_767),
-        data_pdus(rng, 0x42, dlci, &[two, wire.clone()], &[], 9_000),
+        data_pdus(rng, 0x41, 18, &[wire.clone(), one], &wire[..65_535], 32_767),
+        data_pdus(rng, 0x42, 18, &[two, wire.clone()], &[], 9_000),
     ];
-    let mut link = Link { handle: 0x40, setup: VecDeque::new(), sending, open: [None, None], begun: false, held: None };
-    let trace = Trace::new(2001);
-    let scale = Scale { fragment: 40_000, ..SMALL };
-    let mut maker = Maker { rng, trace, brought: Vec::new(), dlci, scale };
-    while link.waits() {
-        maker.step(0, &mut link);
-    }
-    Honest { file: maker.trace.file, dlci, ends: maker.trace.ends, brought: maker.brought }
+    sent(rng, sending)
+}
+
+/// A recording that is honest but for a frame longer than 65,536 bytes, of which 65,537
+/// come before its end.
+pub fn too_long(rng: &mut Rng) -> Honest {
+    let wire = packed(0x0C, 0, &vec![0x3E; 32_765]);
+    assert!(wire.len() > 65_537);
+    let parts = [&wire[..32_767], &wire[32_767..65_534], &wire[65_534..65_537], &wire[65_537..]];
+    let pdus = parts.iter().enumerate().map(|(i, part)| {
+        let closed = i + 1 == parts.len();
+        let bytes = trace::l2cap(0x41, &trace::uih(18, part, None, true));
+        Sending { bytes, data: Some((if closed { vec![wire.clone()] } else { Vec::new() }, !closed)), answers: false }
+    });
+    let sending = [pdus.collect(), VecDeque::new()];
+    sent(rng, sending)
 }
 
 /// A packed frame of exactly 65,536 bytes.

@@ -36,6 +36,8 @@ pub fn each_cut(rng: &mut Rng, size: u64, f: &mut dyn FnMut(&Honest, usize) -> C
     for i in 0..size {
         let recording = if i % 50 == 49 {
             honest::longest(rng)
+        } else if i % 250 == 124 {
+            honest::large(rng)
         } else {
             let scale = if i % 4 == 0 { rng.pick(&SCALES) } else { honest::SMALL };
             honest::recording(rng, scale)
@@ -45,6 +47,15 @@ pub fn each_cut(rng: &mut Rng, size: u64, f: &mut dyn FnMut(&Honest, usize) -> C
         }
     }
     Ok(())
+}
+
+/// The rule on the size of frames is needed: a recording that breaks only it loses its
+/// frame. Import answers as the oracle does.
+fn size_rule(import: &mut Import, rng: &mut Rng) -> Checked {
+    let recording = honest::too_long(rng);
+    let (left, found) = (recording.left(recording.file.len()), expected::import_tolerant(&recording.file, recording.channel()));
+    assert!((left.number, found.number) == (0, 6), "a frame over 65,536 bytes is left, and is not found");
+    import.file(&recording.file, recording.channel())
 }
 
 /// The makers of honest recordings against the oracle alone: what is said to be left
@@ -87,6 +98,8 @@ pub fn run(subject: &dyn Subject, options: &Options) -> Checked {
         import.held(&recording.file[..n], recording.channel(), &recording.left(n))
     })?;
     log.line("every cut of honest recordings", &import.lender);
+    size_rule(&mut import, &mut rng)?;
+    log.line("a frame longer than an honest recording has", &import.lender);
     import::run_rule(subject, options, "tolerant", Rule::Tolerant, size / 5)?;
     import::run_rule(subject, options, "tolerant, switched to strict", Rule::NotTolerant, size / 50)
 }
