@@ -75,3 +75,9 @@ pub fn read_names(list: &[u8]) -> Result<Vec<Vec<u8>>, usize> {
     let items = read(list, |kind, _| kind == NAME)?;
     Ok(items.into_iter().map(|(_, body)| body.to_vec()).collect())
 }
+
+/// The names in a list of fixtures.
+pub fn read_fixture_names(list: &[u8]) -> Result<Vec<Vec<u8>>, usize> {
+    let items = read(list, |kind, _| kind == NAME || kind == WIRE)?;
+    Ok(items.into_iter().filter(|(kind, _)| *kind == NAME).map(|(_, body)| body.to_vec()).collect())
+}

@@ -7,6 +7,7 @@ mod expected;
 mod honest;
 mod import;
 mod items;
+mod misprint;
 mod model;
 mod names;
 mod order;
@@ -18,6 +19,7 @@ mod sample;
 mod stats;
 mod tolerant;
 mod trace;
+mod traceprint;
 
 use std::process::ExitCode;
 
@@ -26,6 +28,7 @@ use answer::{Checked, Difference, Lender, Subject, NUMBERS};
 const USAGE: &str = "\
 usage: compare GROUP [--seed N] [--size N] [--against proved|model]
        compare all [--seed N] [--size N] [--against proved|model]
+       compare traceprint PROGRAM [--seed N] [--size N]
        compare selfcheck
        compare bench GROUP [--against proved|model]
        compare sample GROUP FILE
@@ -33,7 +36,7 @@ usage: compare GROUP [--seed N] [--size N] [--against proved|model]
 
 GROUP is codec, names, plan, order, import or tolerant. --size is the number of
 random cases; what is exhaustive stays whole. `all` runs every group that this
-build links.";
+build links. PROGRAM is the built traceprint.";
 
 /// What the command line says besides the command.
 pub struct Options {
@@ -58,15 +61,31 @@ impl Options {
 
 impl Log {
     pub fn line(&mut self, part: &str, lender: &Lender) {
-        let counts: Vec<u64> = lender.answers.iter().zip(self.before).map(|(now, before)| now - before).collect();
-        self.before = lender.answers;
-        if self.quiet {
-            return;
-        }
-        let total: u64 = counts.iter().sum();
-        let shown = counts.iter().enumerate().filter(|(_, n)| **n > 0).map(|(number, n)| format!("{number}: {n}"));
-        println!("{}: {part}: {total} cases ({})", self.group, shown.collect::<Vec<_>>().join(", "));
+        self.counts(part, &lender.answers);
     }
+
+    /// A line for what was added to the counts since the line before.
+    pub fn counts(&mut self, part: &str, answers: &[u64; NUMBERS]) {
+        let counts: Vec<u64> = answers.iter().zip(self.before).map(|(now, before)| now - before).collect();
+        self.before = *answers;
+        if !self.quiet {
+            println!("{}: {part}: {}", self.group, cases(&counts));
+        }
+    }
+
+    /// A line for all that was counted.
+    pub fn total(&self, answers: &[u64; NUMBERS]) {
+        if !self.quiet {
+            println!("{}: {}", self.group, cases(answers));
+        }
+    }
+}
+
+/// How many cases there are, and how many of each number.
+fn cases(counts: &[u64]) -> String {
+    let total: u64 = counts.iter().sum();
+    let shown = counts.iter().enumerate().filter(|(_, n)| **n > 0).map(|(number, n)| format!("{number}: {n}"));
+    format!("{total} cases ({})", shown.collect::<Vec<_>>().join(", "))
 }
 
 pub type Group = fn(&dyn Subject, &Options) -> Checked;
@@ -131,7 +150,10 @@ fn arguments() -> Result<(Vec<String>, Options), String> {
 
 fn selfcheck(options: Options) -> bool {
     let options = Options { quiet: true, size: options.size.or(Some(200)), ..options };
-    let (planted, missed) = planted::unreported(&GROUPS, &options);
+    let (calls, mut missed) = planted::unreported(&GROUPS, &options);
+    let (prints, unseen) = misprint::unreported(&options);
+    let planted = calls + prints;
+    missed.extend(unseen);
     println!("selfcheck: {} of {planted} planted faults reported", planted - missed.len());
     missed.iter().for_each(|label| println!("  not reported: {label}"));
     missed.is_empty()
@@ -146,6 +168,7 @@ fn run() -> Result<bool, String> {
     let need = |group: &str| if linked(group) { Ok(()) } else { Err(format!("built without the feature `{group}`")) };
     match words[..] {
         ["all"] => Ok(GROUPS.iter().all(|(name, group)| !linked(name) || verdict(group(subject, &options)))),
+        ["traceprint", program] => Ok(verdict(traceprint::run_program(program, &options))),
         ["selfcheck"] => Ok(selfcheck(options)),
         ["bench", group] => {
             need(group)?;
