@@ -1,8 +1,8 @@
-// Replays a sample of the Rust source's answers, where no Rust is at hand. Each case of the file that the first argument
-// names is run by the proved calls. Number, values, the output written, and all that has to stay as it was are compared.
+// Replays samples of the Rust source's answers, where no Rust is at hand. Each case of the files that the arguments name is
+// run by the proved calls. Number, values, the output written, and all that has to stay as it was are compared.
 //
-// data/codec.bin is what `compare sample codec FILE` writes: the answers of the source that was ported to 768 calls of pack
-// and unpack. compare/README.md says how to make it again, and how the file is laid out.
+// data/GROUP.bin is what `compare sample GROUP FILE` writes: the answers of the source that was ported to the calls of a
+// group. compare/README.md says how to make it again, and how the file is laid out.
 mod sample;
 
 ghost use mathlib.Core.Path.{_≡_};
@@ -17,24 +17,88 @@ fn room() -> [u8; 262144]
     [0u8; 262144]
 }
 
-// The number of an op that is no call: no answer has it.
+// The number where no call is run: no answer has it.
 const NO_CALL: u32 = 4294967295;
 
-fn run(s: &[u8], c: sample::Call, out: &mut [u8], values: &mut [u64]) -> u32 {
-    let input = sample::part(s, c.input, c.size);
+fn run_codec(s: &[u8], c: sample::Call, out: &mut [u8], values: &mut [u64]) -> u32 {
+    let input = sample::part(s, c.first, c.first_size);
     if c.op == 1 {
         return lumbryth::lumbryth_unpack(input, out, values);
     }
-    if c.op == 2 {
-        return lumbryth::lumbryth_pack(c.kind, c.seq, input, out, values);
-    }
-    NO_CALL
+    let kind = sample::byte(s, c.numbers);
+    let seq = sample::byte(s, sample::sum(c.numbers, 1));
+    lumbryth::lumbryth_pack(kind, seq, input, out, values)
 }
 
-fn is_same(s: &[u8], c: sample::Call, a: sample::Answer, out: &mut [u8]) -> bool {
+fn run_names(s: &[u8], c: sample::Call, out: &mut [u8], values: &mut [u64]) -> u32 {
+    let input = sample::part(s, c.first, c.first_size);
+    if c.op == 4 {
+        return lumbryth::lumbryth_is_command_name(input);
+    }
+    let ms = sample::long(s, c.numbers);
+    let counter = sample::word(s, sample::sum(c.numbers, 8));
+    let way = sample::byte(s, sample::sum(c.numbers, 12));
+    lumbryth::lumbryth_fixture_name(ms, counter, way, input, out, values)
+}
+
+fn run_plan(s: &[u8], c: sample::Call, out: &mut [u8], values: &mut [u64]) -> u32 {
+    let spans = sample::part(s, c.first, c.first_size);
+    let excluded = sample::part(s, c.second, c.second_size);
+    lumbryth::lumbryth_plan(spans, excluded, out, values)
+}
+
+fn run_order(s: &[u8], c: sample::Call, out: &mut [u8], values: &mut [u64]) -> u32 {
+    let names = sample::part(s, c.first, c.first_size);
+    lumbryth::lumbryth_capture_order(names, out, values)
+}
+
+fn import(
+    tolerant: bool,
+    file: &[u8],
+    work: &mut [u8],
+    out: &mut [u8],
+    channel: u32,
+    values: &mut [u64],
+) -> u32 {
+    if tolerant {
+        return lumbryth::lumbryth_import(file, work, out, channel, 1, values);
+    }
+    lumbryth::lumbryth_import_strict(file, work, out, channel, values)
+}
+
+// The work lent is 8 times the file's length, with what earlier cases left in it: no answer depends on that.
+fn run_import(
+    s: &[u8],
+    c: sample::Call,
+    work: &mut [u8],
+    out: &mut [u8],
+    values: &mut [u64],
+) -> u32 {
+    let file = sample::part(s, c.first, c.first_size);
+    let channel = sample::word(s, c.numbers);
+    let n = file.len();
+    if work.len() / 8 < n {
+        return NO_CALL;
+    }
+    import(c.op == 8, file, &mut work[..8 * n], out, channel, values)
+}
+
+fn run(s: &[u8], c: sample::Call, work: &mut [u8], out: &mut [u8], values: &mut [u64]) -> u32 {
+    let op = c.op;
+    match op {
+        1 | 2 => run_codec(s, c, out, values),
+        3 | 4 => run_names(s, c, out, values),
+        5 => run_plan(s, c, out, values),
+        6 => run_order(s, c, out, values),
+        7 | 8 => run_import(s, c, work, out, values),
+        _ => NO_CALL,
+    }
+}
+
+fn is_same(s: &[u8], c: sample::Call, a: sample::Answer, work: &mut [u8], out: &mut [u8]) -> bool {
     sample::fill(out);
     let mut values = [sample::UNTOUCHED; 8];
-    if run(s, c, out, &mut values) != a.number {
+    if run(s, c, work, out, &mut values) != a.number {
         return false;
     }
     if !sample::has_values(s, a.values, a.count, &values) {
@@ -49,7 +113,7 @@ struct Replayed {
     end: usize,
 }
 
-fn replay_case(s: &[u8], at: usize, space: &mut [u8]) -> Replayed {
+fn replay_case(s: &[u8], at: usize, work: &mut [u8], space: &mut [u8]) -> Replayed {
     let c = sample::read_call(s, at);
     let a = sample::read_answer(s, c.end);
     let end = a.end;
@@ -61,7 +125,7 @@ fn replay_case(s: &[u8], at: usize, space: &mut [u8]) -> Replayed {
         return Replayed { same: false, end };
     }
     Replayed {
-        same: is_same(s, c, a, &mut space[..lent]),
+        same: is_same(s, c, a, work, &mut space[..lent]),
         end,
     }
 }
@@ -89,12 +153,12 @@ struct Totals {
 }
 
 // A case that is cut short is a difference.
-fn replay(s: &[u8], space: &mut [u8]) -> Totals {
+fn replay(s: &[u8], work: &mut [u8], space: &mut [u8]) -> Totals {
     let mut cases: u64 = 0;
     let mut differences: u64 = 0;
     let mut at: usize = 0;
     while at < s.len() {
-        let r = replay_case(s, at, space);
+        let r = replay_case(s, at, work, space);
         cases += 1;
         differences += one_unless(r.same);
         at = next(at, r.end, s.len());
@@ -102,17 +166,31 @@ fn replay(s: &[u8], space: &mut [u8]) -> Totals {
     Totals { cases, differences }
 }
 
-fn print(t: Totals) {
-    io::write_all(STDOUT_FILENO, b"codec: ");
+// The length of a file's name up to its dot.
+fn stem(name: &[u8]) -> usize {
+    let mut i: usize = 0;
+    while i < name.len() {
+        if name[i] == b'.' {
+            return i;
+        }
+        i += 1;
+    }
+    i
+}
+
+fn print(name: &[u8], t: Totals) {
+    io::write_all(STDOUT_FILENO, sample::part(name, 0, stem(name)));
+    io::write_all(STDOUT_FILENO, b": ");
     io::print_decimal(STDOUT_FILENO, t.cases);
     io::write_all(STDOUT_FILENO, b" cases replayed, ");
     io::print_decimal(STDOUT_FILENO, t.differences);
     io::write_all(STDOUT_FILENO, b" differences\n");
 }
 
-fn main() {
+// Replays the file that an argument names. A file that is not there has no line.
+fn replay_file(i: usize) {
     let mut name = io::buffer();
-    let n = os::arg(1, &mut name);
+    let n = os::arg(i, &mut name);
     let fd = os::open_read(&name[..n]);
     if fd < 0 {
         os::fail(&name[..n]);
@@ -121,6 +199,16 @@ fn main() {
     let mut file = room();
     let got = io::read_full(fd, &mut file);
     libc::close(fd);
+    let mut work = io::large_buffer();
     let mut space = io::large_buffer();
-    print(replay(&file[..got], &mut space));
+    print(&name[..n], replay(&file[..got], &mut work, &mut space));
+}
+
+fn main() {
+    let count = os::arg_count();
+    let mut i: usize = 1;
+    while i < count {
+        replay_file(i);
+        i += 1;
+    }
 }

@@ -1,19 +1,19 @@
 // Reads the cases of a sample. What lies past the end of the file reads as 0. A case is whole if its end lies in the file.
 
 // The sum, or the largest number if the sum is larger.
-fn sum(a: usize, b: usize) -> usize {
+pub fn sum(a: usize, b: usize) -> usize {
     if usize::MAX - b < a {
         return usize::MAX;
     }
     a + b
 }
 
-fn byte(s: &[u8], at: usize) -> u8 {
+pub fn byte(s: &[u8], at: usize) -> u8 {
     if at < s.len() { s[at] } else { 0 }
 }
 
 // The 32-bit number at a place.
-fn word(s: &[u8], at: usize) -> u32 {
+pub fn word(s: &[u8], at: usize) -> u32 {
     let n = s.len();
     if n < 4 {
         return 0;
@@ -25,7 +25,7 @@ fn word(s: &[u8], at: usize) -> u32 {
 }
 
 // The 64-bit number at a place.
-fn long(s: &[u8], at: usize) -> u64 {
+pub fn long(s: &[u8], at: usize) -> u64 {
     let n = s.len();
     if n < 8 {
         return 0;
@@ -48,27 +48,71 @@ pub fn part(s: &[u8], at: usize, size: usize) -> &[u8] {
     &s[at..end]
 }
 
-// A call of pack or unpack, and the place after it.
+// Bytes with their length before them: where they stand, and the place after them.
+struct Counted {
+    start: usize,
+    size: usize,
+    end: usize,
+}
+
+fn read_counted(s: &[u8], at: usize) -> Counted {
+    let start = sum(at, 4);
+    let size = words::wide32(word(s, at));
+    Counted {
+        start,
+        size,
+        end: sum(start, size),
+    }
+}
+
+// A call, and the place after it.
 pub struct Call {
     pub op: u8,
-    pub kind: u8,
-    pub seq: u8,
-    // Where the input stands, and its length.
-    pub input: usize,
-    pub size: usize,
+    // Where the op's numbers stand.
+    pub numbers: usize,
+    // Where the first input stands, and its length; the same of the second, which is empty where the op has none.
+    pub first: usize,
+    pub first_size: usize,
+    pub second: usize,
+    pub second_size: usize,
     pub end: usize,
 }
 
+// How many bytes the numbers of an op take.
+fn numbers_size(op: u8) -> usize {
+    match op {
+        1 | 2 => 2,
+        3 => 13,
+        7 | 8 => 4,
+        _ => 0,
+    }
+}
+
+// The second input, which the plan alone has.
+fn read_second(s: &[u8], op: u8, at: usize) -> Counted {
+    if op == 5 {
+        return read_counted(s, at);
+    }
+    Counted {
+        start: at,
+        size: 0,
+        end: at,
+    }
+}
+
 pub fn read_call(s: &[u8], at: usize) -> Call {
-    let input = sum(at, 7);
-    let size = words::wide32(word(s, sum(at, 3)));
+    let op = byte(s, at);
+    let numbers = sum(at, 1);
+    let first = read_counted(s, sum(numbers, numbers_size(op)));
+    let second = read_second(s, op, first.end);
     Call {
-        op: byte(s, at),
-        kind: byte(s, sum(at, 1)),
-        seq: byte(s, sum(at, 2)),
-        input,
-        size,
-        end: sum(input, size),
+        op,
+        numbers,
+        first: first.start,
+        first_size: first.size,
+        second: second.start,
+        second_size: second.size,
+        end: second.end,
     }
 }
 
@@ -93,17 +137,15 @@ fn value_bytes(count: u8) -> usize {
 pub fn read_answer(s: &[u8], at: usize) -> Answer {
     let count = byte(s, sum(at, 8));
     let values = sum(at, 9);
-    let counted = sum(values, value_bytes(count));
-    let output = sum(counted, 4);
-    let size = words::wide32(word(s, counted));
+    let output = read_counted(s, sum(values, value_bytes(count)));
     Answer {
         lent: words::wide32(word(s, at)),
         number: word(s, sum(at, 4)),
         values,
         count: words::wide(count),
-        output,
-        size,
-        end: sum(output, size),
+        output: output.start,
+        size: output.size,
+        end: output.end,
     }
 }
 

@@ -7,10 +7,10 @@ use Rattle.replay.proofs.replay.Statement.{statement}
 use Rattle.replay.proofs.replay.Tie as tie
 
 abbrev Inv-loop : tie.InvT-loop
-Inv-loop s space₀ cases₀ differences₀ at₀ space cases differences at = (at ≤ length s) × (cases ≤ at) × (differences ≤ cases) × (length space ≡ length space₀)
+Inv-loop s work₀ space₀ cases₀ differences₀ at₀ work space cases differences at = (at ≤ length s) × (cases ≤ at) × (differences ≤ cases) × (length work ≡ length work₀) × (length space ≡ length space₀)
 
 abbrev μ-loop : tie.MeasureT-loop
-μ-loop s space₀ cases₀ differences₀ at₀ space cases differences at = length s - at
+μ-loop s work₀ space₀ cases₀ differences₀ at₀ work space cases differences at = length s - at
 
 loop-holds : tie.Need-loop-holds Inv-loop μ-loop
 loop-holds c = search needs
@@ -34,10 +34,13 @@ loop-less : tie.Need-loop-less Inv-loop μ-loop
 loop-less c = search needs
 
 loop-again : tie.Need-loop-again Inv-loop μ-loop
-loop-again c = (search needs, search needs, omega arith, c .before .before .before .before .replay-case .kept .1 .1 .0 ∙ c .before .before .before .before .before .before .before .loop .inv .3)
+loop-again c = (search needs, search needs, omega arith, c .before .before .before .before .before .before .replay-case .kept .1 .1 .0 ∙ c .before .before .before .before .before .before .before .before .before .before .loop .inv .3, c .before .before .before .before .before .before .replay-case .kept .1 .1 .1 .0 ∙ c .before .before .before .before .before .before .before .before .before .before .loop .inv .4)
 
 same-length : tie.Need-same-length Inv-loop μ-loop
 same-length c = search needs
+
+same-length-2 : tie.Need-same-length-2 Inv-loop μ-loop
+same-length-2 c = search needs
 
 returns : tie.Need-returns Inv-loop μ-loop
 returns c = search needs
@@ -57,4 +60,5 @@ replay-spec =
     loop-less
     loop-again
     same-length
+    same-length-2
     returns)

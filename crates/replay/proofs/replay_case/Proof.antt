@@ -29,6 +29,9 @@ is-same-requires c κs = search needs
 same-length : tie.Need-same-length
 same-length c = search needs
 
+same-length-2 : tie.Need-same-length-2
+same-length-2 c = search needs
+
 returns-3 : tie.Need-returns-3
 returns-3 c = search needs
 
@@ -44,4 +47,5 @@ replay-case-spec =
     slice-aggregate-is-same
     is-same-requires
     same-length
+    same-length-2
     returns-3)
