@@ -7,6 +7,7 @@ ghost use lib.ListN.{length};
 ghost use Rattle.btsnoop.specs.Header.{isBtsnoop, isDatalink};
 ghost use Rattle.btsnoop.specs.Headers.{headerOf};
 ghost use Rattle.btsnoop.specs.Walk.{NextIs};
+ghost use Rattle.btsnoop.specs.Reader.{stepOf, Starts, Moves};
 ghost use Rattle.btsnoop.specs.Reading.{AclPre, AclIs, H4Is, MonitorIs, HciIs, RecordPre, RecordIs};
 ghost use Rattle.btsnoop.specs.Adding.{putPacket, AddPre, Added, ReadPre, ReadTo};
 use words::Field;
@@ -286,4 +287,72 @@ pub fn read_packets(file: &[u8], w: &mut [u8]) -> Packets
             }
         }
     }
+}
+
+// A reader over the lent capture: the next record starts at an offset of it.
+pub struct Reader<'a> {
+    pub file: &'a [u8],
+    pub at: usize,
+}
+
+// What a reader finds at its offset.
+pub enum Step {
+    // a whole record: where it ends
+    Record(usize),
+    // a record that passes the end: where it starts
+    Cut(usize),
+    // the file's end
+    End,
+}
+
+// What stands at an offset.
+pub fn step_at(file: &[u8], at: usize) -> Step
+    ensures { λ r. ⌜ r ≡ stepOf (now (file .entry)) at ⌝ }
+{
+    if file.len() <= at {
+        return Step::End;
+    }
+    let x = next_record(file, at);
+    match x {
+        Next::Record(end) => Step::Record(end),
+        Next::End => Step::Cut(at),
+    }
+}
+
+// The reader of a capture, at its first record.
+pub fn start<'a>(file: &'a [u8]) -> Reader<'a>
+    ensures { λ r. ⌜ Starts (file .entry) r ⌝ }
+{
+    Reader { file, at: 16 }
+}
+
+// The header of a reader's capture.
+pub fn header_of<'a>(r: Reader<'a>) -> Header
+    ensures { λ h. ⌜ h ≡ headerOf (now (r .entry .file)) ⌝ }
+{
+    read_header(r.file)
+}
+
+// What a reader finds.
+pub fn next_step<'a>(r: Reader<'a>) -> Step
+    ensures { λ s. ⌜ s ≡ stepOf (now (r .entry .file)) (r .entry .at) ⌝ }
+{
+    step_at(r.file, r.at)
+}
+
+// The reader after a record that ends at an offset.
+pub fn moved<'a>(r: Reader<'a>, end: usize) -> Reader<'a>
+    ensures { λ q. ⌜ Moves (r .entry) end q ⌝ }
+{
+    Reader {
+        file: r.file,
+        at: end,
+    }
+}
+
+// What a reader of a capture finds at an offset, for callers that hold no reader.
+pub fn read_at(file: &[u8], at: usize) -> Step
+    ensures { λ s. ⌜ s ≡ stepOf (now (file .entry)) at ⌝ }
+{
+    next_step(Reader { file, at })
 }
