@@ -6,6 +6,8 @@ pub mod PacketTable
 pub mod Parts
 pub mod Walk
 pub mod Reader
+pub mod Listing
+pub mod Listings
 pub mod Reading
 pub mod Adding
 pub mod PacketFrames

@@ -80,11 +80,11 @@ module _ (f : List ℕ) (at : ℕ) where
       let y : 0 ≡ suc (length (recordsIn (drop e f))) = sym (ap length z) ∙ ap length (r .list) in
       absurd (omega arith))
 
-  whole-fits : isWhole (drop at f) ≡ true → recordSize (drop at f) ≤ length (drop at f)
+  pub whole-fits : isWhole (drop at f) ≡ true → recordSize (drop at f) ≤ length (drop at f)
   unfolding isWhole
   whole-fits q = leb-true (recordSize (drop at f)) (length (drop at f)) q
 
-  whole-list : isWhole (drop at f) ≡ true → recordsIn (drop at f) ≡ take (recordSize (drop at f)) (drop at f) ∷ recordsIn (drop (recordSize (drop at f)) (drop at f))
+  pub whole-list : isWhole (drop at f) ≡ true → recordsIn (drop at f) ≡ take (recordSize (drop at f)) (drop at f) ∷ recordsIn (drop (recordSize (drop at f)) (drop at f))
   whole-list q = records-eq (drop at f) ∙ rw q
 
   abbrev first : List (List ℕ) → List ℕ
