@@ -3,6 +3,8 @@ ghost use mathlib.Core.Path.{_≡_};
 ghost use Prim.Native.Nat.{_+_, _*_, _≤_, _<_};
 ghost use lib.ListN.{length};
 ghost use Rattle.table.specs.Table.{findIn, putRow, Stored};
+ghost use Rattle.table.specs.Chain.{Bucket, Cleared, putLink, LinkPre};
+use words::get32;
 use words::get64;
 use words::put32;
 use words::put64;
@@ -53,4 +55,39 @@ pub fn store(w: &mut [u8], base: usize, count: usize, key: u64, a: u32, b: u32) 
             count + 1
         }
     }
+}
+
+// ---- rows in buckets
+
+// The bucket of a number, of m buckets. Nearly always there are 4,096, which spares the division.
+pub fn bucket(x: u64, m: u64) -> u64
+    requires { ⌜ 0 < m ⌝ }
+    ensures { λ r. ⌜ Bucket x m r ⌝ }
+{
+    if m == 4096 {
+        return x % 4096;
+    }
+    x % m
+}
+
+// Empties m buckets, whose words stand from word at on.
+pub fn clear(w: &mut [u8], at: usize, m: usize)
+    requires { ⌜ 4 * (at + m) ≤ length (now w) ⌝ }
+    ensures { λ _. ⌜ Cleared (now (w .entry)) at m (now (w .exit)) ⌝ }
+{
+    let mut i = 0;
+    while i < m {
+        put32(w, at + i, 0);
+        i += 1;
+    }
+}
+
+// Puts row i, the next one, into bucket h.
+pub fn link(w: &mut [u8], chain: usize, heads: usize, i: usize, h: usize)
+    requires { ⌜ LinkPre (now w) chain heads i h ⌝ }
+    ensures { λ _. ⌜ now (w .exit) ≡ putLink (now (w .entry)) chain heads i h ⌝ }
+{
+    let last = get32(w, heads + h);
+    put32(w, chain + i, last);
+    put32(w, heads + h, (i + 1) as u32);
 }
