@@ -1,7 +1,8 @@
 // The pieces of one DLCI split into spans: counted, or written as a list of items.
 //
-// Nothing is stored but one word for each piece: how many bytes its key holds after it. The buffer of a key is then the
-// last that many bytes of all that came under the key, and is put together where a 3C may close something.
+// Two words are stored for each piece: which piece of its bucket came before it, and how many bytes its key holds after it.
+// The buffer of a key is then the last that many bytes of all that came under the key, and is put together where a 3C may
+// close something. Pieces of one key are in one bucket, so no other bucket is walked.
 ghost use mathlib.Core.Path.{_≡_};
 ghost use Prim.Native.Nat.{_+_, _-_, _%_, _≤_, _<_, min};
 ghost use lib.ListN.{length, take, drop};
@@ -11,7 +12,7 @@ ghost use Rattle.items.specs.Items.{rxOf};
 ghost use Rattle.spans.specs.Scan.{ended};
 ghost use Rattle.split.specs.Last.{lastn};
 ghost use Rattle.split.specs.Rows.{keyAt, lenAt, inWork, bytesAt, heldOf, streamTo, cappedLength, sign, Laid};
-ghost use Rattle.split.specs.Walks.{Row, TwoRows, StartIs, Placed, PutPre, GatherPre, JoinPre, Joined, Says, HoldPre, HeldMore, OpenPre, CountPre, CountHeld, Stepped, CountIs, WritePre, WriteHeld, WroteStep, ListPre, WriteIs};
+ghost use Rattle.split.specs.Walks.{Row, Chain, Earlier, TwoRows, StartIs, Placed, PutPre, GatherPre, JoinPre, Joined, Says, HoldPre, HeldMore, OpenPre, CountPre, CountHeld, Stepped, CountIs, WritePre, WriteHeld, WroteStep, ListPre, WriteIs};
 use items::Direction;
 use spans::Counted;
 use spans::Tally;
@@ -24,10 +25,11 @@ use words::get32;
 use words::get64;
 use words::put32;
 
-// Where the tables lie in work: the pieces and the lengths held by words, the area by bytes. And the DLCI.
+// Where the tables lie in work: the pieces, what links them and the lengths held by words, the area by bytes. And the DLCI.
 pub struct Plan {
     pub rows: usize,
     pub n: usize,
+    pub chain: usize,
     pub held: usize,
     pub area: usize,
     pub dlci: u32,
@@ -78,16 +80,25 @@ fn is_joined(w: &[u8], p: Plan, i: usize) -> bool
     get32(w, p.rows + 8 * i + 5) / 65536 == 1
 }
 
+// One more than the piece of its bucket before piece i; 0 if there is none.
+fn earlier(w: &[u8], p: Plan, i: usize) -> usize
+    requires { ⌜ Chain (now w) p i ⌝ }
+    ensures { λ r. ⌜ Earlier (now (w .entry)) p i r ⌝ }
+{
+    get32(w, p.chain + i) as usize
+}
+
 // The length held after the newest piece before i that has the key of i.
 fn held_before(w: &[u8], p: Plan, i: usize) -> usize
-    requires { ⌜ Row (now w) p i ⌝ }
+    requires { ⌜ Chain (now w) p i ⌝ }
     ensures { λ r. ⌜ r ≡ heldOf (now (w .entry)) p i ⌝ }
 {
-    let mut j = i;
+    let mut j = earlier(w, p, i);
     while 0 < j {
-        j -= 1;
-        if same_key(w, p, j, i) {
-            return get32(w, p.held + j) as usize;
+        let k = j - 1;
+        j = earlier(w, p, k);
+        if same_key(w, p, k, i) {
+            return get32(w, p.held + k) as usize;
         }
     }
     0
@@ -149,14 +160,15 @@ fn gather(file: &[u8], w: &mut [u8], p: Plan, i: usize, h: usize)
     requires { ⌜ GatherPre (now file) (now w) p i h ⌝ }
     ensures { λ _. ⌜ now (w .exit) ≡ sets (now (w .entry)) (p .area) (lastn h (streamTo (now (file .entry)) (now (w .entry)) p i)) ⌝ }
 {
-    let mut j = i;
+    let mut j = earlier(w, p, i);
     let mut left = h;
     while 0 < left {
-        j -= 1;
-        if same_key(w, p, j, i) {
-            let n = length_of(w, p, j);
+        let k = j - 1;
+        j = earlier(w, p, k);
+        if same_key(w, p, k, i) {
+            let n = length_of(w, p, k);
             let m = least(left, n);
-            put_bytes(file, w, p, j, n - m, m, p.area + left - m);
+            put_bytes(file, w, p, k, n - m, m, p.area + left - m);
             left -= m;
         }
     }
