@@ -34,6 +34,24 @@ pub record Chain (w : List ℕ) (p : Plan) (i : ℕ) : Type 0 where
   pub chain : p .chain + p .n ≤ p .held
   pub linked : Linked w p
 
+-- room to link the pieces: m buckets whose words stand from word heads on
+pub record LinkRoom (w : List ℕ) (p : Plan) (heads m : ℕ) : Type 0 where
+  pub rows : p .rows + 8 * p .n ≤ p .chain
+  pub chain : p .chain + p .n ≤ p .held
+  pub over : p .held ≤ heads
+  pub words : 4 * (p .held + p .n) ≤ length w
+  pub room : 4 * (heads + m) ≤ length w
+  pub some : 0 < m
+  pub many : p .n ≤ 1048576
+
+pub record Unlinked (w : List ℕ) (p : Plan) (heads m : ℕ) : Type 0 where
+  pub room : LinkRoom w p heads m
+  pub zeros : (h : ℕ) → h < m → word w (heads + h) ≡ 0
+
+pub record LinkedTo (w : List ℕ) (p : Plan) (u : List ℕ) : Type 0 where
+  pub linked : Linked u p
+  pub front : Front (4 * p .chain) u w
+
 -- one more than the piece of its bucket before piece i, or 0
 pub record Earlier (w : List ℕ) (p : Plan) (i r : ℕ) : Type 0 where
   pub at : r ≡ word w (p .chain + i)

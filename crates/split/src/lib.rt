@@ -10,9 +10,10 @@ ghost use lib.Seq.{sets};
 ghost use Rattle.laws.specs.Keys.{eqK};
 ghost use Rattle.items.specs.Items.{rxOf};
 ghost use Rattle.spans.specs.Scan.{ended};
+ghost use Rattle.table.specs.Chain.{Bucket};
 ghost use Rattle.split.specs.Last.{lastn};
-ghost use Rattle.split.specs.Rows.{keyAt, lenAt, inWork, bytesAt, heldOf, streamTo, cappedLength, sign, Laid};
-ghost use Rattle.split.specs.Walks.{Row, Chain, Earlier, TwoRows, StartIs, Placed, PutPre, GatherPre, JoinPre, Joined, Says, HoldPre, HeldMore, OpenPre, CountPre, CountHeld, Stepped, CountIs, WritePre, WriteHeld, WroteStep, ListPre, WriteIs};
+ghost use Rattle.split.specs.Rows.{keyOf, keyAt, mix, lenAt, inWork, bytesAt, heldOf, streamTo, cappedLength, sign, Laid};
+ghost use Rattle.split.specs.Walks.{Row, LinkRoom, Unlinked, LinkedTo, Chain, Earlier, TwoRows, StartIs, Placed, PutPre, GatherPre, JoinPre, Joined, Says, HoldPre, HeldMore, OpenPre, CountPre, CountHeld, Stepped, CountIs, WritePre, WriteHeld, WroteStep, ListPre, WriteIs};
 use items::Direction;
 use spans::Counted;
 use spans::Tally;
@@ -20,6 +21,9 @@ use spans::Wrote;
 use spans::count_part;
 use spans::has_end;
 use spans::write_part;
+use table::bucket;
+use table::clear;
+use table::link;
 use words::copy_to;
 use words::get32;
 use words::get64;
@@ -102,6 +106,58 @@ fn held_before(w: &[u8], p: Plan, i: usize) -> usize
         }
     }
     0
+}
+
+// ---- the pieces linked, before all else
+
+// What a key comes to, to choose its bucket by.
+fn mixed(dlci: u32, side: u32, cid: u32, counts: u32) -> u64
+    ensures { λ r. ⌜ r ≡ mix (keyOf dlci side cid counts) ⌝ }
+{
+    let links = (counts / 65536) as u64 + 31 * ((side % 2) as u64);
+    let sessions = (counts % 65536) as u64 + 31 * links;
+    let channel = cid as u64 + 31 * sessions;
+    let link = (side / 2) as u64 + 31 * channel;
+    dlci as u64 + 31 * link
+}
+
+// The bucket of piece i, of m.
+fn bucket_of(w: &[u8], p: Plan, i: usize, m: usize) -> usize
+    requires { ⌜ (Row (now w) p i) × (0 < m) ⌝ }
+    ensures { λ r. ⌜ Bucket (mix (keyAt (now (w .entry)) p i)) m r ⌝ }
+{
+    let at = p.rows + 8 * i;
+    let x = mixed(
+        get32(w, at),
+        get32(w, at + 1),
+        get32(w, at + 2),
+        get32(w, at + 3),
+    );
+    bucket(x, m as u64) as usize
+}
+
+// Links the pieces of each of m buckets that are empty.
+fn link_rows(w: &mut [u8], p: Plan, heads: usize, m: usize)
+    requires { ⌜ Unlinked (now w) p heads m ⌝ }
+    ensures { λ _. ⌜ LinkedTo (now (w .entry)) p (now (w .exit)) ⌝ }
+{
+    let n = p.n;
+    let chain = p.chain;
+    let mut i = 0;
+    while i < n {
+        let h = bucket_of(w, p, i, m);
+        link(w, chain, heads, i, h);
+        i += 1;
+    }
+}
+
+// Links the pieces of each of m buckets. The words of the buckets stand from word heads on, and are free afterwards.
+pub fn link_pieces(w: &mut [u8], p: Plan, heads: usize, m: usize)
+    requires { ⌜ LinkRoom (now w) p heads m ⌝ }
+    ensures { λ _. ⌜ LinkedTo (now (w .entry)) p (now (w .exit)) ⌝ }
+{
+    clear(w, heads, m);
+    link_rows(w, p, heads, m);
 }
 
 // Whether a piece has a 3C.
