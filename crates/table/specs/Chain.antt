@@ -130,7 +130,7 @@ module _ (w : List ℕ) (chain heads i h : ℕ) where
       front-then (4 * (chain + i)) _ _ w (front-put (4 * (chain + i)) _ (heads + h) (i + 1) (omega arith))
       (front-put (4 * (chain + i)) w (chain + i) (word w (heads + h)) (omega arith))
 
-  link-other : (j : ℕ) → (chain + i ≡ j → ⊥) → (heads + h ≡ j → ⊥) → word (putLink w chain heads i h) j ≡ word w j
+  pub link-other : (j : ℕ) → (chain + i ≡ j → ⊥) → (heads + h ≡ j → ⊥) → word (putLink w chain heads i h) j ≡ word w j
   unfolding putLink
   link-other j p q = word-put-other (putWord w (chain + i) (word w (heads + h))) (heads + h) (i + 1) j q ∙ word-put-other w (chain + i) (word w (heads + h)) j p
 
@@ -157,3 +157,7 @@ module _ (w : List ℕ) (chain heads i h : ℕ) where
       here s =
           let n : heads + h ≡ chain + i → ⊥ = λ z. omega arith in
           word-put-other (putWord w (chain + i) (word w (heads + h))) (heads + h) (i + 1) (chain + i) n ∙ word-put-same w (chain + i) (word w (heads + h)) (omega arith) ∙ s .last h few ∙ rw eb
+
+-- the bucket of what a number comes to
+pub bucket-as : (x y m r : ℕ) → y ≡ x → Bucket y m r → Bucket x m r
+bucket-as x y m r e b = rw e at b
