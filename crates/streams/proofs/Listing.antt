@@ -8,6 +8,7 @@ use lib.ListN.{length}
 use Rattle.laws.specs.Answers.{Outcome, gives, Meets, meets-refused, meets-short, meets-wrote}
 use Rattle.laws.specs.Stores.{Writes}
 use Rattle.words.specs.Front.{Front, front-then, front-less}
+use Rattle.table.specs.Chain.{bucketsOf, buckets-some, buckets-fit}
 use Rattle.items.specs.Items.{spanList}
 use Rattle.rfcomm.specs.Pieces.{Piece}
 use Rattle.rfcomm.specs.PieceTable.{infosOf}
@@ -17,7 +18,7 @@ use Rattle.split.specs.Rows.{all}
 use Rattle.split.specs.Walks.{ListPre, WriteIs, LinkRoom, LinkedTo}
 use Rattle.split.specs.declared.Plan.{Plan}
 use Rattle.outcome.specs.Import.{chosen, listed, given}
-use Rattle.streams.specs.Streams.{channelOf, planOf, tablePieces, Tabled, Ready, Buckets, below, streamOf, choiceOf, Chooses, told, ListsSpans}
+use Rattle.streams.specs.Streams.{channelOf, planOf, tablePieces, Tabled, Ready, below, streamOf, choiceOf, Chooses, told, ListsSpans}
 use Rattle.streams.specs.declared.Channel.{Channel}
 use Rattle.streams.specs.declared.Stream.{Stream}
 use Rattle.streams.specs.declared.Choice.{Choice}
@@ -83,24 +84,18 @@ module _ (f w : List ℕ) (n : ℕ) (channel : Channel) (u : List ℕ) (c : Choi
 
 -- ---- the pieces linked first
 
-pub buckets-one : (q : ℕ) → q < 4096 → Buckets q 1
-buckets-one q h = record { some = omega arith; few = λ z. omega arith }
-
-pub buckets-all : (q : ℕ) → 4096 ≤ q → Buckets q 4096
-buckets-all q h = record { some = omega arith; few = λ z. h }
-
 module _ (f w : List ℕ) (n : ℕ) (t : Tabled f w n) (p : Plan) (ep : p ≡ planOf (length f / 4) n 0) where
-  pub link-room : (m : ℕ) → Buckets (length f / 4) m → LinkRoom w p (7 * (length f / 4)) m
+  pub link-room : (m : ℕ) → m ≡ bucketsOf (length f / 4) → LinkRoom w p (7 * (length f / 4)) m
   unfolding planOf
-  link-room m b =
+  link-room m e =
       let s : 0 < length f / 4 = omega (arith, t .few) in
-      rw ep (record {
+      rw (ep, e) (record {
         rows = omega (arith, t .few);
         chain = omega arith;
         over = omega (arith, t .few);
         words = omega (arith, t .few, t .room);
-        room = omega (arith, b .few s, t .room);
-        some = b .some;
+        room = omega (arith, buckets-fit (length f / 4) s, t .room);
+        some = buckets-some (length f / 4);
         many = omega (arith, t .few, t .small);
       })
 

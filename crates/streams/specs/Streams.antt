@@ -39,11 +39,6 @@ tablePieces f w n = piecesFrom f w (5 * (length f / 4)) 0 n
 abbrev pub Tabled : List ℕ → List ℕ → ℕ → Type 0
 Tabled f w n = Pieced f w n (tablePieces f w n)
 
--- how many buckets the pieces are linked in
-pub record Buckets (q r : ℕ) : Type 0 where
-  pub some : 0 < r
-  pub few : 0 < q → r ≤ q
-
 -- a table whose pieces are linked
 pub record Ready (f w : List ℕ) (n : ℕ) : Type 0 where
   pub tabled : Tabled f w n

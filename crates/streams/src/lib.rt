@@ -3,13 +3,14 @@ ghost use mathlib.Core.Path.{_≡_};
 ghost use Prim.Native.Nat.{_*_, _/_, _≤_, _<_};
 ghost use lib.ListN.{length, getD, set};
 ghost use Rattle.outcome.specs.Import.{onChannel};
-ghost use Rattle.streams.specs.Streams.{channelOf, planOf, Tabled, Ready, Buckets, Chooses, ListsSpans};
+ghost use Rattle.streams.specs.Streams.{channelOf, planOf, Tabled, Ready, Chooses, ListsSpans};
 use spans::Tally;
 use split::Plan;
 use split::Sums;
 use split::count_spans;
 use split::link_pieces;
 use split::write_spans;
+use table::buckets;
 use words::get32;
 
 // The channel that is asked for: any, or one.
@@ -133,16 +134,6 @@ fn list_linked(file: &[u8], w: &mut [u8], n: usize, channel: Channel, out: &mut 
             Listed::Spans(s)
         }
     }
-}
-
-// How many buckets the pieces are linked in: one, where work has no room for more.
-fn buckets(q: usize) -> usize
-    ensures { λ r. ⌜ Buckets q r ⌝ }
-{
-    if q < 4096 {
-        return 1;
-    }
-    4096
 }
 
 // Lists the spans of the DLCI chosen, for the n pieces in the table.

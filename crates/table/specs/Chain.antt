@@ -8,9 +8,9 @@ use native.Mathlib.Omega.{arith}
 use native.Mathlib.Numerals.{add-one}
 use native.Mathlib.Nat.{mod-lt}
 use lib.ListN.{length}
-use lib.Dec.{eqb}
-use borrow.Author.Tests.{eq-eqb, ne-eqb, eqb-true, eqb-false}
-use Rattle.laws.specs.Choice.{split≡}
+use lib.Dec.{eqb, ltb}
+use borrow.Author.Tests.{eq-eqb, ne-eqb, eqb-true, eqb-false, lt-ltb, le-ltb}
+use Rattle.laws.specs.Choice.{split≡, split≤}
 use Rattle.words.specs.Words.{word, putWord, length-put, word-put-same, word-put-other}
 use Rattle.words.specs.Front.{Front, front-refl, front-put, front-then}
 
@@ -78,6 +78,24 @@ bucket-most x m e = record { is = rw e; few = rw e (omega arith) }
 
 pub bucket-any : (x m : ℕ) → 0 < m → Bucket x m (x % m)
 bucket-any x m h = record { is = refl; few = mod-lt x h }
+
+-- how many buckets there are where words for so many can be had
+unfoldable pub bucketsOf : ℕ → ℕ
+bucketsOf room = cond (ltb room 4096) 1 4096
+
+pub buckets-one : (room : ℕ) → room < 4096 → 1 ≡ bucketsOf room
+unfolding bucketsOf
+buckets-one room h = rw (lt-ltb room 4096 h)
+
+pub buckets-most : (room : ℕ) → 4096 ≤ room → 4096 ≡ bucketsOf room
+unfolding bucketsOf
+buckets-most room h = rw (le-ltb room 4096 h)
+
+pub buckets-some : (room : ℕ) → 0 < bucketsOf room
+buckets-some room = split≤ 4096 room (λ h. rw (← buckets-most room h) (omega arith)) (λ h. rw (← buckets-one room h) (omega arith))
+
+pub buckets-fit : (room : ℕ) → 0 < room → bucketsOf room ≤ room
+buckets-fit room s = split≤ 4096 room (λ h. rw (← buckets-most room h) h) (λ h. rw (← buckets-one room h) s)
 
 -- all buckets empty
 pub record Cleared (w : List ℕ) (at m : ℕ) (u : List ℕ) : Type 0 where

@@ -13,7 +13,7 @@ use Rattle.laws.specs.Choice.{split≡, split≤}
 use Rattle.words.specs.Words.{word, long}
 use Rattle.words.specs.Front.{Front, front-then, front-less, front-word}
 use Rattle.table.specs.Table.{findIn, putRow, lookup, sumOf, Stored, Agree, find-hit, find-miss, find-none, find-below, row-outside, row-key, length-row, front-row, long-agree, lookup-agree, sum-agree, store-new, store-old}
-use Rattle.table.specs.Chain.{newest, newest-below, newest-bucket, newest-agree, newest-skip, Chained, Headed, Bucket, putLink, LinkPre, chained-agree, headed-agree, headed-link, chained-link, length-link, front-link, link-other}
+use Rattle.table.specs.Chain.{newest, newest-below, newest-bucket, newest-agree, newest-skip, Chained, Headed, chained-none, Bucket, putLink, LinkPre, chained-agree, headed-agree, headed-link, chained-link, length-link, front-link, link-other}
 use Rattle.table.specs.declared.Index.{Index}
 use Rattle.table.specs.declared.Row.{Row}
 use Rattle.table.specs.declared.Row.the-variants.{At, Nothing}
@@ -206,3 +206,12 @@ module _ (w : List ℕ) (x : Index) (n k y z : ℕ) (p : EnterPre w x n) where
         };
         beyond = λ j l. off j (λ e. omega (arith, apart)) (λ e. omega (arith, b .few)) ∙ above j (omega (arith, apart));
       }
+
+-- ---- an empty table
+
+pub indexed-none : (w : List ℕ) (x : Index) → ((h : ℕ) → h < x .m → word w (x .heads + h) ≡ 0) → Indexed w x 0
+unfolding newest
+indexed-none w x z = record { chained = chained-none (bucketAt w x) w (x .chain); headed = record { last = z } }
+
+pub stands-same : (u w : List ℕ) (x : Index) (n : ℕ) → length u ≡ length w → Stands w x n → Stands u x n
+stands-same u w x n e s = record { rows = s .rows; chain = s .chain; room = rw e (s .room); some = s .some; few = s .few }

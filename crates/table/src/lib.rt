@@ -3,9 +3,9 @@
 ghost use mathlib.Core.Path.{_≡_};
 ghost use Prim.Native.Nat.{_+_, _*_, _≤_, _<_};
 ghost use lib.ListN.{length};
-ghost use Rattle.table.specs.Table.{findIn, putRow, Stored};
+ghost use Rattle.table.specs.Table.{findIn, putRow, StoredAt};
 ghost use Rattle.table.specs.Index.{mixOf, Indexed, SeekPre, EnterPre, Entered};
-ghost use Rattle.table.specs.Chain.{Bucket, Cleared, putLink, LinkPre};
+ghost use Rattle.table.specs.Chain.{Bucket, bucketsOf, Cleared, putLink, LinkPre};
 use words::get32;
 use words::get64;
 use words::put32;
@@ -45,7 +45,7 @@ fn put_row(w: &mut [u8], at: usize, key: u64, a: u32, b: u32)
 // Sets the row of the key, a new one if there is none, and returns the count of rows.
 pub fn store(w: &mut [u8], base: usize, count: usize, key: u64, a: u32, b: u32) -> usize
     requires { ⌜ 4 * (base + 4 * count) + 16 ≤ length (now w) ⌝ }
-    ensures { λ r. ⌜ Stored (now (w .entry)) base count key a b (now (w .exit)) r ⌝ }
+    ensures { λ r. ⌜ StoredAt (now (w .entry)) base count key a b (now (w .exit)) r ⌝ }
 {
     let f = find(w, base, count, key);
     match f {
@@ -71,6 +71,16 @@ pub fn bucket(x: u64, m: u64) -> u64
         return x % 4096;
     }
     x % m
+}
+
+// How many buckets there are where words for so many can be had: one, or 4,096.
+pub fn buckets(room: usize) -> usize
+    ensures { λ r. ⌜ r ≡ bucketsOf room ⌝ }
+{
+    if room < 4096 {
+        return 1;
+    }
+    4096
 }
 
 // Empties m buckets, whose words stand from word at on.
