@@ -11,6 +11,8 @@ use Rattle.laws.specs.Keys.{Key, eqK, eq-eqK, ne-eqK}
 use Rattle.words.specs.Words.{word}
 use Rattle.words.specs.Front.{front-refl}
 use Rattle.table.specs.Table.{Slot, none, some, lookup, upd, Stored, findIn, lookup-found, lookup-nothing}
+use Rattle.table.specs.Index.{EnterPre, Entered}
+use Rattle.table.specs.declared.Index.{Index}
 use Rattle.table.specs.declared.Row.{Row}
 use Rattle.table.specs.declared.Row.the-variants.{At, Nothing}
 use Rattle.items.specs.Items.{rxOf}
@@ -19,7 +21,7 @@ use Rattle.channels.specs.Signals.{Signal, request, response, triple, op
 use Rattle.channels.specs.Channels.{any, names, named, asksFor, admits, admitted, admittedAfter}
 use Rattle.channels.specs.ChannelTable.{channelKey, saysNamed, saysAdmitted, Tells}
 use Rattle.channels.specs.Reading.{tripleOf, told}
-use Rattle.channels.specs.Noting.{gradeOf, standingOf, requestGrade, responseGrade, Raised, Telling, Noted}
+use Rattle.channels.specs.Noting.{gradeOf, standingOf, requestGrade, responseGrade, Raised, RaisedIn, Telling, Noted}
 use Rattle.channels.specs.declared.Triple.{Triple}
 use Rattle.channels.specs.declared.Standing.{Standing}
 use Rattle.channels.specs.declared.Standing.the-variants.{Named, Unnamed}
@@ -136,6 +138,18 @@ module _ (w : List ℕ) (b n k v : ℕ) where
         front = front-refl (4 * b) w;
         size = refl;
       }
+
+-- and the index
+module _ (w : List ℕ) (x : Index) (n k v : ℕ) (p : EnterPre w x n) (g : Standing) (s : g ≡ standingOf (lookup w (x .rows) n k)) where
+  pub raised-in-new : g ≡ Unnamed → (u : List ℕ) (r : ℕ) → Entered w x n k v 0 u r → RaisedIn w x n k v u r
+  raised-in-new q u r e = record { raised = raised-new w (x .rows) n k v g s q u r (e .stored); indexed = e .indexed }
+
+  module _ (o : ℕ) (q : g ≡ Named o) where
+    pub raised-in-more : o < v → (u : List ℕ) (r : ℕ) → Entered w x n k v 0 u r → RaisedIn w x n k v u r
+    raised-in-more h u r e = record { raised = raised-more w (x .rows) n k v g s o q h u r (e .stored); indexed = e .indexed }
+
+    pub raised-in-same : v ≤ o → RaisedIn w x n k v w n
+    raised-in-same h = record { raised = raised-same w (x .rows) n k v g s o q h; indexed = p .indexed }
 
 -- ---- what is told after a signal
 

@@ -1,16 +1,22 @@
 -- The table of channels in work: the key of a channel, and what the signals said of it.
-use Prim.Native.Nat.{ℕ, _+_, _*_, _<_, _≤_}
+use Prim.Native.Nat.{ℕ, _+_, _-_, _*_, _/_, _<_, _≤_}
 use mathlib.Core.Path.{_≡_}
 use mathlib.Core.Bool.{Bool, true, false}
 use mathlib.Core.List.{List}
 use lib.Dec.{ltb}
 use Rattle.table.specs.Table.{Slot, none, some, lookup}
+use Rattle.table.specs.Chain.{bucketsOf}
+use Rattle.table.specs.declared.Index.{Index}
 use Rattle.channels.specs.Signals.{Signal, triple}
 use Rattle.channels.specs.Channels.{named, admitted}
 
 -- 2 * link + direction and the CID, in one number
 unfoldable pub channelKey : ℕ → ℕ → ℕ → ℕ
 channelKey link rx cid = (2 * link + rx) * 65536 + cid
+
+-- where the channels stand in work, with q a quarter of the file's length, and their index
+unfoldable pub channelIndex : ℕ → Index
+channelIndex q = record { rows = 3 * q; chain = 7 * q; heads = 7 * q + q / 2; m = bucketsOf (q - q / 2) }
 
 -- a row says that the channel is named; its first value is 0, or 1 if a response admitted it, or 2 if a PSM 3 request did
 unfoldable pub saysNamed : Slot → Bool

@@ -7,13 +7,15 @@ use native.Mathlib.Omega.{arith}
 use lib.ListN.{length, drop}
 use Rattle.words.specs.Words.{word}
 use Rattle.words.specs.Front.{Front, front-word, front-less}
-use Rattle.table.specs.Table.{lookup, lookup-agree}
+use Rattle.table.specs.Table.{lookup, long-agree, lookup-agree}
+use Rattle.table.specs.Index.{Indexed, Stands, stands-same, indexed-agree}
+use Rattle.table.specs.declared.Index.{Index}
 use Rattle.l2cap.specs.Pdus.{Pdu}
 use Rattle.l2cap.specs.PduTable.{pduAt, pdusFrom, Inside, Reassembled}
 use Rattle.l2cap.specs.PduFrames.{Lent, link-at, rx-at, cid-at, reassembled-front}
 use Rattle.channels.specs.Signals.{Signal, commands, signalsIn, pduSignals, signals}
 use Rattle.channels.specs.Channels.{isTried}
-use Rattle.channels.specs.ChannelTable.{channelKey, Tells}
+use Rattle.channels.specs.ChannelTable.{channelKey, channelIndex, Tells}
 use Rattle.channels.specs.Reading.{told}
 use Rattle.channels.specs.Noting.{Telling}
 use Rattle.channels.specs.declared.Step.{Step}
@@ -37,19 +39,42 @@ pub record NotePre (f w : List ℕ) (row b n : ℕ) : Type 0 where
   pub inside : Inside f w row (4 * b)
   pub room : 4 * (b + 4 * n) + 2 * word w (row + 4) + 16 ≤ length w
 
+-- and the index has room for it too
+pub record NotePreIn (f w : List ℕ) (row : ℕ) (x : Index) (n : ℕ) : Type 0 where
+  pub pre : NotePre f w row (x .rows) n
+  pub indexed : Indexed w x n
+  pub stands : Stands w x (n + word w (row + 4) / 8 + 1)
+
 pub record PduNoted (f w : List ℕ) (row b n : ℕ) (u : List ℕ) (r : ℕ) : Type 0 where
   pub tells : (ss rest : List Signal) → Telling ss (lookup w b n) (pduSignals (pduAt f w row) ++ rest) → Telling ss (lookup u b r) rest
   pub few : 8 * r ≤ 8 * n + word w (row + 4)
   pub front : Front (4 * b) u w
   pub size : length u ≡ length w
 
+pub record PduNotedIn (f w : List ℕ) (row : ℕ) (x : Index) (n : ℕ) (u : List ℕ) (r : ℕ) : Type 0 where
+  pub noted : PduNoted f w row (x .rows) n u r
+  pub indexed : Indexed u x r
+
 -- ---- the pass
+
+-- the channels can be sought
+pub record Tries (w : List ℕ) (q n : ℕ) : Type 0 where
+  pub small : q ≤ 1048576
+  pub indexed : Indexed w (channelIndex q) n
+  pub stands : Stands w (channelIndex q) n
+
+-- no channel is noted yet
+pub record NoneNoted (f w : List ℕ) (made q : ℕ) : Type 0 where
+  pub quarter : q ≡ length f / 4
+  pub pdus : Reassembled f w made (pdusFrom f w (2 * (length f / 4)) 0 made)
+  pub indexed : Indexed w (channelIndex q) 0
 
 -- The PDUs that a list holds, and the channels that their signals name and admit, as the passes after it find them.
 pub record Signalled (f w : List ℕ) (made : ℕ) (ps : List Pdu) (rows : ℕ) : Type 0 where
   pub pdus : Reassembled f w made ps
   pub tells : Tells (signals ps) w (3 * (length f / 4)) rows
   pub few : 3 * (length f / 4) + 4 * rows ≤ 5 * (length f / 4)
+  pub tries : Tries w (length f / 4) rows
 
 pub record ReadChannels (f w : List ℕ) (made : ℕ) (u : List ℕ) (r : ℕ) : Type 0 where
   pub signalled : Signalled f u made (pdusFrom f w (2 * (length f / 4)) 0 made) r
@@ -74,13 +99,25 @@ tells-front ss u w b n fr t = record {
   same : (k : ℕ) → lookup u b n k ≡ lookup w b n k
   same k = lookup-agree u w b n k (λ j lo hi. front-word (4 * (b + 4 * n)) u w j (omega arith) fr)
 
-pub signalled-front : (f u w : List ℕ) (made : ℕ) (ps : List Pdu) (rows : ℕ) → Front (20 * (length f / 4)) u w → length u ≡ length w → Signalled f w made ps rows → Signalled f u made ps rows
-signalled-front f u w made ps rows fr l s =
+tries-front : (u w : List ℕ) (q n : ℕ) → 3 * q + 4 * n ≤ 5 * q → Front (20 * q) u w → ((j : ℕ) → 7 * q ≤ j → word u j ≡ word w j) → length u ≡ length w → Tries w q n → Tries u q n
+unfolding channelIndex
+tries-front u w q n few fr above l t = record {
+  small = t .small;
+  indexed = indexed-agree u w (channelIndex q) n (omega arith)
+      (λ j h. long-agree u w (3 * q + 4 * j) (front-word (20 * q) u w (3 * q + 4 * j) (omega arith) fr) (front-word (20 * q) u w (3 * q + 4 * j + 1) (omega arith) fr))
+      (λ j h g. above j h) (t .stands .chain) (t .indexed);
+  stands = stands-same u w (channelIndex q) n l (t .stands);
+}
+
+-- the index stands in the last area, which has to stay too
+pub signalled-front : (f u w : List ℕ) (made : ℕ) (ps : List Pdu) (rows : ℕ) → Front (20 * (length f / 4)) u w → ((j : ℕ) → 7 * (length f / 4) ≤ j → word u j ≡ word w j) → length u ≡ length w → Signalled f w made ps rows → Signalled f u made ps rows
+signalled-front f u w made ps rows fr above l s =
     let q : ℕ = length f / 4 in
     record {
       pdus = reassembled-front f u w made ps (front-less (12 * q) (20 * q) u w (omega arith) fr) l (s .pdus);
       tells = tells-front (signals ps) u w (3 * q) rows (front-less (4 * (3 * q + 4 * rows)) (20 * q) u w (omega (arith, s .few)) fr) (s .tells);
       few = s .few;
+      tries = tries-front u w q rows (s .few) fr above l (s .tries);
     }
 
 -- ---- which PDUs are tried
@@ -90,9 +127,6 @@ pub record Judged (w : List ℕ) (b n side cid : ℕ) (r : Bool) : Type 0 where
   pub right : (ss : List Signal) (p : Pdu) → Tells ss w b n → p .link ≡ side / 2 → p .rx ≡ side % 2 → p .cid ≡ cid → cid < 65536 → r ≡ isTried ss p
 
 module _ (f w : List ℕ) (made : ℕ) (ps : List Pdu) (rows : ℕ) (s : Signalled f w made ps rows) where
-  pub signalled-room : 4 * (3 * (length f / 4) + 4 * rows) ≤ length w
-  signalled-room = omega (arith, s .few, s .pdus .room)
-
   pub signalled-tried :
       (j : ℕ) → j < made → (r : Bool) → Judged w (3 * (length f / 4)) rows (word w (2 * (length f / 4) + 7 * j)) (word w (2 * (length f / 4) + 7 * j + 1)) r →
       r ≡ isTried (signals ps) (pduAt f w (2 * (length f / 4) + 7 * j))

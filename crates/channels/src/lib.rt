@@ -6,20 +6,24 @@ ghost use lib.ListN.{length};
 ghost use lib.Dec.{leb, eqb};
 ghost use Rattle.laws.specs.Numbers.{le16};
 ghost use Rattle.table.specs.Table.{lookup};
+ghost use Rattle.table.specs.Index.{SeekPre, EnterPre};
 ghost use Rattle.items.specs.Items.{rxOf};
 ghost use Rattle.l2cap.specs.PduTable.{pduAt, pdusFrom, Reassembled};
 ghost use Rattle.l2cap.specs.PduFrames.{Lent};
 ghost use Rattle.channels.specs.Signals.{commands, body, opposite, signalOf};
 ghost use Rattle.channels.specs.Channels.{any, asksRfcomm, asksSession};
-ghost use Rattle.channels.specs.ChannelTable.{channelKey};
+ghost use Rattle.channels.specs.ChannelTable.{channelKey, channelIndex};
 ghost use Rattle.channels.specs.Reading.{commandBytes, told};
-ghost use Rattle.channels.specs.Noting.{standingOf, requestGrade, responseGrade, Raised, Noted};
-ghost use Rattle.channels.specs.Passing.{StepIs, PduStepPre, NotePre, PduNoted, ReadChannels, Judged};
+ghost use Rattle.channels.specs.Noting.{standingOf, requestGrade, responseGrade, RaisedIn, NotedIn};
+ghost use Rattle.channels.specs.Passing.{StepIs, PduStepPre, NotePreIn, PduNotedIn, NoneNoted, ReadChannels, Tries, Judged};
 use items::Direction;
 use l2cap::payload;
+use table::Index;
 use table::Row;
-use table::find;
-use table::store;
+use table::buckets;
+use table::clear;
+use table::enter;
+use table::seek;
 use words::Field;
 use words::field16;
 use words::get32;
@@ -194,15 +198,15 @@ enum Standing {
 }
 
 // What the table says of the channel of this key.
-fn look(w: &[u8], base: usize, rows: usize, key: u64) -> Standing
-    requires { ⌜ 4 * (base + 4 * rows) ≤ length (now w) ⌝ }
-    ensures { λ r. ⌜ r ≡ standingOf (lookup (now (w .entry)) base rows key) ⌝ }
+fn look(w: &[u8], x: Index, rows: usize, key: u64) -> Standing
+    requires { ⌜ SeekPre (now w) x rows ⌝ }
+    ensures { λ r. ⌜ r ≡ standingOf (lookup (now (w .entry)) (x .rows) rows key) ⌝ }
 {
-    let found = find(w, base, rows, key);
+    let found = seek(w, x, rows, key);
     let Row::At(i) = found else {
         return Standing::Unnamed;
     };
-    Standing::Named(get32(w, base + 4 * i + 2))
+    Standing::Named(get32(w, x.rows + 4 * i + 2))
 }
 
 // The grade that a request gives the channel that it names.
@@ -216,12 +220,12 @@ fn request_grade(psm: u16) -> u32
 }
 
 // The grade that a response gives, of a success or not, to a request that named the channel of this key.
-fn response_grade(w: &[u8], base: usize, rows: usize, asked: u64, ok: bool) -> u32
-    requires { ⌜ 4 * (base + 4 * rows) ≤ length (now w) ⌝ }
-    ensures { λ r. ⌜ r ≡ responseGrade ok (lookup (now (w .entry)) base rows asked) ⌝ }
+fn response_grade(w: &[u8], x: Index, rows: usize, asked: u64, ok: bool) -> u32
+    requires { ⌜ SeekPre (now w) x rows ⌝ }
+    ensures { λ r. ⌜ r ≡ responseGrade ok (lookup (now (w .entry)) (x .rows) rows asked) ⌝ }
 {
     if ok {
-        let standing = look(w, base, rows, asked);
+        let standing = look(w, x, rows, asked);
         let Standing::Named(grade) = standing else {
             return 0;
         };
@@ -233,38 +237,38 @@ fn response_grade(w: &[u8], base: usize, rows: usize, asked: u64, ok: bool) -> u
 }
 
 // Notes that a channel is named, with a grade; its grade never falls. Returns the count of rows.
-fn raise(w: &mut [u8], base: usize, rows: usize, key: u64, v: u32) -> usize
-    requires { ⌜ 4 * (base + 4 * rows) + 16 ≤ length (now w) ⌝ }
-    ensures { λ r. ⌜ Raised (now (w .entry)) base rows key v (now (w .exit)) r ⌝ }
+fn raise(w: &mut [u8], x: Index, rows: usize, key: u64, v: u32) -> usize
+    requires { ⌜ EnterPre (now w) x rows ⌝ }
+    ensures { λ r. ⌜ RaisedIn (now (w .entry)) x rows key v (now (w .exit)) r ⌝ }
 {
-    let standing = look(w, base, rows, key);
+    let standing = look(w, x, rows, key);
     let Standing::Named(old) = standing else {
-        return store(w, base, rows, key, v, 0);
+        return enter(w, x, rows, key, v, 0);
     };
     if v <= old {
         return rows;
     }
-    store(w, base, rows, key, v, 0)
+    enter(w, x, rows, key, v, 0)
 }
 
 // Notes what a command says. Returns the count of rows.
-fn note(w: &mut [u8], base: usize, rows: usize, said: Signal) -> usize
-    requires { ⌜ 4 * (base + 4 * rows) + 16 ≤ length (now w) ⌝ }
-    ensures { λ r. ⌜ Noted (now (w .entry)) base rows said (now (w .exit)) r ⌝ }
+fn note(w: &mut [u8], x: Index, rows: usize, said: Signal) -> usize
+    requires { ⌜ EnterPre (now w) x rows ⌝ }
+    ensures { λ r. ⌜ NotedIn (now (w .entry)) x rows said (now (w .exit)) r ⌝ }
 {
     match said {
         Signal::Request(t, psm) => {
             let d = t.direction;
             let key = key_of(t.link, d, t.cid);
-            raise(w, base, rows, key, request_grade(psm))
+            raise(w, x, rows, key, request_grade(psm))
         }
         Signal::Response(t, source, ok) => {
             let d = t.direction;
             let other = flip(d);
             let asked = key_of(t.link, other, source);
-            let v = response_grade(w, base, rows, asked, ok);
+            let v = response_grade(w, x, rows, asked, ok);
             let key = key_of(t.link, d, t.cid);
-            raise(w, base, rows, key, v)
+            raise(w, x, rows, key, v)
         }
         Signal::Other => rows,
     }
@@ -311,9 +315,9 @@ fn pdu_step<'a>(file: &'a [u8], w: &'a [u8], row: usize, at: usize) -> Step
 }
 
 // Notes what the PDU whose row is at word row says. Returns the count of rows.
-fn note_pdu(file: &[u8], w: &mut [u8], row: usize, base: usize, rows: usize) -> usize
-    requires { ⌜ NotePre (now file) (now w) row base rows ⌝ }
-    ensures { λ r. ⌜ PduNoted (now (file .entry)) (now (w .entry)) row base rows (now (w .exit)) r ⌝ }
+fn note_pdu(file: &[u8], w: &mut [u8], row: usize, x: Index, rows: usize) -> usize
+    requires { ⌜ NotePreIn (now file) (now w) row x rows ⌝ }
+    ensures { λ r. ⌜ PduNotedIn (now (file .entry)) (now (w .entry)) row x rows (now (w .exit)) r ⌝ }
 {
     if get32(w, row + 1) != 1 {
         return rows;
@@ -325,9 +329,38 @@ fn note_pdu(file: &[u8], w: &mut [u8], row: usize, base: usize, rows: usize) -> 
         let step = pdu_step(file, w, row, at);
         let said = step.said;
         at = step.next;
-        n = note(w, base, n, said);
+        n = note(w, x, n, said);
     }
     n
+}
+
+// Where the channels stand in work: their rows in two areas, the index in the last one, which is free until spans are split.
+fn index_of(q: usize) -> Index
+    requires { ⌜ q ≤ 1048576 ⌝ }
+    ensures { λ r. ⌜ r ≡ channelIndex q ⌝ }
+{
+    let half = q / 2;
+    Index {
+        rows: 3 * q,
+        chain: 7 * q,
+        heads: 7 * q + half,
+        m: buckets(q - half),
+    }
+}
+
+// Notes what all PDUs say, in a table that is empty, and returns the count of rows.
+fn note_pdus(file: &[u8], w: &mut [u8], made: usize, q: usize) -> usize
+    requires { ⌜ NoneNoted (now file) (now w) made q ⌝ }
+    ensures { λ r. ⌜ ReadChannels (now (file .entry)) (now (w .entry)) made (now (w .exit)) r ⌝ }
+{
+    let x = index_of(q);
+    let mut rows = 0;
+    let mut i = 0;
+    while i < made {
+        rows = note_pdu(file, w, 2 * q + 7 * i, x, rows);
+        i += 1;
+    }
+    rows
 }
 
 // Notes what all PDUs say, and returns the count of rows.
@@ -336,13 +369,9 @@ pub fn read_channels(file: &[u8], w: &mut [u8], made: usize) -> usize
     ensures { λ r. ⌜ ReadChannels (now (file .entry)) (now (w .entry)) made (now (w .exit)) r ⌝ }
 {
     let q = file.len() / 4;
-    let mut rows = 0;
-    let mut i = 0;
-    while i < made {
-        rows = note_pdu(file, w, 2 * q + 7 * i, 3 * q, rows);
-        i += 1;
-    }
-    rows
+    let x = index_of(q);
+    clear(w, x.heads, x.m);
+    note_pdus(file, w, made, q)
 }
 
 // ---- what becomes of a PDU
@@ -359,11 +388,13 @@ pub fn asks<'a>(file: &'a [u8], w: &'a [u8], row: usize) -> bool
 }
 
 // Whether a PDU is tried, by the first word of its row, 2 * link + direction, and its CID.
-pub fn is_tried(w: &[u8], base: usize, rows: usize, side: u32, cid: u32) -> bool
-    requires { ⌜ 4 * (base + 4 * rows) ≤ length (now w) ⌝ }
-    ensures { λ r. ⌜ Judged (now (w .entry)) base rows side cid r ⌝ }
+// q is a quarter of the file's length.
+pub fn is_tried(w: &[u8], q: usize, rows: usize, side: u32, cid: u32) -> bool
+    requires { ⌜ Tries (now w) q rows ⌝ }
+    ensures { λ r. ⌜ Judged (now (w .entry)) (3 * q) rows side cid r ⌝ }
 {
-    let standing = look(w, base, rows, (side as u64) * 65536 + (cid as u64));
+    let x = index_of(q);
+    let standing = look(w, x, rows, (side as u64) * 65536 + (cid as u64));
     let Standing::Named(grade) = standing else {
         return 0x40 <= cid;
     };

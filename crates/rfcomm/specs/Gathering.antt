@@ -14,13 +14,13 @@ use Rattle.laws.specs.Keyed.{put, step, run}
 use Rattle.words.specs.Words.{word, long}
 use Rattle.words.specs.Front.{Front, front-refl, front-then, front-less, front-word}
 use Rattle.words.specs.Rows.{putWords, length-puts, front-puts, puts-above}
-use Rattle.table.specs.Table.{lookup, Stored, Agree}
+use Rattle.table.specs.Table.{lookup, Stored, StoredAt, Agree}
 use Rattle.l2cap.specs.Pdus.{Pdu}
 use Rattle.l2cap.specs.PduTable.{pduAt, pdusFrom, paysOf, Inside, Reassembled}
 use Rattle.l2cap.specs.PduFrames.{Lent, reassembled-lent, pdus-next, pdus-none, pays-next, pays-agree, pdus-agree}
 use Rattle.channels.specs.Signals.{Signal, signals}
 use Rattle.channels.specs.ChannelTable.{Tells}
-use Rattle.channels.specs.Passing.{Signalled, signalled-front}
+use Rattle.channels.specs.Passing.{Signalled, Tries, signalled-front}
 use Rattle.rfcomm.specs.Pieces.{Kind, asks, opens, carries, passed, kindOf, Judged, judged, Counts, counted, Piece, pieceOf, brought, counting, noCounts, pieces}
 use Rattle.rfcomm.specs.PieceTable.{pieceAt, piecesFrom, infosOf, Within, Pieced}
 use Rattle.rfcomm.specs.CountTable.{valueOf, UpPre, Counted, counted-start, counted-agree, counted-none, counted-session, counted-link}
@@ -79,6 +79,7 @@ pub record Ready (f w : List ℕ) (q rows : ℕ) (t : Taken) (j : ℕ) : Type 0 
   pub lent : Lent f w (2 * q + 7 * j)
   pub inside : Inside f w (2 * q + 7 * j) (8 * q)
   pub channels : 3 * q + 4 * rows ≤ 5 * q
+  pub tries : Tries w q rows
   pub counts : t .counts ≤ j
   pub pieces : t .pieces ≤ j
   pub small : length f ≤ 1048576
@@ -98,10 +99,11 @@ pub record TakenIn (f w : List ℕ) (q rows : ℕ) (t : Taken) (j : ℕ) (u : Li
   pub more : r .counts ≤ t .counts + 1
   pub most : r .pieces ≤ t .pieces + 1
   pub front : Front (20 * q) u w
+  pub above : (n : ℕ) → 7 * q ≤ n → word u n ≡ word w n
   pub size : length u ≡ length w
 
-pub judge-pre : (f w : List ℕ) (q rows : ℕ) (t : Taken) (j : ℕ) → Ready f w q rows t j → JudgePre f w (2 * q + 7 * j) (3 * q) rows
-judge-pre f w q rows t j r = record { lent = r .lent; room = omega (arith, r .channels, r .quarter, r .room) }
+pub judge-pre : (f w : List ℕ) (q rows : ℕ) (t : Taken) (j : ℕ) → Ready f w q rows t j → JudgePre f w (2 * q + 7 * j) q rows
+judge-pre f w q rows t j r = record { lent = r .lent; tries = r .tries }
 
 link-is : (f w : List ℕ) (at : ℕ) → pduAt f w at .link ≡ word w at / 2
 unfolding pduAt
@@ -160,10 +162,14 @@ module _ (f w : List ℕ) (q rows : ℕ) (t : Taken) (j : ℕ) (r : Ready f w q 
       more = omega arith;
       most = omega arith;
       front = front-refl (20 * q) w;
+      above = λ n h. refl;
       size = refl;
     }
 
-    module _ (side link : ℕ) (es : side ≡ word w (2 * q + 7 * j)) (el : link ≡ side / 2) (key : ℕ) (u : List ℕ) (n : ℕ) (s : Stored w (6 * q) (t .counts) key (valueOf (lookup w (6 * q) (t .counts) key) + 1) 0 u n) where
+    module _ (side link : ℕ) (es : side ≡ word w (2 * q + 7 * j)) (el : link ≡ side / 2) (key : ℕ) (u : List ℕ) (n : ℕ) (at : StoredAt w (6 * q) (t .counts) key (valueOf (lookup w (6 * q) (t .counts) key) + 1) 0 u n) where
+      s : Stored w (6 * q) (t .counts) key (valueOf (lookup w (6 * q) (t .counts) key) + 1) 0 u n
+      s = at .stored
+
       my-link : pduAt f w (2 * q + 7 * j) .link ≡ link
       my-link = link-is f w (2 * q + 7 * j) ∙ rw (el, es)
 
@@ -187,6 +193,7 @@ module _ (f w : List ℕ) (q rows : ℕ) (t : Taken) (j : ℕ) (r : Ready f w q 
         more = s .most;
         most = omega arith;
         front = front-less (20 * q) (24 * q) u w (omega arith) counts-front;
+        above = λ i h. at .above i (omega (arith, r .counts, r .few, r .quarter));
         size = s .size;
       }
 
@@ -285,6 +292,7 @@ module _ (f w : List ℕ) (q rows : ℕ) (t : Taken) (j : ℕ) (r : Ready f w q 
         more = omega arith;
         most = omega arith;
         front = front-less (20 * q) (4 * (5 * q + 8 * t .pieces)) u w (omega arith) front-row;
+        above = λ n h. rw eu (puts-above (rowOf (partOf w (2 * q + 7 * j) (6 * q) (t .counts) i) (long w (2 * q + 7 * j + 5))) w (5 * q + 8 * t .pieces) n (omega (arith, row-room, row-long (partOf w (2 * q + 7 * j) (6 * q) (t .counts) i) (long w (2 * q + 7 * j + 5)))));
         size = rw eu (length-puts (rowOf (partOf w (2 * q + 7 * j) (6 * q) (t .counts) i) (long w (2 * q + 7 * j + 5))) w (5 * q + 8 * t .pieces));
       }
 
@@ -337,6 +345,7 @@ module _ (f : List ℕ) (ps : List Pdu) (w₀ w : List ℕ) (made rows : ℕ) (t
     lent = reassembled-lent f w made ps (g .signalled .pdus) j h;
     inside = g .signalled .pdus .placed j h;
     channels = g .signalled .few;
+    tries = g .signalled .tries;
     counts = g .counts;
     pieces = g .took;
     small = g .signalled .pdus .small;
@@ -365,7 +374,7 @@ module _ (f : List ℕ) (ps : List Pdu) (w₀ w : List ℕ) (made rows : ℕ) (t
         let p : Pdu = pduAt f w (2 * (length f / 4) + 7 * j) in
         record {
           all = omega arith;
-          signalled = signalled-front f u w made ps rows (taken .front) (taken .size) (g .signalled);
+          signalled = signalled-front f u w made ps rows (taken .front) (taken .above) (taken .size) (g .signalled);
           states = put (g .states) (pduAt f w (2 * (length f / 4) + 7 * j) .link ∷ []) (counted (g .states (pduAt f w (2 * (length f / 4) + 7 * j) .link ∷ [])) (kindOf (signals ps) (pduAt f w (2 * (length f / 4) + 7 * j))));
           counted = taken .counts (g .states) (signals ps) (g .signalled .tells) (g .counted);
           counts = omega (arith, taken .more, g .counts);

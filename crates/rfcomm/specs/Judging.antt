@@ -17,7 +17,7 @@ use Rattle.l2cap.specs.PduFrames.{Lent, payload-length, link-at, rx-at, cid-at}
 use Rattle.channels.specs.Signals.{Signal}
 use Rattle.channels.specs.Channels.{isTried, asksSession}
 use Rattle.channels.specs.ChannelTable.{Tells}
-use Rattle.channels.specs.Passing.{Judged}
+use Rattle.channels.specs.Passing.{Tries, Judged}
 use Rattle.rfcomm.specs.Frames.{Uih as UihFrame, Frame as FrameRead, sabm, uih, other, frameOf}
 use Rattle.rfcomm.specs.Pieces.{Kind, asks, opens, carries, passed, uihKind, frameKind, kindOf}
 use Rattle.rfcomm.specs.Reading.{uihAt, frameShown, Lies, FrameIs}
@@ -126,31 +126,31 @@ module _ (f w : List ℕ) (row : ℕ) (l : Lent f w row) (p : List ℕ) (ep : p 
 
 -- ---- the PDU
 
-pub record JudgePre (f w : List ℕ) (row b n : ℕ) : Type 0 where
+pub record JudgePre (f w : List ℕ) (row q n : ℕ) : Type 0 where
   pub lent : Lent f w row
-  pub room : 4 * (b + 4 * n) ≤ length w
+  pub tries : Tries w q n
 
 -- the verdict is right for all signals that the rows tell of
 pub record VerdictIs (f w : List ℕ) (row b n : ℕ) (r : Verdict) : Type 0 where
   pub shows : (ss : List Signal) → Tells ss w b n → kindOf ss (pduAt f w row) ≡ kindShown f w r
   pub borne : Borne w row r
 
-module _ (f w : List ℕ) (row b n : ℕ) (pre : JudgePre f w row b n) (t : Bool) (e : t ≡ asksSession (pduAt f w row)) where
-  pub judged-asks : t ≡ true → VerdictIs f w row b n Asks
+module _ (f w : List ℕ) (row q n : ℕ) (pre : JudgePre f w row q n) (t : Bool) (e : t ≡ asksSession (pduAt f w row)) where
+  pub judged-asks : t ≡ true → VerdictIs f w row (3 * q) n Asks
   unfolding kindOf kindShown
-  judged-asks q = record { shows = λ ss x. rw (sym e ∙ q); borne = tt }
+  judged-asks z = record { shows = λ ss x. rw (sym e ∙ z); borne = tt }
 
-  module _ (q : t ≡ false) (side cid : ℕ) (es : side ≡ word w row) (ec : cid ≡ word w (row + 1)) (s : Bool) (j : Judged w b n side cid s) where
-    tried : (ss : List Signal) → Tells ss w b n → s ≡ isTried ss (pduAt f w row)
+  module _ (z₀ : t ≡ false) (side cid : ℕ) (es : side ≡ word w row) (ec : cid ≡ word w (row + 1)) (s : Bool) (j : Judged w (3 * q) n side cid s) where
+    tried : (ss : List Signal) → Tells ss w (3 * q) n → s ≡ isTried ss (pduAt f w row)
     tried ss x = j .right ss (pduAt f w row) x (link-at f w row ∙ rw es) (rx-at f w row ∙ rw es) (cid-at f w row ∙ rw ec) (rw ec (pre .lent .inside .cid))
 
-    pub judged-passed : s ≡ false → VerdictIs f w row b n Passed
+    pub judged-passed : s ≡ false → VerdictIs f w row (3 * q) n Passed
     unfolding kindOf kindShown
-    judged-passed z = record { shows = λ ss x. rw (sym e ∙ q, sym (tried ss x) ∙ z); borne = tt }
+    judged-passed z = record { shows = λ ss x. rw (sym e ∙ z₀, sym (tried ss x) ∙ z); borne = tt }
 
-    pub judged-frame : s ≡ true → (r : Verdict) → FrameVerdict f w row r → VerdictIs f w row b n r
+    pub judged-frame : s ≡ true → (r : Verdict) → FrameVerdict f w row r → VerdictIs f w row (3 * q) n r
     unfolding kindOf
-    judged-frame z r v = record { shows = λ ss x. rw (sym e ∙ q, sym (tried ss x) ∙ z) (v .shows); borne = v .borne }
+    judged-frame z r v = record { shows = λ ss x. rw (sym e ∙ z₀, sym (tried ss x) ∙ z) (v .shows); borne = v .borne }
 
 -- what a verdict says of its numbers
 module _ (f w : List ℕ) (row b n : ℕ) (v : Verdict) (is : VerdictIs f w row b n v) where

@@ -10,7 +10,7 @@ ghost use Rattle.rfcomm.specs.CountTable.{valueOf, UpPre};
 ghost use Rattle.rfcomm.specs.Judging.{placedUih, FrameVerdict, JudgePre, VerdictIs};
 ghost use Rattle.l2cap.specs.PduFrames.{Lent};
 ghost use Rattle.rfcomm.specs.PieceRows.{stretchOf, bytesOf, rowOf, PutPre};
-ghost use Rattle.table.specs.Table.{lookup, Stored};
+ghost use Rattle.table.specs.Table.{lookup, StoredAt};
 ghost use Rattle.words.specs.Rows.{putWords};
 ghost use Rattle.words.specs.Words.{long};
 ghost use Rattle.rfcomm.specs.Gathering.{partOf, PiecePre, TakePre, Ready, TakenIn, PiecesPre, ReadPieces};
@@ -156,7 +156,7 @@ fn count_of(w: &[u8], base: usize, rows: usize, key: u64) -> u32
 // Counts a key once more, and returns the count of rows.
 fn count_up(w: &mut [u8], base: usize, rows: usize, key: u64) -> usize
     requires { ⌜ UpPre (now w) base rows key ⌝ }
-    ensures { λ r. ⌜ Stored (now (w .entry)) base rows key (valueOf (lookup (now (w .entry)) base rows key) + 1) 0 (now (w .exit)) r ⌝ }
+    ensures { λ r. ⌜ StoredAt (now (w .entry)) base rows key (valueOf (lookup (now (w .entry)) base rows key) + 1) 0 (now (w .exit)) r ⌝ }
 {
     let n = count_of(w, base, rows, key);
     store(w, base, rows, key, n + 1, 0)
@@ -282,15 +282,15 @@ fn judge_frame<'a>(file: &'a [u8], w: &'a [u8], row: usize) -> Verdict
     }
 }
 
-// What the PDU of a row is, by the channels of the whole file.
-fn judge<'a>(file: &'a [u8], w: &'a [u8], row: usize, base: usize, rows: usize) -> Verdict
-    requires { ⌜ JudgePre (now file) (now w) row base rows ⌝ }
-    ensures { λ r. ⌜ VerdictIs (now (file .entry)) (now (w .entry)) row base rows r ⌝ }
+// What the PDU of a row is, by the channels of the whole file. q is a quarter of the file's length.
+fn judge<'a>(file: &'a [u8], w: &'a [u8], row: usize, q: usize, rows: usize) -> Verdict
+    requires { ⌜ JudgePre (now file) (now w) row q rows ⌝ }
+    ensures { λ r. ⌜ VerdictIs (now (file .entry)) (now (w .entry)) row (3 * q) rows r ⌝ }
 {
     if asks(file, w, row) {
         return Verdict::Asks;
     }
-    if is_tried(w, base, rows, get32(w, row), get32(w, row + 1)) {
+    if is_tried(w, q, rows, get32(w, row), get32(w, row + 1)) {
         return judge_frame(file, w, row);
     }
     Verdict::Passed
@@ -357,7 +357,7 @@ fn take_pdu(file: &[u8], w: &mut [u8], q: usize, rows: usize, t: Taken, j: usize
     let row = 2 * q + 7 * j;
     let counts = t.counts;
     let pieces = t.pieces;
-    let v = judge(file, w, row, 3 * q, rows);
+    let v = judge(file, w, row, q, rows);
     let link = get32(w, row) / 2;
     match v {
         Verdict::Asks => {

@@ -9,16 +9,17 @@ use lib.ListN.{length, getD, set, take, drop, length-append, length-drop, length
 use lib.Seq.{sets, length-sets, take-all, drop-drop, take-take, drop-cons, getD-set-other}
 use Rattle.laws.specs.Choice.{split≡, no-way}
 use Rattle.laws.specs.Keys.{Key, eqK, eq-eqK, eqK-true}
-use Rattle.words.specs.Front.{Front, front-refl, front-then, front-sets, part-take}
+use Rattle.words.specs.Words.{word}
+use Rattle.words.specs.Front.{Front, front-refl, front-then, front-sets, front-word, part-take}
 use Rattle.rfcomm.specs.PieceTable.{infosOf}
 use Rattle.split.specs.Last.{lastn}
-use Rattle.split.specs.Rows.{keyAt, lenAt, startAt, inWork, bytesAt, streamOf, streamTo, Laid}
-use Rattle.split.specs.Walks.{Row, TwoRows, PutPre, GatherPre}
+use Rattle.split.specs.Rows.{keyAt, lenAt, startAt, inWork, bytesAt, streamOf, streamTo, Linked, Laid}
+use Rattle.split.specs.Walks.{Row, Chain, Earlier, TwoRows, PutPre, GatherPre}
 use Rattle.split.specs.Fronts.{key-front, bytes-front, laid-front}
 use Rattle.split.specs.declared.Plan.{Plan}
 use Rattle.split.proofs.Backs.{sets-back}
 use Rattle.split.proofs.Lasts.{length-lastn, lastn-zero, lastn-append}
-use Rattle.split.proofs.Tables.{laid-row, stream-mine, stream-other, length-bytes, stream-infos, infos-mono}
+use Rattle.split.proofs.Tables.{laid-row, laid-chain, jump, jump-bucket, stream-mine, stream-other, length-bytes, stream-infos, infos-mono}
 
 -- ---- a copy inside work, upwards
 
@@ -95,33 +96,33 @@ pub record Gathering (f w₀ : List ℕ) (p : Plan) (i h : ℕ) (w : List ℕ) (
   pub front : Front (4 * p .held) w w₀
   pub done : sets w (p .area) (lastn left (streamOf f w₀ p j (keyAt w₀ p i))) ≡ sets w₀ (p .area) (lastn h (streamTo f w₀ p i))
 
-pub gathering-start : (f w : List ℕ) (p : Plan) (i h : ℕ) → GatherPre f w p i h → Gathering f w p i h w i h
+gathering-start : (f w : List ℕ) (p : Plan) (i h : ℕ) → GatherPre f w p i h → Gathering f w p i h w i h
 gathering-start f w p i h q = record { low = omega arith; most = omega arith; come = q .fits; long = refl; front = front-refl (4 * p .held) w; done = refl }
 
 module _ (f w₀ : List ℕ) (p : Plan) (i h : ℕ) (w : List ℕ) (j left : ℕ) (g : Gathering f w₀ p i h w j left) where
-  pub gathering-end : left ≤ 0 → w ≡ sets w₀ (p .area) (lastn h (streamTo f w₀ p i))
+  gathering-end : left ≤ 0 → w ≡ sets w₀ (p .area) (lastn h (streamTo f w₀ p i))
   gathering-end l = rw (lastn-zero left (streamOf f w₀ p j (keyAt w₀ p i)) (omega arith)) at (g .done)
 
   -- something is left only if there are pieces
-  pub gathering-more : 0 < left → 0 < j
+  gathering-more : 0 < left → 0 < j
   unfolding streamOf
   gathering-more l = split≡ j 0 (λ e. let z = rw e at (g .come) in absurd (omega (arith, z))) (λ e. omega arith)
 
   module _ (q : GatherPre f w₀ p i h) where
-    pub gathering-laid : Laid f w p
+    gathering-laid : Laid f w p
     gathering-laid = laid-front f w w₀ p (q .laid) (g .front) (g .long)
 
-    pub gathering-room : p .area + left ≤ length w
+    gathering-room : p .area + left ≤ length w
     gathering-room =
         let a = stream-infos f w₀ p (q .laid) j (keyAt w₀ p i) (omega (arith, g .low, q .row)) in
         let b = infos-mono w₀ (p .rows) j (p .n) (omega (arith, g .low, q .row)) in
         omega (arith, g .come, g .long, q .laid .room)
 
     module _ (r : 0 < left) where
-      pub gathering-row : Row w p (j - 1)
+      gathering-row : Row w p (j - 1)
       gathering-row = laid-row f w p (j - 1) gathering-laid (omega (arith, gathering-more r, g .low, q .row))
 
-      pub gathering-rows : TwoRows w p (j - 1) i
+      gathering-rows : TwoRows w p (j - 1) i
       gathering-rows = record { rows = gathering-row .rows; words = gathering-row .words; first = gathering-row .row; second = q .row }
 
       own : keyAt w p (j - 1) ≡ keyAt w₀ p (j - 1)
@@ -134,14 +135,14 @@ module _ (f w₀ : List ℕ) (p : Plan) (i h : ℕ) (w : List ℕ) (j left : ℕ
       back-one = omega (arith, gathering-more r)
 
       module _ (t : Bool) (et : t ≡ eqK (keyAt w p (j - 1)) (keyAt w p i)) where
-        pub gathering-miss : t ≡ false → Gathering f w₀ p i h w (j - 1) left
+        gathering-miss : t ≡ false → Gathering f w₀ p i h w (j - 1) left
         gathering-miss e =
             let k : eqK (keyAt w₀ p (j - 1)) (keyAt w₀ p i) ≡ false = rw (own, mine) at (sym et ∙ e) in
             let s : streamOf f w₀ p j (keyAt w₀ p i) ≡ streamOf f w₀ p (j - 1) (keyAt w₀ p i) = rw back-one at (stream-other f w₀ p (j - 1) (keyAt w₀ p i) (λ z. no-way (eq-eqK (keyAt w₀ p (j - 1)) (keyAt w₀ p i) z) k)) in
             record { low = omega (arith, g .low); most = g .most; come = rw s at (g .come); long = g .long; front = g .front; done = rw s at (g .done) }
 
         module _ (e : t ≡ true) (n m : ℕ) (en : n ≡ lenAt w p (j - 1)) (em : m ≡ min left n) where
-          pub gathering-put : PutPre f w p (j - 1) (n - m) m (p .area + left - m)
+          gathering-put : PutPre f w p (j - 1) (n - m) m (p .area + left - m)
           gathering-put = record {
             laid = gathering-laid;
             row = gathering-row .row;
@@ -150,7 +151,7 @@ module _ (f w₀ : List ℕ) (p : Plan) (i h : ℕ) (w : List ℕ) (j left : ℕ
             fits = omega (arith, gathering-room);
           }
 
-          pub gathering-hit : (u : List ℕ) → u ≡ sets w (p .area + left - m) (take m (drop (n - m) (bytesAt f w p (j - 1)))) → Gathering f w₀ p i h u (j - 1) (left - m)
+          gathering-hit : (u : List ℕ) → u ≡ sets w (p .area + left - m) (take m (drop (n - m) (bytesAt f w p (j - 1)))) → Gathering f w₀ p i h u (j - 1) (left - m)
           gathering-hit u eu =
               let k : keyAt w₀ p (j - 1) ≡ keyAt w₀ p i = eqK-true (keyAt w₀ p (j - 1)) (keyAt w₀ p i) (rw (own, mine) at (sym et ∙ e)) in
               let S : List ℕ = streamOf f w₀ p (j - 1) (keyAt w₀ p i) in
@@ -172,3 +173,55 @@ module _ (f w₀ : List ℕ) (p : Plan) (i h : ℕ) (w : List ℕ) (j left : ℕ
                 front = rw eu′ (front-then (4 * p .held) _ w w₀ (front-sets (4 * p .held) (drop (n - m) B) w (p .area + (left - m)) (omega (arith, q .laid .area))) (g .front));
                 done = rw eu′ (sym (rw y at (sets-back w (p .area) (lastn (left - m) S) (drop (n - m) B)))) ∙ rw v at (g .done);
               }
+
+-- ---- from piece to piece of the bucket
+
+pub record Chasing (f w₀ : List ℕ) (p : Plan) (i h : ℕ) (w : List ℕ) (j left : ℕ) : Type 0 where
+  pub gathers : Gathering f w₀ p i h w j left
+  pub mine : (l : Linked w₀ p) → 0 < j → l .bucket (keyAt w₀ p (j - 1)) ≡ l .bucket (keyAt w₀ p i)
+
+module _ (f w₀ : List ℕ) (p : Plan) (i h : ℕ) (q : GatherPre f w₀ p i h) where
+  chase : (w : List ℕ) (j left r : ℕ) → Gathering f w₀ p i h w j left → ((l : Linked w₀ p) → l .bucket (keyAt w₀ p j) ≡ l .bucket (keyAt w₀ p i)) → j < p .n → r ≡ word w₀ (p .chain + j) → r ≤ j → Chasing f w₀ p i h w r left
+  chase w j left r g b n e o =
+      let s : streamOf f w₀ p j (keyAt w₀ p i) ≡ streamOf f w₀ p r (keyAt w₀ p i) = jump w₀ p (q .laid .linked) i (λ k. streamOf f w₀ p k (keyAt w₀ p i)) (λ k z. stream-other f w₀ p k (keyAt w₀ p i) z) j r n (b (q .laid .linked)) e in
+      record {
+        gathers = record { low = omega (arith, g .low); most = g .most; come = rw s at (g .come); long = g .long; front = g .front; done = rw s at (g .done) };
+        mine = λ l z. jump-bucket w₀ p l i j r n (b l) e z;
+      }
+
+  pub chasing-start : (r : ℕ) → Earlier w₀ p i r → Chasing f w₀ p i h w₀ r h
+  chasing-start r b = chase w₀ i h r (gathering-start f w₀ p i h q) (λ l. refl) (q .row) (b .at) (b .less)
+
+  module _ (w : List ℕ) (j left : ℕ) (v : Chasing f w₀ p i h w j left) where
+    pub chasing-end : left ≤ 0 → w ≡ sets w₀ (p .area) (lastn h (streamTo f w₀ p i))
+    chasing-end = gathering-end f w₀ p i h w j left (v .gathers)
+
+    pub chasing-more : 0 < left → 0 < j
+    chasing-more = gathering-more f w₀ p i h w j left (v .gathers)
+
+    pub chasing-room : p .area + left ≤ length w
+    chasing-room = gathering-room f w₀ p i h w j left (v .gathers) q
+
+    module _ (z : 0 < left) where
+      pub chasing-row : Row w p (j - 1)
+      chasing-row = gathering-row f w₀ p i h w j left (v .gathers) q z
+
+      pub chasing-rows : TwoRows w p (j - 1) i
+      chasing-rows = gathering-rows f w₀ p i h w j left (v .gathers) q z
+
+      pub chasing-chain : Chain w p (j - 1)
+      chasing-chain = laid-chain f w p (j - 1) (gathering-laid f w₀ p i h w j left (v .gathers) q) (chasing-row .row)
+
+      module _ (r : ℕ) (b : Earlier w p (j - 1) r) where
+        old : r ≡ word w₀ (p .chain + (j - 1))
+        old = b .at ∙ front-word (4 * p .held) w w₀ (p .chain + (j - 1)) (omega (arith, q .laid .chain, chasing-row .row)) (v .gathers .front)
+
+        pub chasing-miss : (t : Bool) → t ≡ eqK (keyAt w p (j - 1)) (keyAt w p i) → t ≡ false → Chasing f w₀ p i h w r left
+        chasing-miss t et e = chase w (j - 1) left r (gathering-miss f w₀ p i h w j left (v .gathers) q z t et e) (λ l. v .mine l (chasing-more z)) (chasing-row .row) old (b .less)
+
+        module _ (t : Bool) (et : t ≡ eqK (keyAt w p (j - 1)) (keyAt w p i)) (e : t ≡ true) (n m : ℕ) (en : n ≡ lenAt w p (j - 1)) (em : m ≡ min left n) where
+          pub chasing-put : PutPre f w p (j - 1) (n - m) m (p .area + left - m)
+          chasing-put = gathering-put f w₀ p i h w j left (v .gathers) q z t et e n m en em
+
+          pub chasing-hit : (u : List ℕ) → u ≡ sets w (p .area + left - m) (take m (drop (n - m) (bytesAt f w p (j - 1)))) → Chasing f w₀ p i h u r (left - m)
+          chasing-hit u eu = chase u (j - 1) (left - m) r (gathering-hit f w₀ p i h w j left (v .gathers) q z t et e n m en em u eu) (λ l. v .mine l (chasing-more z)) (chasing-row .row) old (b .less)

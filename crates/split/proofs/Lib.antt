@@ -1,3 +1,4 @@
+pub mod Linking
 pub mod Backs
 pub mod Lasts
 pub mod Counts

@@ -13,14 +13,18 @@ use Rattle.laws.specs.Choice.{splitB, split≡, no-way}
 use Rattle.laws.specs.Keys.{Key, eqK, splitK, eq-eqK, ne-eqK}
 use Rattle.laws.specs.Count.{mem}
 use Rattle.words.specs.Words.{word}
+use Rattle.table.specs.Chain.{Chained, newest, newest-below, newest-bucket, newest-skip}
 use Rattle.rfcomm.specs.Pieces.{Piece}
 use Rattle.rfcomm.specs.PieceTable.{pieceAt, infosOf}
-use Rattle.split.specs.Rows.{rowOf, piece, dlciAt, tailAt, keyAt, lenAt, startAt, inWork, bytesAt, streamOf, heldIn, heldOf, streamTo, Fits, keysTo, Laid}
-use Rattle.split.specs.Walks.{Row, TwoRows}
+use Rattle.split.specs.Rows.{rowOf, piece, dlciAt, tailAt, keyAt, lenAt, startAt, inWork, bytesAt, streamOf, heldIn, heldOf, streamTo, Fits, keysTo, Linked, Laid}
+use Rattle.split.specs.Walks.{Row, Chain, Earlier, TwoRows}
 use Rattle.split.specs.declared.Plan.{Plan}
 
 pub laid-row : (f w : List ℕ) (p : Plan) (i : ℕ) → Laid f w p → i < p .n → Row w p i
 laid-row f w p i l h = record { rows = l .rows; words = omega (arith, l .area, l .room); row = h }
+
+pub laid-chain : (f w : List ℕ) (p : Plan) (i : ℕ) → Laid f w p → i < p .n → Chain w p i
+laid-chain f w p i l h = record { row = laid-row f w p i l h; chain = l .chain; linked = l .linked }
 
 -- ---- the test of two keys: four words
 
@@ -85,24 +89,67 @@ module _ (w : List ℕ) (p : Plan) (k : Key) where
   held-none zero l = refl
   held-none (suc n) l = absurd (omega arith)
 
--- the search from j down: what is held before i is what is held before j
+-- ---- the pieces of a bucket
+
+pub earlier-is : (w : List ℕ) (p : Plan) (i : ℕ) → Chain w p i → (r : ℕ) → r ≡ word w (p .chain + i) → Earlier w p i r
+earlier-is w p i c r e = record { at = e; less = rw (e, c .linked .chained .before i (c .row .row)) (newest-below _ _ i) }
+
+module _ (w : List ℕ) (p : Plan) (l : Linked w p) (i : ℕ) where
+  abbrev bucketAt : ℕ → ℕ
+  bucketAt j = l .bucket (keyAt w p j)
+
+  -- what pieces with other keys do not change is the same from the next piece of the bucket on
+  pub jump : {A : Type 0} (g : ℕ → A) → ((j : ℕ) → (keyAt w p j ≡ keyAt w p i → ⊥) → g (suc j) ≡ g j) → (j r : ℕ) → j < p .n → bucketAt j ≡ bucketAt i → r ≡ word w (p .chain + j) → g j ≡ g r
+  jump g o j r h e q =
+      rw (q, l .chained .before j h, e)
+      (newest-skip g bucketAt (bucketAt i) j (λ k a b. o k (λ z. b (ap (l .bucket) z))))
+
+  pub jump-bucket : (j r : ℕ) → j < p .n → bucketAt j ≡ bucketAt i → r ≡ word w (p .chain + j) → 0 < r → bucketAt (r - 1) ≡ bucketAt i
+  jump-bucket j r h e q s =
+      let z : r ≡ newest bucketAt (bucketAt i) j = q ∙ l .chained .before j h ∙ rw e in
+      rw z (newest-bucket bucketAt (bucketAt i) j (rw z at s))
+
+-- the search among the pieces below j: what is held before i is what is held before j
 pub record Searching (w : List ℕ) (p : Plan) (i j : ℕ) : Type 0 where
+  pub linked : Linked w p
   pub low : j ≤ i
   pub same : heldOf w p i ≡ heldIn w p j (keyAt w p i)
+  pub mine : 0 < j → linked .bucket (keyAt w p (j - 1)) ≡ linked .bucket (keyAt w p i)
 
-pub searching-start : (w : List ℕ) (p : Plan) (i : ℕ) → Searching w p i i
-searching-start w p i = record { low = omega arith; same = refl }
+module _ (w : List ℕ) (p : Plan) (i : ℕ) where
+  held-other : (j : ℕ) → (keyAt w p j ≡ keyAt w p i → ⊥) → heldIn w p (suc j) (keyAt w p i) ≡ heldIn w p j (keyAt w p i)
+  unfolding heldIn
+  held-other j n = rw (ne-eqK (keyAt w p j) (keyAt w p i) n)
 
-module _ (w : List ℕ) (p : Plan) (i j : ℕ) (v : Searching w p i j) where
-  pub searching-end : j ≤ 0 → 0 ≡ heldOf w p i
-  searching-end h = sym (v .same ∙ held-none w p (keyAt w p i) j h)
+  pub searching-start : Chain w p i → (r : ℕ) → Earlier w p i r → Searching w p i r
+  searching-start c r b = record {
+    linked = c .linked;
+    low = b .less;
+    same = jump w p (c .linked) i (λ j. heldIn w p j (keyAt w p i)) held-other i r (c .row .row) refl (b .at);
+    mine = jump-bucket w p (c .linked) i i r (c .row .row) refl (b .at);
+  }
 
-  module _ (h : 0 < j) (t : Bool) (e : t ≡ eqK (keyAt w p (j - 1)) (keyAt w p i)) where
-    pub searching-hit : t ≡ true → (r : ℕ) → r ≡ word w (p .held + (j - 1)) → r ≡ heldOf w p i
-    searching-hit z r q = q ∙ sym (held-hit w p (keyAt w p i) j h (sym e ∙ z)) ∙ sym (v .same)
+  module _ (j : ℕ) (v : Searching w p i j) where
+    pub chain-below : Chain w p i → 0 < j → Chain w p (j - 1)
+    chain-below c h = record { row = record { rows = c .row .rows; words = c .row .words; row = omega (arith, v .low, c .row .row) }; chain = c .chain; linked = c .linked }
 
-    pub searching-miss : t ≡ false → Searching w p i (j - 1)
-    searching-miss z = record { low = omega (arith, v .low); same = v .same ∙ held-miss w p (keyAt w p i) j h (sym e ∙ z) }
+    pub rows-below : Chain w p i → 0 < j → TwoRows w p (j - 1) i
+    rows-below c h = record { rows = c .row .rows; words = c .row .words; first = omega (arith, v .low, c .row .row); second = c .row .row }
+
+    pub searching-end : j ≤ 0 → 0 ≡ heldOf w p i
+    searching-end h = sym (v .same ∙ held-none w p (keyAt w p i) j h)
+
+    module _ (h : 0 < j) (t : Bool) (e : t ≡ eqK (keyAt w p (j - 1)) (keyAt w p i)) where
+      pub searching-hit : t ≡ true → (r : ℕ) → r ≡ word w (p .held + (j - 1)) → r ≡ heldOf w p i
+      searching-hit z r q = q ∙ sym (held-hit w p (keyAt w p i) j h (sym e ∙ z)) ∙ sym (v .same)
+
+      pub searching-miss : t ≡ false → i < p .n → (r : ℕ) → Earlier w p (j - 1) r → Searching w p i r
+      searching-miss z n r b = record {
+        linked = v .linked;
+        low = omega (arith, v .low, b .less);
+        same = v .same ∙ held-miss w p (keyAt w p i) j h (sym e ∙ z) ∙ jump w p (v .linked) i (λ j. heldIn w p j (keyAt w p i)) held-other (j - 1) r (omega (arith, v .low)) (v .mine h) (b .at);
+        mine = jump-bucket w p (v .linked) i (j - 1) r (omega (arith, v .low)) (v .mine h) (b .at);
+      }
 
 -- ---- one piece more
 

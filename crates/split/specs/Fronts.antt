@@ -7,10 +7,11 @@ use lib.ListN.{length}
 use Rattle.laws.specs.Keys.{Key}
 use Rattle.words.specs.Words.{word}
 use Rattle.words.specs.Front.{Front, front-word}
+use Rattle.table.specs.Chain.{Chained, chained-agree}
 use Rattle.rfcomm.specs.Pieces.{Piece}
 use Rattle.rfcomm.specs.PieceTable.{pieceAt, piecesFrom, infosOf}
 use Rattle.rfcomm.specs.PieceRows.{piece-front, pieces-front, infos-front, within-front}
-use Rattle.split.specs.Rows.{rowOf, piece, dlciAt, tailAt, keyAt, lenAt, bytesAt, streamOf, heldIn, ahead, keysTo, Laid}
+use Rattle.split.specs.Rows.{rowOf, piece, dlciAt, tailAt, keyAt, lenAt, bytesAt, streamOf, heldIn, ahead, keysTo, Linked, Laid}
 use Rattle.split.specs.declared.Plan.{Plan}
 
 module _ (f u w : List ℕ) (p : Plan) (l : Laid f w p) (s : Front (4 * p .held) u w) where
@@ -56,11 +57,19 @@ module _ (f u w : List ℕ) (p : Plan) (l : Laid f w p) (s : Front (4 * p .held)
   held-front zero k h g = refl
   held-front (suc i) k h g = rw (held-front i k (omega arith) (λ j q. g j (omega arith)), key-front i (omega arith), g i (omega arith))
 
+  linked-front : Linked u p
+  linked-front = record {
+    bucket = l .linked .bucket;
+    chained = chained-agree _ _ u w (p .chain) (p .n) (λ j h. ap (l .linked .bucket) (key-front j h)) (λ j h. front-word (4 * p .held) u w (p .chain + j) (omega (arith, l .chain)) s) (l .linked .chained);
+  }
+
   pub laid-front : length u ≡ length w → Laid f u p
   laid-front e =
       let z : infosOf u (p .rows) (p .n) ≡ infosOf w (p .rows) (p .n) = infos-front (4 * p .held) u w (p .rows) (p .n) (omega (arith, l .rows)) s in
       record {
         rows = l .rows;
+        chain = l .chain;
+        linked = linked-front;
         area = l .area;
         many = l .many;
         sum = rw z (l .sum);

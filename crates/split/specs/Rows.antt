@@ -9,6 +9,7 @@ use lib.Dec.{eqb, leb, ltb}
 use Rattle.laws.specs.Keys.{Key, eqK}
 use Rattle.laws.specs.Count.{count, nub}
 use Rattle.words.specs.Words.{word}
+use Rattle.table.specs.Chain.{Chained}
 use Rattle.rfcomm.specs.Pieces.{Piece}
 use Rattle.rfcomm.specs.PieceTable.{pieceAt, piecesFrom, infosOf, Within}
 use Rattle.spans.specs.Spans.{onDlci}
@@ -100,9 +101,25 @@ sign n = cond (ltb 0 n) 1 0
 
 -- ---- where the tables lie
 
--- the pieces below the lengths held, these below the area, and the area has room for all information
+-- the DLCI, 2 * link + direction, the CID, and sessions + 65536 * links, as a key
+abbrev pub keyOf : ℕ → ℕ → ℕ → ℕ → Key
+keyOf d side cid counts = d ∷ side / 2 ∷ cid ∷ counts % 65536 ∷ counts / 65536 ∷ side % 2 ∷ []
+
+-- what a key comes to, to choose its bucket by
+unfoldable pub mix : Key → ℕ
+mix [] = 0
+mix (x ∷ k) = x + 31 * mix k
+
+-- one word for each piece says which piece of its bucket came before it; equal keys are in one bucket
+pub record Linked (w : List ℕ) (p : Plan) : Type 0 where
+  pub bucket : Key → ℕ
+  pub chained : Chained (λ j. bucket (keyAt w p j)) w (p .chain) (p .n)
+
+-- the pieces below the words that link them, these below the lengths held, these below the area, and the area has room for all information
 pub record Laid (f w : List ℕ) (p : Plan) : Type 0 where
   pub rows : p .rows + 8 * p .n ≤ p .held
+  pub chain : p .chain + p .n ≤ p .held
+  pub linked : Linked w p
   pub area : 4 * (p .held + p .n) ≤ p .area
   pub many : p .n ≤ 1048576
   pub sum : infosOf w (p .rows) (p .n) ≤ 1048576

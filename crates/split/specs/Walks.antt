@@ -7,7 +7,7 @@ use lib.ListN.{length}
 use lib.Seq.{sets}
 use Rattle.laws.specs.Keyed.{step}
 use Rattle.laws.specs.Stores.{Writes}
-use Rattle.words.specs.Words.{putWord}
+use Rattle.words.specs.Words.{word, putWord}
 use Rattle.words.specs.Front.{Front}
 use Rattle.items.specs.Items.{Span, spanList}
 use Rattle.mdr.specs.Frame.{unpacksOf}
@@ -17,7 +17,7 @@ use Rattle.spans.specs.Scan.{ended, spansOf}
 use Rattle.spans.specs.Spans.{scanner, spans, unfinished}
 use Rattle.spans.specs.Parts.{tagged, tallyAll}
 use Rattle.spans.specs.Bytewise.{AllQuiet}
-use Rattle.split.specs.Rows.{piece, dlciAt, lenAt, startAt, bytesAt, heldOf, streamTo, opened, Fits, joined, cappedLength, all, liveTo, sign, Laid}
+use Rattle.split.specs.Rows.{piece, dlciAt, lenAt, startAt, bytesAt, heldOf, streamTo, opened, Fits, joined, cappedLength, all, liveTo, sign, Linked, Laid}
 use Rattle.split.specs.declared.Plan.{Plan}
 use Rattle.split.specs.declared.Sums.{Sums}
 
@@ -27,6 +27,35 @@ pub record Row (w : List ℕ) (p : Plan) (i : ℕ) : Type 0 where
   pub rows : p .rows + 8 * p .n ≤ p .held
   pub words : 4 * (p .held + p .n) ≤ length w
   pub row : i < p .n
+
+-- a piece and the words that link the pieces
+pub record Chain (w : List ℕ) (p : Plan) (i : ℕ) : Type 0 where
+  pub row : Row w p i
+  pub chain : p .chain + p .n ≤ p .held
+  pub linked : Linked w p
+
+-- room to link the pieces: m buckets whose words stand from word heads on
+pub record LinkRoom (w : List ℕ) (p : Plan) (heads m : ℕ) : Type 0 where
+  pub rows : p .rows + 8 * p .n ≤ p .chain
+  pub chain : p .chain + p .n ≤ p .held
+  pub over : p .held ≤ heads
+  pub words : 4 * (p .held + p .n) ≤ length w
+  pub room : 4 * (heads + m) ≤ length w
+  pub some : 0 < m
+  pub many : p .n ≤ 1048576
+
+pub record Unlinked (w : List ℕ) (p : Plan) (heads m : ℕ) : Type 0 where
+  pub room : LinkRoom w p heads m
+  pub zeros : (h : ℕ) → h < m → word w (heads + h) ≡ 0
+
+pub record LinkedTo (w : List ℕ) (p : Plan) (u : List ℕ) : Type 0 where
+  pub linked : Linked u p
+  pub front : Front (4 * p .chain) u w
+
+-- one more than the piece of its bucket before piece i, or 0
+pub record Earlier (w : List ℕ) (p : Plan) (i r : ℕ) : Type 0 where
+  pub at : r ≡ word w (p .chain + i)
+  pub less : r ≤ i
 
 pub record TwoRows (w : List ℕ) (p : Plan) (i j : ℕ) : Type 0 where
   pub rows : p .rows + 8 * p .n ≤ p .held

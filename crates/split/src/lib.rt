@@ -1,7 +1,8 @@
 // The pieces of one DLCI split into spans: counted, or written as a list of items.
 //
-// Nothing is stored but one word for each piece: how many bytes its key holds after it. The buffer of a key is then the
-// last that many bytes of all that came under the key, and is put together where a 3C may close something.
+// Two words are stored for each piece: which piece of its bucket came before it, and how many bytes its key holds after it.
+// The buffer of a key is then the last that many bytes of all that came under the key, and is put together where a 3C may
+// close something. Pieces of one key are in one bucket, so no other bucket is walked.
 ghost use mathlib.Core.Path.{_≡_};
 ghost use Prim.Native.Nat.{_+_, _-_, _%_, _≤_, _<_, min};
 ghost use lib.ListN.{length, take, drop};
@@ -9,9 +10,10 @@ ghost use lib.Seq.{sets};
 ghost use Rattle.laws.specs.Keys.{eqK};
 ghost use Rattle.items.specs.Items.{rxOf};
 ghost use Rattle.spans.specs.Scan.{ended};
+ghost use Rattle.table.specs.Chain.{Bucket};
 ghost use Rattle.split.specs.Last.{lastn};
-ghost use Rattle.split.specs.Rows.{keyAt, lenAt, inWork, bytesAt, heldOf, streamTo, cappedLength, sign, Laid};
-ghost use Rattle.split.specs.Walks.{Row, TwoRows, StartIs, Placed, PutPre, GatherPre, JoinPre, Joined, Says, HoldPre, HeldMore, OpenPre, CountPre, CountHeld, Stepped, CountIs, WritePre, WriteHeld, WroteStep, ListPre, WriteIs};
+ghost use Rattle.split.specs.Rows.{keyOf, keyAt, mix, lenAt, inWork, bytesAt, heldOf, streamTo, cappedLength, sign, Laid};
+ghost use Rattle.split.specs.Walks.{Row, LinkRoom, Unlinked, LinkedTo, Chain, Earlier, TwoRows, StartIs, Placed, PutPre, GatherPre, JoinPre, Joined, Says, HoldPre, HeldMore, OpenPre, CountPre, CountHeld, Stepped, CountIs, WritePre, WriteHeld, WroteStep, ListPre, WriteIs};
 use items::Direction;
 use spans::Counted;
 use spans::Tally;
@@ -19,15 +21,19 @@ use spans::Wrote;
 use spans::count_part;
 use spans::has_end;
 use spans::write_part;
+use table::bucket;
+use table::clear;
+use table::link;
 use words::copy_to;
 use words::get32;
 use words::get64;
 use words::put32;
 
-// Where the tables lie in work: the pieces and the lengths held by words, the area by bytes. And the DLCI.
+// Where the tables lie in work: the pieces, what links them and the lengths held by words, the area by bytes. And the DLCI.
 pub struct Plan {
     pub rows: usize,
     pub n: usize,
+    pub chain: usize,
     pub held: usize,
     pub area: usize,
     pub dlci: u32,
@@ -78,19 +84,80 @@ fn is_joined(w: &[u8], p: Plan, i: usize) -> bool
     get32(w, p.rows + 8 * i + 5) / 65536 == 1
 }
 
+// One more than the piece of its bucket before piece i; 0 if there is none.
+fn earlier(w: &[u8], p: Plan, i: usize) -> usize
+    requires { ⌜ Chain (now w) p i ⌝ }
+    ensures { λ r. ⌜ Earlier (now (w .entry)) p i r ⌝ }
+{
+    get32(w, p.chain + i) as usize
+}
+
 // The length held after the newest piece before i that has the key of i.
 fn held_before(w: &[u8], p: Plan, i: usize) -> usize
-    requires { ⌜ Row (now w) p i ⌝ }
+    requires { ⌜ Chain (now w) p i ⌝ }
     ensures { λ r. ⌜ r ≡ heldOf (now (w .entry)) p i ⌝ }
 {
-    let mut j = i;
+    let mut j = earlier(w, p, i);
     while 0 < j {
-        j -= 1;
-        if same_key(w, p, j, i) {
-            return get32(w, p.held + j) as usize;
+        let k = j - 1;
+        j = earlier(w, p, k);
+        if same_key(w, p, k, i) {
+            return get32(w, p.held + k) as usize;
         }
     }
     0
+}
+
+// ---- the pieces linked, before all else
+
+// What a key comes to, to choose its bucket by.
+fn mixed(dlci: u32, side: u32, cid: u32, counts: u32) -> u64
+    ensures { λ r. ⌜ r ≡ mix (keyOf dlci side cid counts) ⌝ }
+{
+    let links = (counts / 65536) as u64 + 31 * ((side % 2) as u64);
+    let sessions = (counts % 65536) as u64 + 31 * links;
+    let channel = cid as u64 + 31 * sessions;
+    let link = (side / 2) as u64 + 31 * channel;
+    dlci as u64 + 31 * link
+}
+
+// The bucket of piece i, of m.
+fn bucket_of(w: &[u8], p: Plan, i: usize, m: usize) -> usize
+    requires { ⌜ (Row (now w) p i) × (0 < m) ⌝ }
+    ensures { λ r. ⌜ Bucket (mix (keyAt (now (w .entry)) p i)) m r ⌝ }
+{
+    let at = p.rows + 8 * i;
+    let x = mixed(
+        get32(w, at),
+        get32(w, at + 1),
+        get32(w, at + 2),
+        get32(w, at + 3),
+    );
+    bucket(x, m as u64) as usize
+}
+
+// Links the pieces of each of m buckets that are empty.
+fn link_rows(w: &mut [u8], p: Plan, heads: usize, m: usize)
+    requires { ⌜ Unlinked (now w) p heads m ⌝ }
+    ensures { λ _. ⌜ LinkedTo (now (w .entry)) p (now (w .exit)) ⌝ }
+{
+    let n = p.n;
+    let chain = p.chain;
+    let mut i = 0;
+    while i < n {
+        let h = bucket_of(w, p, i, m);
+        link(w, chain, heads, i, h);
+        i += 1;
+    }
+}
+
+// Links the pieces of each of m buckets. The words of the buckets stand from word heads on, and are free afterwards.
+pub fn link_pieces(w: &mut [u8], p: Plan, heads: usize, m: usize)
+    requires { ⌜ LinkRoom (now w) p heads m ⌝ }
+    ensures { λ _. ⌜ LinkedTo (now (w .entry)) p (now (w .exit)) ⌝ }
+{
+    clear(w, heads, m);
+    link_rows(w, p, heads, m);
 }
 
 // Whether a piece has a 3C.
@@ -149,14 +216,15 @@ fn gather(file: &[u8], w: &mut [u8], p: Plan, i: usize, h: usize)
     requires { ⌜ GatherPre (now file) (now w) p i h ⌝ }
     ensures { λ _. ⌜ now (w .exit) ≡ sets (now (w .entry)) (p .area) (lastn h (streamTo (now (file .entry)) (now (w .entry)) p i)) ⌝ }
 {
-    let mut j = i;
+    let mut j = earlier(w, p, i);
     let mut left = h;
     while 0 < left {
-        j -= 1;
-        if same_key(w, p, j, i) {
-            let n = length_of(w, p, j);
+        let k = j - 1;
+        j = earlier(w, p, k);
+        if same_key(w, p, k, i) {
+            let n = length_of(w, p, k);
             let m = least(left, n);
-            put_bytes(file, w, p, j, n - m, m, p.area + left - m);
+            put_bytes(file, w, p, k, n - m, m, p.area + left - m);
             left -= m;
         }
     }

@@ -19,13 +19,13 @@ use Rattle.rfcomm.specs.Pieces.{Piece}
 use Rattle.rfcomm.specs.PieceTable.{pieceAt, piecesFrom, infosOf, Within, Pieced}
 use Rattle.rfcomm.specs.PieceRows.{pieces-front}
 use Rattle.spans.specs.Spans.{spans, unfinished, onDlci}
-use Rattle.split.specs.Rows.{all, Laid}
+use Rattle.split.specs.Rows.{all, tailAt, keyAt, Linked, Laid}
 use Rattle.split.specs.Walks.{CountIs}
 use Rattle.split.specs.Fronts.{laid-front}
 use Rattle.split.specs.declared.Plan.{Plan}
 use Rattle.split.specs.declared.Sums.{Sums}
 use Rattle.outcome.specs.Import.{onChannel, first, hasFrame, chosen}
-use Rattle.streams.specs.Streams.{channelOf, planOf, tablePieces, Tabled, streamOf, choiceOf, Chooses}
+use Rattle.streams.specs.Streams.{channelOf, planOf, tablePieces, Tabled, Ready, below, streamOf, choiceOf, Chooses}
 use Rattle.streams.specs.declared.Channel.{Channel}
 use Rattle.streams.specs.declared.Choice.{Choice}
 use Rattle.streams.specs.declared.Choice.the-variants.{Nothing, Chosen}
@@ -38,37 +38,46 @@ within-more f w at a b h i = record { inside = more (eqb (word w (at + 5) / 6553
   more true g = omega arith
   more false g = g
 
-module _ (f w : List ℕ) (n : ℕ) (t : Tabled f w n) where
+linked-any : (w : List ℕ) (q n d : ℕ) → Linked w (planOf q n 0) → Linked w (planOf q n d)
+unfolding planOf keyAt tailAt
+linked-any w q n d l = record { bucket = l .bucket; chained = l .chained }
+
+module _ (f w : List ℕ) (n : ℕ) (ready : Ready f w n) where
+  t : Tabled f w n
+  t = ready .tabled
+
   pub laid-table : (d : ℕ) → Laid f w (planOf (length f / 4) n d)
   unfolding planOf
   laid-table d = record {
     rows = omega (arith, t .few);
+    chain = omega arith;
+    linked = linked-any w (length f / 4) n d (ready .linked);
     area = omega (arith, t .few);
     many = omega (arith, t .few, t .small);
     sum = omega (arith, t .few, t .small);
     room = omega (arith, t .few, t .room);
-    within = λ i h. within-more f w (5 * (length f / 4) + 8 * i) (8 * (length f / 4)) (4 * (6 * (length f / 4))) (omega arith) (t .within i h);
+    within = λ i h. within-more f w (5 * (length f / 4) + 8 * i) (8 * (length f / 4)) (4 * (6 * (length f / 4) + n)) (omega arith) (t .within i h);
   }
 
   -- work changed above the lengths held
-  module _ (u : List ℕ) (s : Front (24 * (length f / 4)) u w) where
+  module _ (u : List ℕ) (s : Front (below f n) u w) where
     pub table-same : tablePieces f u n ≡ tablePieces f w n
-    table-same = pieces-front (24 * (length f / 4)) f u w (5 * (length f / 4)) 0 n (8 * (length f / 4)) (omega (arith, t .few)) s (omega arith) (λ j h. t .within j (omega arith))
+    table-same = pieces-front (below f n) f u w (5 * (length f / 4)) 0 n (8 * (length f / 4)) (omega (arith, t .few)) s (omega arith) (λ j h. t .within j (omega arith))
 
     pub laid-later : length u ≡ length w → (p : Plan) (d : ℕ) → p ≡ planOf (length f / 4) n d → Laid f u p
     unfolding planOf
-    laid-later e p d ep = rw ep (laid-front f u w (planOf (length f / 4) n d) (laid-table d) (front-less (4 * (6 * (length f / 4))) (24 * (length f / 4)) u w (omega arith) s) e)
+    laid-later e p d ep = rw ep (laid-front f u w (planOf (length f / 4) n d) (laid-table d) s e)
 
     pub all-same : (p : Plan) (d : ℕ) → p ≡ planOf (length f / 4) n d → all f u p ≡ onDlci d (tablePieces f w n)
     unfolding planOf
     all-same p d ep = rw (ep, table-same)
 
     pub dlci-same : (i d : ℕ) → i < n → d ≡ word u (5 * (length f / 4) + 8 * i) → d ≡ word w (5 * (length f / 4) + 8 * i)
-    dlci-same i d h e = e ∙ front-word (24 * (length f / 4)) u w (5 * (length f / 4) + 8 * i) (omega (arith, t .few)) s
+    dlci-same i d h e = e ∙ front-word (below f n) u w (5 * (length f / 4) + 8 * i) (omega (arith, t .few)) s
 
-pub front-plan : (f u w : List ℕ) (n d : ℕ) (p : Plan) → p ≡ planOf (length f / 4) n d → Front (4 * p .held) u w → Front (24 * (length f / 4)) u w
+pub front-plan : (f u w : List ℕ) (n d : ℕ) (p : Plan) → p ≡ planOf (length f / 4) n d → Front (4 * p .held) u w → Front (below f n) u w
 unfolding planOf
-front-plan f u w n d p ep s = let z : 4 * (6 * (length f / 4)) ≡ 24 * (length f / 4) = omega arith in rw (ep, z) at s
+front-plan f u w n d p ep s = rw ep at s
 
 -- ---- the walk
 
@@ -83,7 +92,7 @@ dlcis f w n i = map (λ p. p .dlci) (piecesFrom f w (5 * (length f / 4)) i (n - 
 pub record Choosing (f w₀ : List ℕ) (n : ℕ) (channel : Channel) (w tried : List ℕ) (i : ℕ) : Type 0 where
   pub within : i ≤ n
   pub long : length w ≡ length w₀
-  pub front : Front (24 * (length f / 4)) w w₀
+  pub front : Front (below f n) w w₀
   pub size : length tried ≡ 64
   pub bad : (e : ℕ) → (getD tried e 0 ≡ 0 → ⊥) → hasFrame (tablePieces f w₀ n) e ≡ false
   pub same : first (Fit channel (tablePieces f w₀ n)) (dlcis f w₀ n i) ≡ chosen (channelOf channel) (tablePieces f w₀ n)
@@ -102,29 +111,29 @@ pub choosing-start : (f w : List ℕ) (n : ℕ) (channel : Channel) → Choosing
 unfolding chosen
 choosing-start f w n channel =
     let z : n - 0 ≡ n = omega arith in
-    record { within = omega arith; long = refl; front = front-refl (24 * (length f / 4)) w; size = refl; bad = λ e h. absurd (h (getD-zeros 64 e)); same = rw z }
+    record { within = omega arith; long = refl; front = front-refl (below f n) w; size = refl; bad = λ e h. absurd (h (getD-zeros 64 e)); same = rw z }
 
 module _ (f w₀ : List ℕ) (n : ℕ) (channel : Channel) (w tried : List ℕ) (i : ℕ) (v : Choosing f w₀ n channel w tried i) where
   pub choosing-end : n ≤ i → Chooses f w₀ n channel w Nothing
   unfolding first piecesFrom choiceOf
   choosing-end h = let z : n - i ≡ 0 = omega arith in record { chooses = rw (← (rw z at (v .same))); front = v .front }
 
-  module _ (t : Tabled f w₀ n) (h : i < n) (d : ℕ) (ed : d ≡ word w (5 * (length f / 4) + 8 * i)) where
+  module _ (t : Ready f w₀ n) (h : i < n) (d : ℕ) (ed : d ≡ word w (5 * (length f / 4) + 8 * i)) where
     mine : word w₀ (5 * (length f / 4) + 8 * i) ≡ d
     mine = sym (dlci-same f w₀ n t w (v .front) i d h ed)
 
     pub choosing-small : d < 64
-    choosing-small = rw mine at (t .within i h .most)
+    choosing-small = rw mine at (t .tabled .within i h .most)
 
     more : first (Fit channel (tablePieces f w₀ n)) (dlcis f w₀ n i) ≡ cond (Fit channel (tablePieces f w₀ n) d) (some d) (first (Fit channel (tablePieces f w₀ n)) (dlcis f w₀ n (i + 1)))
     unfolding first piecesFrom pieceAt
     more = let z : n - i ≡ suc (n - (i + 1)) = omega arith in rw (z, mine, add-one i)
 
-    next : (u o : List ℕ) → length u ≡ length w → Front (24 * (length f / 4)) u w → length o ≡ 64 → ((e : ℕ) → (getD o e 0 ≡ 0 → ⊥) → hasFrame (tablePieces f w₀ n) e ≡ false) → Fit channel (tablePieces f w₀ n) d ≡ false → Choosing f w₀ n channel u o (i + 1)
+    next : (u o : List ℕ) → length u ≡ length w → Front (below f n) u w → length o ≡ 64 → ((e : ℕ) → (getD o e 0 ≡ 0 → ⊥) → hasFrame (tablePieces f w₀ n) e ≡ false) → Fit channel (tablePieces f w₀ n) d ≡ false → Choosing f w₀ n channel u o (i + 1)
     next u o k b y x e = record {
       within = omega arith;
       long = k ∙ v .long;
-      front = front-then (24 * (length f / 4)) u w w₀ b (v .front);
+      front = front-then (below f n) u w w₀ b (v .front);
       size = y;
       bad = x;
       same = rw (more, e) at (v .same);
@@ -132,14 +141,14 @@ module _ (f w₀ : List ℕ) (n : ℕ) (channel : Channel) (w tried : List ℕ) 
 
     module _ (on : Bool) (eo : on ≡ onChannel (channelOf channel) d) where
       pub choosing-skip : on ≡ false → Choosing f w₀ n channel w tried (i + 1)
-      choosing-skip e = next w tried refl (front-refl (24 * (length f / 4)) w) (v .size) (v .bad) (rw (← eo, e))
+      choosing-skip e = next w tried refl (front-refl (below f n) w) (v .size) (v .bad) (rw (← eo, e))
 
       module _ (e : on ≡ true) where
         fit : (b : Bool) → hasFrame (tablePieces f w₀ n) d ≡ b → Fit channel (tablePieces f w₀ n) d ≡ b
         fit b g = rw (← eo, e) g
 
         pub choosing-known : (r : ℕ) → r ≡ getD tried d 0 → (r ≡ 0 → ⊥) → Choosing f w₀ n channel w tried (i + 1)
-        choosing-known r er x = next w tried refl (front-refl (24 * (length f / 4)) w) (v .size) (v .bad) (fit false (v .bad d (λ z. x (er ∙ z))))
+        choosing-known r er x = next w tried refl (front-refl (below f n) w) (v .size) (v .bad) (fit false (v .bad d (λ z. x (er ∙ z))))
 
         module _ (p : Plan) (ep : p ≡ planOf (length f / 4) n d) where
           pub choosing-laid : Laid f w p
@@ -163,5 +172,5 @@ module _ (f w₀ : List ℕ) (n : ℕ) (channel : Channel) (w tried : List ℕ) 
                 let o : chosen (channelOf channel) (tablePieces f w₀ n) ≡ some d = sym (v .same) ∙ more ∙ rw (fit true (has-is ∙ g)) in
                 record {
                   chooses = rw (o, c .count, c .bytes, c .live, a);
-                  front = front-then (24 * (length f / 4)) u w w₀ (front-plan f u w n d p ep (c .front)) (v .front);
+                  front = front-then (below f n) u w w₀ (front-plan f u w n d p ep (c .front)) (v .front);
                 }

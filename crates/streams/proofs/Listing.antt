@@ -7,21 +7,28 @@ use native.Mathlib.Omega.{arith}
 use lib.ListN.{length}
 use Rattle.laws.specs.Answers.{Outcome, gives, Meets, meets-refused, meets-short, meets-wrote}
 use Rattle.laws.specs.Stores.{Writes}
-use Rattle.words.specs.Front.{Front, front-then}
+use Rattle.words.specs.Front.{Front, front-then, front-less}
+use Rattle.table.specs.Chain.{bucketsOf, buckets-some, buckets-fit}
 use Rattle.items.specs.Items.{spanList}
 use Rattle.rfcomm.specs.Pieces.{Piece}
+use Rattle.rfcomm.specs.PieceTable.{infosOf}
+use Rattle.rfcomm.specs.PieceRows.{pieces-front, infos-front, within-front}
 use Rattle.spans.specs.Spans.{spans, unfinished, onDlci}
 use Rattle.split.specs.Rows.{all}
-use Rattle.split.specs.Walks.{ListPre, WriteIs}
+use Rattle.split.specs.Walks.{ListPre, WriteIs, LinkRoom, LinkedTo}
 use Rattle.split.specs.declared.Plan.{Plan}
 use Rattle.outcome.specs.Import.{chosen, listed, given}
-use Rattle.streams.specs.Streams.{channelOf, planOf, tablePieces, Tabled, streamOf, choiceOf, Chooses, told, ListsSpans}
+use Rattle.streams.specs.Streams.{channelOf, planOf, tablePieces, Tabled, Ready, below, streamOf, choiceOf, Chooses, told, ListsSpans}
 use Rattle.streams.specs.declared.Channel.{Channel}
 use Rattle.streams.specs.declared.Stream.{Stream}
 use Rattle.streams.specs.declared.Choice.{Choice}
 use Rattle.streams.specs.declared.Choice.the-variants.{Nothing, Chosen}
+use Rattle.streams.specs.declared.Listed.{Listed}
 use Rattle.streams.specs.declared.Listed.the-variants.{NoStream, OutShort, Spans}
 use Rattle.streams.proofs.Choosing.{laid-later, all-same, front-plan}
+
+low : (f : List ℕ) (n : ℕ) (u w : List ℕ) → Front (below f n) u w → Front (24 * (length f / 4)) u w
+low f n u w s = front-less (24 * (length f / 4)) (below f n) u w (omega arith) s
 
 choice-none : (ps : List Piece) (o : Option ℕ) → Nothing ≡ choiceOf ps o → o ≡ none
 unfolding choiceOf
@@ -38,7 +45,7 @@ module _ (f w : List ℕ) (n : ℕ) (channel : Channel) (u : List ℕ) (c : Choi
   unfolding listed given told
   lists-none e =
       let z : chosen (channelOf channel) (tablePieces f w n) ≡ none = choice-none (tablePieces f w n) (chosen (channelOf channel) (tablePieces f w n)) (sym e ∙ q .chooses) in
-      record { meets = λ tail. meets-refused (given (listed (tablePieces f w n) tail (chosen (channelOf channel) (tablePieces f w n)))) out 6 [] (rw z); front = q .front }
+      record { meets = λ tail. meets-refused (given (listed (tablePieces f w n) tail (chosen (channelOf channel) (tablePieces f w n)))) out 6 [] (rw z); front = low f n u w (q .front) }
 
   module _ (s : Stream) (e : c ≡ Chosen s) where
     of-stream : (chosen (channelOf channel) (tablePieces f w n) ≡ some (s .dlci)) × (s ≡ streamOf (tablePieces f w n) (s .dlci))
@@ -60,9 +67,9 @@ module _ (f w : List ℕ) (n : ℕ) (channel : Channel) (u : List ℕ) (c : Choi
 
     pub lists-short : length out < s .bytes → ListsSpans f w n channel out (OutShort (s .bytes)) u out
     unfolding told
-    lists-short h = record { meets = λ tail. meets-short _ out _ list (s .bytes) (gives-list tail) needed h; front = q .front }
+    lists-short h = record { meets = λ tail. meets-short _ out _ list (s .bytes) (gives-list tail) needed h; front = low f n u w (q .front) }
 
-    module _ (t : Tabled f w n) (h : s .bytes ≤ length out) (k : length u ≡ length w) (p : Plan) (ep : p ≡ planOf (length f / 4) n (s .dlci)) where
+    module _ (t : Ready f w n) (h : s .bytes ≤ length out) (k : length u ≡ length w) (p : Plan) (ep : p ≡ planOf (length f / 4) n (s .dlci)) where
       pub lists-pre : ListPre f u p out
       lists-pre = record { laid = laid-later f w n t u (q .front) k p (s .dlci) ep; room = rw (all-same f w n t u (q .front) p (s .dlci) ep) (omega (arith, needed)) }
 
@@ -72,5 +79,47 @@ module _ (f w : List ℕ) (n : ℕ) (channel : Channel) (u : List ℕ) (c : Choi
           let x : Writes out 0 list r out′ = rw (all-same f w n t u (q .front) p (s .dlci) ep) at (y .writes) in
           record {
             meets = λ tail. meets-wrote _ out _ list r out′ (gives-list tail) (omega (arith, needed)) x;
-            front = front-then (24 * (length f / 4)) v u w (front-plan f v u n (s .dlci) p ep (y .front)) (q .front);
+            front = low f n v w (front-then (below f n) v u w (front-plan f v u n (s .dlci) p ep (y .front)) (q .front));
           }
+
+-- ---- the pieces linked first
+
+module _ (f w : List ℕ) (n : ℕ) (t : Tabled f w n) (p : Plan) (ep : p ≡ planOf (length f / 4) n 0) where
+  pub link-room : (m : ℕ) → m ≡ bucketsOf (length f / 4) → LinkRoom w p (7 * (length f / 4)) m
+  unfolding planOf
+  link-room m e =
+      let s : 0 < length f / 4 = omega (arith, t .few) in
+      rw (ep, e) (record {
+        rows = omega (arith, t .few);
+        chain = omega arith;
+        over = omega (arith, t .few);
+        words = omega (arith, t .few, t .room);
+        room = omega (arith, buckets-fit (length f / 4) s, t .room);
+        some = buckets-some (length f / 4);
+        many = omega (arith, t .few, t .small);
+      })
+
+  module _ (u : List ℕ) (l : LinkedTo w p u) where
+    front : Front (24 * (length f / 4)) u w
+    unfolding planOf
+    front = front-less (24 * (length f / 4)) (4 * (6 * (length f / 4))) u w (omega arith) (rw ep at (l .front))
+
+    same : tablePieces f u n ≡ tablePieces f w n
+    same = pieces-front (24 * (length f / 4)) f u w (5 * (length f / 4)) 0 n (8 * (length f / 4)) (omega (arith, t .few)) front (omega arith) (λ j h. t .within j (omega arith))
+
+    pub link-ready : length u ≡ length w → Ready f u n
+    link-ready e =
+        let z : infosOf u (5 * (length f / 4)) n ≡ infosOf w (5 * (length f / 4)) n = infos-front (24 * (length f / 4)) u w (5 * (length f / 4)) n (omega (arith, t .few)) front in
+        record {
+          tabled = record {
+            list = refl;
+            within = λ i h. within-front (24 * (length f / 4)) f u w (5 * (length f / 4) + 8 * i) (8 * (length f / 4)) (omega (arith, t .few)) front (t .within i h);
+            few = rw z (t .few);
+            small = t .small;
+            room = rw e (t .room);
+          };
+          linked = rw ep at (l .linked);
+        }
+
+    pub link-lists : (channel : Channel) (out : List ℕ) (r : Listed) (v out′ : List ℕ) → ListsSpans f u n channel out r v out′ → ListsSpans f w n channel out r v out′
+    link-lists channel out r v out′ y = record { meets = rw same at (y .meets); front = front-then (24 * (length f / 4)) v u w (y .front) front }

@@ -10,6 +10,7 @@ use Rattle.items.specs.Items.{spanList}
 use Rattle.rfcomm.specs.Pieces.{Piece}
 use Rattle.rfcomm.specs.PieceTable.{piecesFrom, Pieced}
 use Rattle.spans.specs.Spans.{spans, unfinished, onDlci}
+use Rattle.split.specs.Rows.{Linked}
 use Rattle.split.specs.declared.Plan.{Plan}
 use Rattle.outcome.specs.Import.{chosen, listed, given}
 use Rattle.streams.specs.declared.Channel.{Channel}
@@ -26,10 +27,10 @@ channelOf (Only c) = some c
 
 -- ---- the table of pieces in work
 
--- for a file of n bytes words of 4 are counted in quarters: the pieces from word 5 * n / 4 on, the lengths held from word 6 * n / 4 on,
--- and from byte 7 * n on, all rounded down, what a key holds
+-- for a file of 4 * q bytes or a little more: the pieces from word 5 * q on, from word 6 * q on what links them and then the lengths held,
+-- and from byte 28 * q on what a key holds
 unfoldable pub planOf : ℕ → ℕ → ℕ → Plan
-planOf q n d = record { rows = 5 * q; n = n; held = 6 * q; area = 28 * q; dlci = d }
+planOf q n d = record { rows = 5 * q; n = n; chain = 6 * q; held = 6 * q + n; area = 28 * q; dlci = d }
 
 -- the pieces that the table holds
 abbrev pub tablePieces : List ℕ → List ℕ → ℕ → List Piece
@@ -37,6 +38,15 @@ tablePieces f w n = piecesFrom f w (5 * (length f / 4)) 0 n
 
 abbrev pub Tabled : List ℕ → List ℕ → ℕ → Type 0
 Tabled f w n = Pieced f w n (tablePieces f w n)
+
+-- a table whose pieces are linked
+pub record Ready (f w : List ℕ) (n : ℕ) : Type 0 where
+  pub tabled : Tabled f w n
+  pub linked : Linked w (planOf (length f / 4) n 0)
+
+-- the bytes of work below the lengths held
+abbrev pub below : List ℕ → ℕ → ℕ
+below f n = 4 * (6 * (length f / 4) + n)
 
 -- a table that holds a list of pieces is such a table
 pub tabled : (f w : List ℕ) (n : ℕ) (ps : List Piece) → Pieced f w n ps → Tabled f w n
@@ -58,7 +68,7 @@ choiceOf ps (some d) = Chosen (streamOf ps d)
 
 pub record Chooses (f w : List ℕ) (n : ℕ) (channel : Channel) (u : List ℕ) (r : Choice) : Type 0 where
   pub chooses : r ≡ choiceOf (tablePieces f w n) (chosen (channelOf channel) (tablePieces f w n))
-  pub front : Front (24 * (length f / 4)) u w
+  pub front : Front (below f n) u w
 
 -- ---- the list
 

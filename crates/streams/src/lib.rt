@@ -3,12 +3,14 @@ ghost use mathlib.Core.Path.{_≡_};
 ghost use Prim.Native.Nat.{_*_, _/_, _≤_, _<_};
 ghost use lib.ListN.{length, getD, set};
 ghost use Rattle.outcome.specs.Import.{onChannel};
-ghost use Rattle.streams.specs.Streams.{channelOf, planOf, Tabled, Chooses, ListsSpans};
+ghost use Rattle.streams.specs.Streams.{channelOf, planOf, Tabled, Ready, Chooses, ListsSpans};
 use spans::Tally;
 use split::Plan;
 use split::Sums;
 use split::count_spans;
+use split::link_pieces;
 use split::write_spans;
+use table::buckets;
 use words::get32;
 
 // The channel that is asked for: any, or one.
@@ -62,13 +64,14 @@ fn mark(tried: &mut [u8], dlci: u32)
 
 // Where the tables lie in work, for a file of 4 * q bytes or a little more.
 fn plan(q: usize, n: usize, dlci: u32) -> Plan
-    requires { ⌜ q ≤ 1048576 ⌝ }
+    requires { ⌜ (q ≤ 1048576) × (n ≤ 1048576) ⌝ }
     ensures { λ r. ⌜ r ≡ planOf q n dlci ⌝ }
 {
     Plan {
         rows: 5 * q,
         n: n,
-        held: 6 * q,
+        chain: 6 * q,
+        held: 6 * q + n,
         area: 28 * q,
         dlci: dlci,
     }
@@ -76,7 +79,7 @@ fn plan(q: usize, n: usize, dlci: u32) -> Plan
 
 // The first DLCI seen, on the channel, that has a span which unpacks.
 pub fn choose_dlci(file: &[u8], w: &mut [u8], n: usize, channel: Channel) -> Choice
-    requires { ⌜ Tabled (now file) (now w) n ⌝ }
+    requires { ⌜ Ready (now file) (now w) n ⌝ }
     ensures { λ r. ⌜ Chooses (now (file .entry)) (now (w .entry)) n channel (now (w .exit)) r ⌝ }
 {
     let q = file.len() / 4;
@@ -113,9 +116,9 @@ pub enum Listed {
     Spans(Stream),
 }
 
-// Lists the spans of the DLCI chosen, for the n pieces in the table.
-pub fn list_spans(file: &[u8], w: &mut [u8], n: usize, channel: Channel, out: &mut [u8]) -> Listed
-    requires { ⌜ Tabled (now file) (now w) n ⌝ }
+// Lists the spans of the DLCI chosen, for the n pieces in the table, which are linked.
+fn list_linked(file: &[u8], w: &mut [u8], n: usize, channel: Channel, out: &mut [u8]) -> Listed
+    requires { ⌜ Ready (now file) (now w) n ⌝ }
     ensures { λ r. ⌜ ListsSpans (now (file .entry)) (now (w .entry)) n channel (now (out .entry)) r (now (w .exit)) (now (out .exit)) ⌝ }
 {
     let c = choose_dlci(file, w, n, channel);
@@ -131,4 +134,16 @@ pub fn list_spans(file: &[u8], w: &mut [u8], n: usize, channel: Channel, out: &m
             Listed::Spans(s)
         }
     }
+}
+
+// Lists the spans of the DLCI chosen, for the n pieces in the table.
+pub fn list_spans(file: &[u8], w: &mut [u8], n: usize, channel: Channel, out: &mut [u8]) -> Listed
+    requires { ⌜ Tabled (now file) (now w) n ⌝ }
+    ensures { λ r. ⌜ ListsSpans (now (file .entry)) (now (w .entry)) n channel (now (out .entry)) r (now (w .exit)) (now (out .exit)) ⌝ }
+{
+    let q = file.len() / 4;
+    let p = plan(q, n, 0);
+    let m = buckets(q);
+    link_pieces(w, p, 7 * q, m);
+    list_linked(file, w, n, channel, out)
 }

@@ -61,7 +61,7 @@ same-length c = search needs
 
 -- src/lib.rt:242:1
 returns : tie.Need-returns
-returns c = noted-request _ _ _ (c .before .before .before .before .before .before .before .said .given .0 .0) (omega arith) _ _ (c .before .before .before .before .before .key-of .ensures) _ _ (c .before .before .raise .ensures) _ _ (c .before .before .before .before .before .before .before .said .given .1) (c .before .before .before .request-grade .ensures)
+returns c = record { noted = noted-request _ _ _ (c .before .before .before .before .before .before .before .said .given .0 .0) (omega arith) _ _ (c .before .before .before .before .before .key-of .ensures) _ _ (c .before .before .raise .ensures .raised) _ _ (c .before .before .before .before .before .before .before .said .given .1) (c .before .before .before .request-grade .ensures); indexed = c .before .before .raise .ensures .indexed }
 
 -- src/lib.rt:242:1
 same-length-2 : tie.Need-same-length-2
@@ -69,7 +69,7 @@ same-length-2 c = search needs
 
 -- src/lib.rt:242:1
 returns-2 : tie.Need-returns-2
-returns-2 c = noted-response _ _ _ (c .before .before .before .before .before .before .before .before .before .before .said2 .given .0 .0) (omega arith) _ _ (c .before .before .before .before .key-of3 .ensures) _ _ (c .before .before .raise2 .ensures) _ (c .before .before .before .before .before .before .before .before .before .before .said2 .given .0 .1 .0) _ (c .before .before .before .before .before .before .before .before .before .before .said2 .given .1) (omega arith) _ (c .before .before .before .before .before .before .before .before .flip .ensures) _ (c .before .before .before .before .before .before .before .key-of2 .ensures) (c .before .before .before .before .before .response-grade .ensures)
+returns-2 c = record { noted = noted-response _ _ _ (c .before .before .before .before .before .before .before .before .before .before .said2 .given .0 .0) (omega arith) _ _ (c .before .before .before .before .key-of3 .ensures) _ _ (c .before .before .raise2 .ensures .raised) _ (c .before .before .before .before .before .before .before .before .before .before .said2 .given .0 .1 .0) _ (c .before .before .before .before .before .before .before .before .before .before .said2 .given .1) (omega arith) _ (c .before .before .before .before .before .before .before .before .flip .ensures) _ (c .before .before .before .before .before .before .before .key-of2 .ensures) (c .before .before .before .before .before .response-grade .ensures); indexed = c .before .before .raise2 .ensures .indexed }
 
 -- src/lib.rt:242:1
 returns-3 : tie.Need-returns-3

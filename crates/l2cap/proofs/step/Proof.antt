@@ -84,7 +84,7 @@ same-length-2 c = search needs
 
 -- src/lib.rt:269:9
 returns-2 : tie.Need-returns-2
-returns-2 c = step-full _ _ _ _ _ (c .before .before .before .before .before .before .before .before .before .before .before .before .before .before .before .before .before .before .before .before .before .pre) _ _ (sym (c .before .before .before .before .before .before .before .before .before .before .before .before .before .before .before .arrive .ensures) ∙ c .before .before .before .before .before .before .before .before .before .before .before .before .before .next .given .1) _ _ (c .before .before .before .before .before .before .before .before .before .before .before .before .before .before .before .before .before .get32 .ensures) (c .before .before .before .before .before .before .before .before .before .before .needed .ensures) (c .before .before .before .before .before .before .before .before .before .if1 .taken) _ _ (c .before .before .before .before .before .before .before .finish .ensures) _ (c .before .before .before .wide64 .ensures) _ _ (c .before .before .store .ensures)
+returns-2 c = step-full _ _ _ _ _ (c .before .before .before .before .before .before .before .before .before .before .before .before .before .before .before .before .before .before .before .before .before .pre) _ _ (sym (c .before .before .before .before .before .before .before .before .before .before .before .before .before .before .before .arrive .ensures) ∙ c .before .before .before .before .before .before .before .before .before .before .before .before .before .next .given .1) _ _ (c .before .before .before .before .before .before .before .before .before .before .before .before .before .before .before .before .before .get32 .ensures) (c .before .before .before .before .before .before .before .before .before .before .needed .ensures) (c .before .before .before .before .before .before .before .before .before .if1 .taken) _ _ (c .before .before .before .before .before .before .before .finish .ensures) _ (c .before .before .before .wide64 .ensures) _ _ (c .before .before .store .ensures .stored)
 
 -- src/lib.rt:275:25
 mul-store-2 : tie.Need-mul-store-2
@@ -116,7 +116,7 @@ same-length-3 c = search needs
 
 -- src/lib.rt:253:1
 returns-3 : tie.Need-returns-3
-returns-3 c = step-hold _ _ _ _ _ (c .before .before .before .before .before .before .before .before .before .before .before .before .before .before .before .before .before .before .before .pre) _ _ (sym (c .before .before .before .before .before .before .before .before .before .before .before .before .before .arrive .ensures) ∙ c .before .before .before .before .before .before .before .before .before .before .before .next .given .1) _ _ (c .before .before .before .before .before .before .before .before .before .before .before .before .before .before .before .get32 .ensures) (c .before .before .before .before .before .before .before .before .needed .ensures) (c .before .before .before .before .before .before .before .if1 .left) _ _ _ (c .before .before .before .before .before .wide642 .ensures) (c .before .before .before .before .narrow .ensures) (c .before .before .before .narrow2 .ensures) _ _ (c .before .before .store2 .ensures)
+returns-3 c = step-hold _ _ _ _ _ (c .before .before .before .before .before .before .before .before .before .before .before .before .before .before .before .before .before .before .before .pre) _ _ (sym (c .before .before .before .before .before .before .before .before .before .before .before .before .before .arrive .ensures) ∙ c .before .before .before .before .before .before .before .before .before .before .before .next .given .1) _ _ (c .before .before .before .before .before .before .before .before .before .before .before .before .before .before .before .get32 .ensures) (c .before .before .before .before .before .before .before .before .needed .ensures) (c .before .before .before .before .before .before .before .if1 .left) _ _ _ (c .before .before .before .before .before .wide642 .ensures) (c .before .before .before .before .narrow .ensures) (c .before .before .before .narrow2 .ensures) _ _ (c .before .before .store2 .ensures .stored)
 
 pub step-spec : {M : Type 1} → statement M
 step-spec =

@@ -24,10 +24,6 @@ mul-row-2 c = omega (arith, c .before .before .pre .few, c .before .before .pre 
 add-row : tie.Need-add-row
 add-row c = omega (arith, c .before .before .pre .quarter, c .before .before .pre .few, c .before .before .pre .small)
 
--- src/lib.rt:360:33
-mul-judge : tie.Need-mul-judge
-mul-judge c = omega (arith, c .before .before .before .pre .quarter, c .before .before .before .pre .small)
-
 -- src/lib.rt:360:9
 judge-requires : tie.Need-judge-requires
 judge-requires c κs = search judge-pre
@@ -139,7 +135,6 @@ take-pdu-spec =
     mul-row
     mul-row-2
     add-row
-    mul-judge
     judge-requires
     get32-requires
     enum-told

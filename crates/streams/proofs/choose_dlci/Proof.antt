@@ -26,19 +26,19 @@ loop-holds c = choosing-start _ _ _ _
 
 -- src/lib.rt:86:26
 mul-get32 : tie.Need-mul-get32 Inv-loop μ-loop
-mul-get32 c = omega (arith, c .before .before .before .before .before .pre .small)
+mul-get32 c = omega (arith, c .before .before .before .before .before .pre .tabled .small)
 
 -- src/lib.rt:86:34
 mul-get32-2 : tie.Need-mul-get32-2 Inv-loop μ-loop
-mul-get32-2 c = omega (arith, c .before .before .before .before .before .pre .few, c .before .before .before .before .before .pre .small)
+mul-get32-2 c = omega (arith, c .before .before .before .before .before .pre .tabled .few, c .before .before .before .before .before .pre .tabled .small)
 
 -- src/lib.rt:86:26
 add-get32 : tie.Need-add-get32 Inv-loop μ-loop
-add-get32 c = omega (arith, c .before .before .before .before .before .pre .few, c .before .before .before .before .before .pre .small)
+add-get32 c = omega (arith, c .before .before .before .before .before .pre .tabled .few, c .before .before .before .before .before .pre .tabled .small)
 
 -- src/lib.rt:86:13
 get32-requires : tie.Need-get32-requires Inv-loop μ-loop
-get32-requires c κs = omega (arith, c .before .before .before .before .before .pre .few, c .before .before .before .before .before .pre .room, c .before .before .loop .inv .long)
+get32-requires c κs = omega (arith, c .before .before .before .before .before .pre .tabled .few, c .before .before .before .before .before .pre .tabled .room, c .before .before .loop .inv .long)
 
 -- src/lib.rt:87:9
 add-i : tie.Need-add-i Inv-loop μ-loop
@@ -66,7 +66,7 @@ mark-requires c κs = search needs
 
 -- src/lib.rt:91:21
 plan-requires : tie.Need-plan-requires Inv-loop μ-loop
-plan-requires c κs = omega (arith, c .before .before .before .before .before .before .before .before .before .before .before .before .before .before .pre .small)
+plan-requires c κs = (omega (arith, c .before .before .before .before .before .before .before .before .before .before .before .before .before .before .pre .tabled .small), omega (arith, c .before .before .before .before .before .before .before .before .before .before .before .before .before .before .pre .tabled .few, c .before .before .before .before .before .before .before .before .before .before .before .before .before .before .pre .tabled .small))
 
 -- src/lib.rt:92:21
 count-spans-requires : tie.Need-count-spans-requires Inv-loop μ-loop

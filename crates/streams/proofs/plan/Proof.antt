@@ -7,22 +7,30 @@ use Rattle.streams.proofs.plan.Tie as tie
 use Rattle.streams.proofs.plan.Reads as reads
 use Rattle.streams.proofs.plan.Lts as lts
 
--- src/lib.rt:69:15
+-- src/lib.rt:70:15
 mul-t4 : tie.Need-mul-t4
 mul-t4 c = search needs
 
--- src/lib.rt:71:15
+-- src/lib.rt:72:16
 mul-t5 : tie.Need-mul-t5
 mul-t5 c = search needs
 
--- src/lib.rt:72:15
+-- src/lib.rt:73:15
 mul-t6 : tie.Need-mul-t6
 mul-t6 c = search needs
 
--- src/lib.rt:64:1
+-- src/lib.rt:73:15
+add-t7 : tie.Need-add-t7
+add-t7 c = search needs
+
+-- src/lib.rt:74:15
+mul-t8 : tie.Need-mul-t8
+mul-t8 c = search needs
+
+-- src/lib.rt:65:1
 returns : tie.Need-returns
 unfolding planOf
 returns c = refl
 
 pub plan-spec : {M : Type 1} → statement M
-plan-spec = tie.close (tie.spec mul-t4 mul-t5 mul-t6 returns)
+plan-spec = tie.close (tie.spec mul-t4 mul-t5 mul-t6 add-t7 mul-t8 returns)
