@@ -86,3 +86,14 @@ imported f work channel tail =
     cond (fits f)
     (cond (workSuffices f work) (given (outcome f channel tail)) (refuses 2 []))
     (refuses 1 [])
+
+-- 2 too: fewer places lent for stretches than the file length divided by 24
+unfoldable pub placesSuffice : List ℕ → ℕ → Bool
+placesSuffice f places = leb (length f / 24) places
+
+-- the same with a lent list of stretches, of so many places
+unfoldable pub importedIn : List ℕ → ℕ → ℕ → Option ℕ → Tail → Outcome
+importedIn f work places channel tail =
+    cond (fits f)
+    (cond (placesSuffice f places) (imported f work channel tail) (refuses 2 []))
+    (refuses 1 [])
