@@ -116,13 +116,7 @@ fn import_records(
 }
 
 // Imports a file of a size that is taken, with work enough.
-fn import_sized(
-    file: &[u8],
-    work: &mut [u8],
-    out: &mut [u8],
-    channel: Channel,
-    tail: Tail,
-) -> Found
+fn import_sized(file: &[u8], work: &mut [u8], out: &mut [u8], channel: Channel, tail: Tail) -> Found
     requires { ⌜ Sized (now file) (now work) ⌝ }
     ensures { λ r. ⌜ HeadMeets (now (file .entry)) channel tail (now (out .entry)) (r .answer) (now (out .exit)) ⌝ }
 {
