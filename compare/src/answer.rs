@@ -60,6 +60,34 @@ pub trait Subject {
         tolerant: u32,
         values: &mut [u64],
     ) -> u32;
+    #[allow(clippy::too_many_arguments)]
+    fn import_stretches(
+        &self,
+        file: &[u8],
+        work: &mut [u8],
+        stretches: &mut [Stretch],
+        out: &mut [u8],
+        channel: u32,
+        tolerant: u32,
+        values: &mut [u64],
+    ) -> u32;
+    /// Whether the call with stretches is linked.
+    fn has_stretches(&self) -> bool {
+        true
+    }
+}
+
+/// A stretch and direction with bytes held, as the library lays it out.
+#[repr(C)]
+#[derive(Clone, Copy, Debug, PartialEq, Eq, PartialOrd, Ord)]
+pub struct Stretch {
+    /// Twice the handle, and 1 for Rx.
+    pub way: u32,
+    pub cid: u32,
+    pub dlci: u32,
+    pub sessions: u32,
+    pub links: u32,
+    pub held: u32,
 }
 
 /// The channel of a call that gives none.

@@ -2,10 +2,10 @@
 
 use std::cell::RefCell;
 
-use crate::answer::{Answer, Case, Checked, Difference, Lender, Subject, NO_CHANNEL};
+use crate::answer::{Answer, Case, Checked, Difference, Lender, Stretch, Subject, NO_CHANNEL};
 use crate::codec::each_string;
 use crate::expected::{self, LONGEST_FILE};
-use crate::model::packed;
+use crate::model::{self, packed};
 use crate::rng::Rng;
 use crate::trace::{self, Trace};
 use crate::Options;
@@ -23,38 +23,61 @@ pub enum Rule {
     NotTolerant,
 }
 
+/// How many places for stretches are lent, if the call takes them.
+type Places = Option<usize>;
+
 pub struct Import<'a> {
     subject: &'a dyn Subject,
     rule: Rule,
     pub lender: Lender,
     files: usize,
     work: RefCell<Vec<u8>>,
+    stretches: RefCell<Vec<Stretch>>,
 }
 
 /// Bytes after the work lent that nobody may touch.
 const GUARD: usize = 16;
 const GUARDED: u8 = 0xC7;
 
+/// A place in the list of stretches that was not filled.
+const EMPTY: Stretch = {
+    let word = 0xC7C7_C7C7;
+    Stretch { way: word, cid: word, dlci: word, sessions: word, links: word, held: word }
+};
+
 impl<'a> Import<'a> {
     pub fn new(subject: &'a dyn Subject, rule: Rule) -> Import<'a> {
-        Import { subject, rule, lender: Lender::default(), files: 0, work: RefCell::default() }
+        Import {
+            subject,
+            rule,
+            lender: Lender::default(),
+            files: 0,
+            work: RefCell::default(),
+            stretches: RefCell::default(),
+        }
     }
 
-    fn case(&self, file: &[u8], channel: u32, work: usize) -> Case {
+    fn case(&self, file: &[u8], channel: u32, work: usize, places: Places) -> Case {
         let rule = match self.rule {
             Rule::Strict => "import_strict",
             Rule::Tolerant => "import, tolerant",
             Rule::NotTolerant => "import, strict",
         };
         let channel = if channel == NO_CHANNEL { "no channel".into() } else { format!("channel {channel}") };
-        Case { call: format!("{rule}, {channel}, {work} bytes of work"), inputs: vec![("file", file.to_vec())] }
+        let places = places.map_or_else(String::new, |n| format!(", {n} places for stretches"));
+        Case { call: format!("{rule}, {channel}, {work} bytes of work{places}"), inputs: vec![("file", file.to_vec())] }
     }
 
-    fn call(&self, file: &[u8], work: &mut [u8], out: &mut [u8], channel: u32, values: &mut [u64]) -> u32 {
+    fn call(&self, file: &[u8], lent: usize, places: Places, out: &mut [u8], channel: u32, values: &mut [u64]) -> u32 {
+        let work = &mut self.work.borrow_mut()[..lent];
+        let tolerant = u32::from(self.rule == Rule::Tolerant);
+        if let Some(places) = places {
+            let stretches = &mut self.stretches.borrow_mut()[..places];
+            return self.subject.import_stretches(file, work, stretches, out, channel, tolerant, values);
+        }
         match self.rule {
             Rule::Strict => self.subject.import_strict(file, work, out, channel, values),
-            Rule::Tolerant => self.subject.import(file, work, out, channel, 1, values),
-            Rule::NotTolerant => self.subject.import(file, work, out, channel, 0, values),
+            _ => self.subject.import(file, work, out, channel, tolerant, values),
         }
     }
 
@@ -102,32 +125,122 @@ impl<'a> Import<'a> {
         let enough = 8 * file.len() + [0, 0, 1, 64][self.files % 4];
         let fill = [None, None, Some(0), Some(0xFF), Some(0x3E)][self.files % 5];
         self.lend(enough, fill);
-        lender.about(
-            expected,
-            &mut |out, values| self.call(file, &mut self.work.borrow_mut()[..enough], out, channel, values),
-            &|| self.case(file, channel, enough),
-        )?;
+        lender.about(expected, &mut |out, values| self.call(file, enough, None, out, channel, values), &|| {
+            self.case(file, channel, enough, None)
+        })?;
         self.guards(enough, file, channel)?;
         if expected.number == 1 {
-            self.unworked(lender, file, channel, expected, enough)?;
+            self.unworked(lender, file, channel, expected, enough, None)?;
         } else if self.files % 7 == 0 && !file.is_empty() {
-            self.unworked(lender, file, channel, &Answer::refused(2, &[]), 8 * file.len() - 1)?;
-            self.unworked(lender, file, channel, &Answer::refused(2, &[]), self.files % (8 * file.len()))?;
+            self.unworked(lender, file, channel, &Answer::refused(2, &[]), 8 * file.len() - 1, None)?;
+            self.unworked(lender, file, channel, &Answer::refused(2, &[]), self.files % (8 * file.len()), None)?;
+        }
+        if self.subject.has_stretches() {
+            self.with_stretches(lender, file, channel, expected, enough, fill)?;
         }
         Ok(())
     }
 
-    /// A call that has to leave `lent` bytes of work as they were.
-    fn unworked(&self, lender: &mut Lender, file: &[u8], channel: u32, expected: &Answer, lent: usize) -> Checked {
+    /// The same with a list of stretches lent, of as many places as are wanted; at times
+    /// with one fewer, or with less work.
+    fn with_stretches(
+        &self,
+        lender: &mut Lender,
+        file: &[u8],
+        channel: u32,
+        expected: &Answer,
+        enough: usize,
+        fill: Option<u8>,
+    ) -> Checked {
+        let places = file.len() / 24;
+        let needed = expected.written.len();
+        let lent = if self.files % 3 == 0 { needed.saturating_sub(1) } else { needed + self.files % 2 };
+        let room = lender.room(expected);
+        self.lend(enough, fill);
+        self.lend_stretches(places);
+        lender.call(
+            expected,
+            lent,
+            room,
+            &mut |out, values| self.call(file, enough, Some(places), out, channel, values),
+            &|| self.case(file, channel, enough, Some(places)),
+        )?;
+        self.guards(enough, file, channel)?;
+        match expected.within(lent).number {
+            0 => self.listed(file, channel, expected, enough, places)?,
+            1 => self.unfilled(file, channel, enough, places, 0)?,
+            _ => self.unfilled(file, channel, enough, places, places)?,
+        }
+        if expected.number == 1 {
+            self.unworked(lender, file, channel, expected, enough, Some(places))?;
+            return self.unworked(lender, file, channel, expected, enough, Some(0));
+        }
+        if self.files % 7 == 1 && places > 0 {
+            let short = Answer::refused(2, &[]);
+            self.unworked(lender, file, channel, &short, enough, Some(places - 1))?;
+            self.unworked(lender, file, channel, &short, enough, Some(self.files % places))?;
+            self.unworked(lender, file, channel, &short, 8 * file.len() - 1, Some(places))?;
+        }
+        Ok(())
+    }
+
+    /// Empty places to lend, and one more that nobody may touch.
+    fn lend_stretches(&self, places: usize) {
+        let mut stretches = self.stretches.borrow_mut();
+        stretches.clear();
+        stretches.resize(places + 1, EMPTY);
+    }
+
+    /// The first `unfinished` places are filled, and no other; at times it is also seen
+    /// that they hold the open stretches. The list is free by 01: this is more than the
+    /// proved call promises.
+    fn listed(&self, file: &[u8], channel: u32, expected: &Answer, lent: usize, places: usize) -> Checked {
+        let unfinished = expected.values[2] as usize;
+        self.unfilled(file, channel, lent, places, unfinished)?;
+        let mut found = self.stretches.borrow()[..unfinished].to_vec();
+        found.sort();
+        let wrong = if self.files % 5 == 0 && file.len() < 20_000 {
+            let open = model::open(file, expected.values[0]);
+            (found != open).then(|| format!("{open:?}"))
+        } else {
+            let fits = |s: &Stretch| u64::from(s.dlci) == expected.values[0] && (1..=65_536).contains(&s.held);
+            (!found.iter().all(fits)).then(|| format!("bytes held on DLCI {}", expected.values[0]))
+        };
+        wrong.map_or(Ok(()), |open| Err(self.differs(file, channel, lent, Some(places), open, format!("{found:?}"))))
+    }
+
+    /// From place `from` on, all are empty, the one after those lent too.
+    fn unfilled(&self, file: &[u8], channel: u32, lent: usize, places: usize, from: usize) -> Checked {
+        match self.stretches.borrow().iter().skip(from).position(|s| *s != EMPTY) {
+            None => Ok(()),
+            Some(at) => {
+                let expected = format!("place {} of the stretches is left as it was", from + at);
+                Err(self.differs(file, channel, lent, Some(places), expected, "it was changed".into()))
+            }
+        }
+    }
+
+    /// A call that has to leave `lent` bytes of work, and the stretches, as they were.
+    fn unworked(
+        &self,
+        lender: &mut Lender,
+        file: &[u8],
+        channel: u32,
+        expected: &Answer,
+        lent: usize,
+        places: Places,
+    ) -> Checked {
         self.lend(lent, Some(self.files as u8));
+        self.lend_stretches(places.unwrap_or(0));
         let room = lender.room(expected);
         lender.call(
             expected,
             self.files % 40,
             room,
-            &mut |out, values| self.call(file, &mut self.work.borrow_mut()[..lent], out, channel, values),
-            &|| self.case(file, channel, lent),
+            &mut |out, values| self.call(file, lent, places, out, channel, values),
+            &|| self.case(file, channel, lent, places),
         )?;
+        self.unfilled(file, channel, lent, places.unwrap_or(0), 0)?;
         let first = self.work.borrow().first().copied();
         match self.work.borrow()[..lent].iter().position(|b| Some(*b) != first) {
             None => self.guards(lent, file, channel),
@@ -154,14 +267,22 @@ impl<'a> Import<'a> {
     }
 
     fn touched(&self, file: &[u8], channel: u32, lent: usize, at: usize) -> Box<Difference> {
-        let case = self.case(file, channel, lent);
-        Box::new(Difference {
-            call: case.call,
-            inputs: case.inputs,
-            lent: format!("{lent} bytes of work"),
-            expected: format!("byte {at} of work is left as it was"),
-            got: "it was changed".into(),
-        })
+        let expected = format!("byte {at} of work is left as it was");
+        self.differs(file, channel, lent, None, expected, "it was changed".into())
+    }
+
+    fn differs(
+        &self,
+        file: &[u8],
+        channel: u32,
+        lent: usize,
+        places: Places,
+        expected: String,
+        got: String,
+    ) -> Box<Difference> {
+        let case = self.case(file, channel, lent, places);
+        let lent = format!("{lent} bytes of work");
+        Box::new(Difference { call: case.call, inputs: case.inputs, lent, expected, got })
     }
 }
 

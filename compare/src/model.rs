@@ -5,7 +5,7 @@
 
 use std::collections::BTreeMap;
 
-use crate::answer::{Answer, Subject, NO_CHANNEL};
+use crate::answer::{self, Answer, Subject, NO_CHANNEL};
 use crate::expected::{LONGEST_FILE, LONGEST_PAYLOAD};
 use oracle::capture;
 use oracle::mdr::DataType;
@@ -69,6 +69,24 @@ impl Subject for Model {
         values: &mut [u64],
     ) -> u32 {
         store(&import(file, work.len(), channel, tolerant != 0, RIGHT), out, values)
+    }
+
+    fn import_stretches(
+        &self,
+        file: &[u8],
+        work: &mut [u8],
+        stretches: &mut [answer::Stretch],
+        out: &mut [u8],
+        channel: u32,
+        tolerant: u32,
+        values: &mut [u64],
+    ) -> u32 {
+        let answer = import_in(file, work.len(), stretches.len(), channel, tolerant != 0);
+        let number = store(&answer, out, values);
+        if number == 0 {
+            fill(stretches, &open(file, answer.values[0]));
+        }
+        number
     }
 }
 
@@ -551,6 +569,12 @@ pub type Spans = Vec<(u64, Way, Vec<u8>)>;
 
 /// The spans of one DLCI's pieces, and how many buffers are left nonempty.
 pub fn spans(pieces: &[&Piece], reading: Reading) -> (Spans, usize) {
+    let (spans, buffers) = buffers(pieces, reading);
+    (spans, buffers.len())
+}
+
+/// The spans of one DLCI's pieces, and the buffers that are left nonempty.
+fn buffers(pieces: &[&Piece], reading: Reading) -> (Spans, BTreeMap<(Stretch, Way), Vec<u8>>) {
     let mut buffers: BTreeMap<(Stretch, Way), Vec<u8>> = BTreeMap::new();
     let mut spans = Vec::new();
     for piece in pieces {
@@ -560,7 +584,40 @@ pub fn spans(pieces: &[&Piece], reading: Reading) -> (Spans, usize) {
         *buffer = held;
         spans.extend(taken.into_iter().map(|wire| (piece.ms, piece.way, wire)));
     }
-    (spans, buffers.values().filter(|b| !b.is_empty()).count())
+    buffers.retain(|_, buffer| !buffer.is_empty());
+    (spans, buffers)
+}
+
+/// The stretches of a DLCI that are open at the end of a file with a good header, in rising order.
+pub fn open(file: &[u8], dlci: u64) -> Vec<answer::Stretch> {
+    let pieces = pieces(&pdus(be(&file[12..16]), &records(&file[16..]).0, RIGHT), RIGHT);
+    let own: Vec<&Piece> = pieces.iter().filter(|p| u64::from(p.dlci) == dlci).collect();
+    let stretch = |(((handle, cid, sessions, links), way), held): (&(Stretch, Way), &Vec<u8>)| answer::Stretch {
+        way: 2 * u32::from(*handle) + u32::from(*way),
+        cid: u32::from(*cid),
+        dlci: dlci as u32,
+        sessions: *sessions,
+        links: *links,
+        held: held.len() as u32,
+    };
+    let mut open: Vec<answer::Stretch> = buffers(&own, RIGHT).1.iter().map(stretch).collect();
+    open.sort();
+    open
+}
+
+/// Puts stretches to the first places of a list.
+pub fn fill(places: &mut [answer::Stretch], stretches: &[answer::Stretch]) {
+    for (place, stretch) in places.iter_mut().zip(stretches) {
+        *place = *stretch;
+    }
+}
+
+/// Import where a list of stretches of so many places is lent.
+pub fn import_in(file: &[u8], work: usize, places: usize, channel: u32, tolerant: bool) -> Answer {
+    if file.len() <= LONGEST_FILE && places < file.len() / 24 {
+        return Answer::refused(2, &[]);
+    }
+    import(file, work, channel, tolerant, RIGHT)
 }
 
 /// The DLCIs of pieces in the order of their first.

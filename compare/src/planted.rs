@@ -1,7 +1,8 @@
 //! Wrong answers planted on purpose: each must be reported, or the comparison could
 //! not fail.
 
-use crate::answer::{Answer, Subject};
+use crate::answer::{Answer, Stretch, Subject};
+use crate::expected::LONGEST_FILE;
 use crate::model::{self, Reading, RIGHT};
 use crate::{Group, Options};
 
@@ -19,6 +20,10 @@ struct Planted {
     store: fn(&Answer, &mut [u8], &mut [u64]) -> u32,
     /// Changes work, whatever the answer.
     spoils: bool,
+    /// Import with so many places for stretches.
+    import_in: fn(&Planted, &[u8], usize, usize, u32, bool) -> Answer,
+    /// Fills the places with the open stretches, after this number.
+    fill: fn(u32, &mut [Stretch], &[Stretch]),
 }
 
 fn read(file: &[u8], work: usize, channel: u32, tolerant: bool, reading: Reading) -> Answer {
@@ -35,7 +40,24 @@ const NONE: Planted = Planted {
     import: |file, work, channel, tolerant| read(file, work, channel, tolerant, RIGHT),
     store: model::store,
     spoils: false,
+    import_in: |planted, file, work, places, channel, tolerant| match places_want(file.len()) {
+        wanted if places < wanted => Answer::refused(2, &[]),
+        _ => (planted.import)(file, work, channel, tolerant),
+    },
+    fill: |number, places, open| {
+        if number == 0 {
+            model::fill(places, open);
+        }
+    },
 };
+
+/// How many places a file wants; one that is too long is refused before.
+fn places_want(length: usize) -> usize {
+    if length > LONGEST_FILE {
+        return 0;
+    }
+    length / 24
+}
 
 impl Subject for Planted {
     fn unpack(&self, wire: &[u8], out: &mut [u8], values: &mut [u64]) -> u32 {
@@ -87,6 +109,23 @@ impl Subject for Planted {
             work[work.len() / 2] ^= 0xFF;
         }
         (self.store)(&(self.import)(file, work.len(), channel, tolerant != 0), out, values)
+    }
+
+    fn import_stretches(
+        &self,
+        file: &[u8],
+        work: &mut [u8],
+        stretches: &mut [Stretch],
+        out: &mut [u8],
+        channel: u32,
+        tolerant: u32,
+        values: &mut [u64],
+    ) -> u32 {
+        let answer = (self.import_in)(self, file, work.len(), stretches.len(), channel, tolerant != 0);
+        let number = (self.store)(&answer, out, values);
+        let open = if number == 0 { model::open(file, answer.values[0]) } else { Vec::new() };
+        (self.fill)(number, stretches, &open);
+        number
     }
 }
 
@@ -505,6 +544,72 @@ fn faults() -> Vec<(&'static str, &'static str, Planted)> {
             Planted { import: |f, w, c, t| read(f, w + 1, c, t, RIGHT), ..NONE },
         ),
         ("import", "work is touched by a refusal", Planted { spoils: true, ..NONE }),
+        (
+            "import",
+            "places for stretches are not counted",
+            Planted { import_in: |p, f, w, _, c, t| (p.import)(f, w, c, t), ..NONE },
+        ),
+        (
+            "import",
+            "one place less is enough",
+            Planted { import_in: |p, f, w, places, c, t| (NONE.import_in)(p, f, w, places + 1, c, t), ..NONE },
+        ),
+        (
+            "import",
+            "one place more is wanted",
+            Planted {
+                import_in: |p, f, w, places, c, t| match places.checked_sub(1) {
+                    None => Answer::refused(2, &[]),
+                    Some(fewer) => (NONE.import_in)(p, f, w, fewer, c, t),
+                },
+                ..NONE
+            },
+        ),
+        (
+            "import",
+            "places are counted before the file's length",
+            Planted {
+                import_in: |p, f, w, places, c, t| match places < f.len() / 24 {
+                    true => Answer::refused(2, &[]),
+                    false => (p.import)(f, w, c, t),
+                },
+                ..NONE
+            },
+        ),
+        (
+            "tolerant",
+            "the call with stretches is strict",
+            Planted { import_in: |p, f, w, places, c, _| (NONE.import_in)(p, f, w, places, c, false), ..NONE },
+        ),
+        (
+            "import",
+            "a stretch is touched by a refusal",
+            Planted {
+                fill: |number, places, open| match places.last_mut() {
+                    Some(place) if number == 2 => place.held = 0,
+                    _ => (NONE.fill)(number, places, open),
+                },
+                ..NONE
+            },
+        ),
+        (
+            "import",
+            "an open stretch is not listed",
+            Planted { fill: |_, places, open| model::fill(places, open.get(1..).unwrap_or(&[])), ..NONE },
+        ),
+        (
+            "import",
+            "a stretch holds a byte less",
+            Planted {
+                fill: |number, places, open| {
+                    (NONE.fill)(number, places, open);
+                    if let (Some(place), false) = (places.first_mut(), open.is_empty()) {
+                        place.held -= 1;
+                    }
+                },
+                ..NONE
+            },
+        ),
         (
             "tolerant",
             "the tail offset is the file's length",

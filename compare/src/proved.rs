@@ -6,7 +6,7 @@
 
 #![allow(clippy::too_many_arguments)]
 
-use crate::answer::Subject;
+use crate::answer::{Stretch, Subject};
 
 pub struct Proved;
 
@@ -19,6 +19,7 @@ pub fn has(group: &str) -> bool {
         "order" => cfg!(feature = "order"),
         "import" => cfg!(feature = "import"),
         "tolerant" => cfg!(feature = "tolerant"),
+        "stretches" => cfg!(feature = "stretches"),
         _ => false,
     }
 }
@@ -58,6 +59,9 @@ call!("import", lumbryth_import_strict(
 call!("tolerant", lumbryth_import(
     file: *const u8, file_len: usize, work: *mut u8, work_len: usize, out: *mut u8, out_len: usize, channel: u32,
     tolerant: u32, values: *mut u64, values_len: usize));
+call!("stretches", lumbryth_import_stretches(
+    file: *const u8, file_len: usize, work: *mut u8, work_len: usize, stretches: *mut Stretch, stretches_len: usize,
+    out: *mut u8, out_len: usize, channel: u32, tolerant: u32, values: *mut u64, values_len: usize));
 
 // Safety, of each call: the pointers and lengths are those of slices that live
 // through it, and the slices written do not overlap any other.
@@ -178,5 +182,37 @@ impl Subject for Proved {
                 values.len(),
             )
         }
+    }
+
+    fn import_stretches(
+        &self,
+        file: &[u8],
+        work: &mut [u8],
+        stretches: &mut [Stretch],
+        out: &mut [u8],
+        channel: u32,
+        tolerant: u32,
+        values: &mut [u64],
+    ) -> u32 {
+        unsafe {
+            lumbryth_import_stretches(
+                file.as_ptr(),
+                file.len(),
+                work.as_mut_ptr(),
+                work.len(),
+                stretches.as_mut_ptr(),
+                stretches.len(),
+                out.as_mut_ptr(),
+                out.len(),
+                channel,
+                tolerant,
+                values.as_mut_ptr(),
+                values.len(),
+            )
+        }
+    }
+
+    fn has_stretches(&self) -> bool {
+        has("stretches")
     }
 }

@@ -36,6 +36,12 @@ pub enum Tail {
     Tolerant,
 }
 
+// An answer, and how many pieces stand in the table.
+pub struct Found {
+    pub answer: Imported,
+    pub pieces: usize,
+}
+
 // The pieces of a file whose packets' table stands at the start of work.
 fn gather(file: &[u8], work: &mut [u8], count: usize) -> usize
     requires { ⌜ Read (now file) (now work) count ⌝ }
@@ -65,13 +71,16 @@ fn import_packets(
     out: &mut [u8],
     channel: Channel,
     p: Packets,
-) -> Imported
+) -> Found
     requires { ⌜ PiecesPre (now file) (now work) p ⌝ }
-    ensures { λ r. ⌜ PiecesMeet (now (file .entry)) channel (now (out .entry)) r (now (out .exit)) ⌝ }
+    ensures { λ r. ⌜ PiecesMeet (now (file .entry)) channel (now (out .entry)) (r .answer) (now (out .exit)) ⌝ }
 {
     let n = gather(file, work, p.count);
     let l = list_spans(file, work, n, channel, out);
-    answer_of(l, p.tail)
+    Found {
+        answer: answer_of(l, p.tail),
+        pieces: n,
+    }
 }
 
 // Whether a record passes the end and that is refused.
@@ -91,35 +100,64 @@ fn import_records(
     out: &mut [u8],
     channel: Channel,
     tail: Tail,
-) -> Imported
+) -> Found
     requires { ⌜ ReadPre (now file) (now work) ⌝ }
-    ensures { λ r. ⌜ ReadMeets (now (file .entry)) channel tail (now (out .entry)) r (now (out .exit)) ⌝ }
+    ensures { λ r. ⌜ ReadMeets (now (file .entry)) channel tail (now (out .entry)) (r .answer) (now (out .exit)) ⌝ }
 {
     let p = read_packets(file, work);
     let at = p.tail;
     if is_truncated(tail, at, file.len()) {
-        return Imported::Truncated(at);
+        return Found {
+            answer: Imported::Truncated(at),
+            pieces: 0,
+        };
     }
     import_packets(file, work, out, channel, p)
 }
 
 // Imports a file of a size that is taken, with work enough.
-fn import_sized(
+fn import_sized(file: &[u8], work: &mut [u8], out: &mut [u8], channel: Channel, tail: Tail) -> Found
+    requires { ⌜ Sized (now file) (now work) ⌝ }
+    ensures { λ r. ⌜ HeadMeets (now (file .entry)) channel tail (now (out .entry)) (r .answer) (now (out .exit)) ⌝ }
+{
+    let h = read_header(file);
+    match h {
+        Header::NotBtsnoop => Found {
+            answer: Imported::NotBtsnoop,
+            pieces: 0,
+        },
+        Header::Other(n) => Found {
+            answer: Imported::Datalink(n),
+            pieces: 0,
+        },
+        Header::Datalink(_) => import_records(file, work, out, channel, tail),
+    }
+}
+
+// Imports a trace, and says how many pieces stand in work's table.
+pub fn import_counted(
     file: &[u8],
     work: &mut [u8],
     out: &mut [u8],
     channel: Channel,
     tail: Tail,
-) -> Imported
-    requires { ⌜ Sized (now file) (now work) ⌝ }
-    ensures { λ r. ⌜ HeadMeets (now (file .entry)) channel tail (now (out .entry)) r (now (out .exit)) ⌝ }
+) -> Found
+    ensures { λ r. ⌜ Imports (now (file .entry)) (now (work .entry)) channel tail (now (out .entry)) (r .answer) (now (work .exit)) (now (out .exit)) ⌝ }
 {
-    let h = read_header(file);
-    match h {
-        Header::NotBtsnoop => Imported::NotBtsnoop,
-        Header::Other(n) => Imported::Datalink(n),
-        Header::Datalink(_) => import_records(file, work, out, channel, tail),
+    let n = file.len();
+    if 1048576 < n {
+        return Found {
+            answer: Imported::FileLong,
+            pieces: 0,
+        };
     }
+    if work.len() < 8 * n {
+        return Found {
+            answer: Imported::WorkShort,
+            pieces: 0,
+        };
+    }
+    import_sized(file, work, out, channel, tail)
 }
 
 // Imports a trace: the spans of the first DLCI, on the channel if one is given, that has a span which unpacks.
@@ -132,12 +170,6 @@ pub fn import(
 ) -> Imported
     ensures { λ r. ⌜ Imports (now (file .entry)) (now (work .entry)) channel tail (now (out .entry)) r (now (work .exit)) (now (out .exit)) ⌝ }
 {
-    let n = file.len();
-    if 1048576 < n {
-        return Imported::FileLong;
-    }
-    if work.len() < 8 * n {
-        return Imported::WorkShort;
-    }
-    import_sized(file, work, out, channel, tail)
+    let f = import_counted(file, work, out, channel, tail);
+    f.answer
 }

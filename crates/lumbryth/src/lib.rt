@@ -19,6 +19,7 @@ ghost use Rattle.streams.specs.Streams.{channelOf};
 ghost use Rattle.lumbryth.specs.Calls.{numberOf, valuesOf, stored, Calls, Shows, Tells};
 ghost use Rattle.lumbryth.specs.Imports.{bit, wayOf, channelNumber, ruleNumber, ImportCalls};
 ghost use Rattle.lumbryth.specs.RecordCalls.{RecordsCalls};
+ghost use Rattle.lumbryth.specs.Stretches.{ToldIn, StretchCalls};
 
 // An answer's number, and its values: the first count of a, b and c.
 struct Shown {
@@ -362,4 +363,52 @@ pub extern "C" fn lumbryth_records(file: &[u8], starts: &mut [u64], values: &mut
 {
     let l = btsnoop::list_records(file, starts);
     tell_records(l, values)
+}
+
+// An answer's number, and how many stretches stand at the start of work.
+struct Told {
+    number: u32,
+    listed: usize,
+}
+
+// Imports a trace where a list of stretches of so many places is lent, and tells the answer.
+fn import_told(
+    file: &[u8],
+    work: &mut [u8],
+    out: &mut [u8],
+    channel: u32,
+    tolerant: u32,
+    values: &mut [u64],
+    places: usize,
+) -> Told
+    ensures { λ r. ⌜ ToldIn (now (file .entry)) (now (work .entry)) places (now (out .entry)) channel tolerant (now (values .entry)) (r .number) (r .listed) (now (work .exit)) (now (out .exit)) (now (values .exit)) ⌝ }
+{
+    let which = channel_of(channel);
+    let tail = tail_of(tolerant);
+    let p = stretches::import_places(file, work, out, which, tail, places);
+    let answer = p.answer;
+    Told {
+        number: tell_import(answer, values),
+        listed: p.listed,
+    }
+}
+
+// Imports a trace, and fills the first places of the list lent with the stretches that are open at the end. It wants as many
+// places as the file length divided by 24, rounded down, else 2. Values: as for lumbryth_import.
+#[no_mangle]
+pub extern "C" fn lumbryth_import_stretches(
+    file: &[u8],
+    work: &mut [u8],
+    stretches: &mut [stretches::Stretch],
+    out: &mut [u8],
+    channel: u32,
+    tolerant: u32,
+    values: &mut [u64],
+) -> u32
+    ensures { λ r. ⌜ StretchCalls (now (file .entry)) (now (work .entry)) (now (stretches .entry)) (now (out .entry)) channel tolerant (now (values .entry)) r (now (work .exit)) (now (stretches .exit)) (now (out .exit)) (now (values .exit)) ⌝ }
+{
+    let places = stretches.len();
+    let t = import_told(file, work, out, channel, tolerant, values, places);
+    stretches::fill(work, stretches, t.listed);
+    t.number
 }

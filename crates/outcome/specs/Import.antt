@@ -1,11 +1,12 @@
 -- Import: the DLCI chosen, its spans, how many buffers are unfinished, and the tail offset; or a refusal.
 use Prim.Native.Nat.{ℕ, _*_, _/_}
-use mathlib.Core.Path.{_≡_}
+use mathlib.Core.Path.{_≡_, refl}
 use mathlib.Core.Bool.{Bool, true, false, cond, _&&_}
 use mathlib.Core.List.{List, [], _∷_, map}
 use mathlib.Core.Option.{Option, none, some}
 use lib.ListN.{length}
 use lib.Dec.{leb, ltb, eqb}
+use Rattle.laws.specs.Choice.{splitB}
 use Rattle.laws.specs.Answers.{Answer, Outcome, gives, refuses, Meets}
 use Rattle.items.specs.Items.{Span, spanList}
 use Rattle.mdr.specs.Frame.{unpacksOf}
@@ -86,3 +87,19 @@ imported f work channel tail =
     cond (fits f)
     (cond (workSuffices f work) (given (outcome f channel tail)) (refuses 2 []))
     (refuses 1 [])
+
+-- 2 too: fewer places lent for stretches than the file length divided by 24
+unfoldable pub placesSuffice : List ℕ → ℕ → Bool
+placesSuffice f places = leb (length f / 24) places
+
+-- the same with a lent list of stretches, of so many places
+unfoldable pub importedIn : List ℕ → ℕ → ℕ → Option ℕ → Tail → Outcome
+importedIn f work places channel tail =
+    cond (fits f)
+    (cond (placesSuffice f places) (imported f work channel tail) (refuses 2 []))
+    (refuses 1 [])
+
+-- with enough places it is the same on every input
+pub same-in : (f : List ℕ) (work places : ℕ) (channel : Option ℕ) (tail : Tail) → placesSuffice f places ≡ true → importedIn f work places channel tail ≡ imported f work channel tail
+unfolding importedIn imported
+same-in f work places channel tail h = splitB (fits f) (λ e. rw (e, h)) (λ e. rw e)

@@ -63,7 +63,7 @@ fn mark(tried: &mut [u8], dlci: u32)
 }
 
 // Where the tables lie in work, for a file of 4 * q bytes or a little more.
-fn plan(q: usize, n: usize, dlci: u32) -> Plan
+pub fn plan(q: usize, n: usize, dlci: u32) -> Plan
     requires { ⌜ (q ≤ 1048576) × (n ≤ 1048576) ⌝ }
     ensures { λ r. ⌜ r ≡ planOf q n dlci ⌝ }
 {

@@ -1,10 +1,10 @@
 use Rattle.capture.specs.Calls.{import-long, import-short, import-size, import-meets}
 use native.Mathlib.Omega.{arith}
 use borrow.Author.Needs.{needs}
-use Rattle.capture.proofs.import.Statement.{statement}
-use Rattle.capture.proofs.import.Tie as tie
-use Rattle.capture.proofs.import.Reads as reads
-use Rattle.capture.proofs.import.Lts as lts
+use Rattle.capture.proofs.import_counted.Statement.{statement}
+use Rattle.capture.proofs.import_counted.Tie as tie
+use Rattle.capture.proofs.import_counted.Reads as reads
+use Rattle.capture.proofs.import_counted.Lts as lts
 use Rattle.capture.proofs.import_sized.Reads as import-sized-reads
 
 -- src/lib.rt:113:9
@@ -35,7 +35,7 @@ same-length-2 c = search needs
 returns-3 : tie.Need-returns-3
 returns-3 c = search import-meets
 
-pub import-spec : {M : Type 1} → statement M
-import-spec =
+pub import-counted-spec : {M : Type 1} → statement M
+import-counted-spec =
     tie.close
     (tie.spec returns mul-if2 returns-2 import-sized-requires same-length same-length-2 returns-3)
