@@ -6,7 +6,7 @@ use Rattle.streams.proofs.list_spans.Tie as tie
 use Rattle.streams.proofs.list_spans.Reads as reads
 use Rattle.streams.proofs.list_spans.Lts as lts
 use Rattle.split.proofs.link_pieces.Reads as link-pieces-reads
-use Rattle.streams.proofs.buckets.Reads as buckets-reads
+use Rattle.table.proofs.buckets.Reads as buckets-reads
 use Rattle.streams.proofs.list_linked.Reads as list-linked-reads
 use Rattle.streams.proofs.plan.Reads as plan-reads
 
