@@ -10,18 +10,20 @@ use borrow.Author.Tests.{eq-eqb, ne-eqb}
 use Rattle.laws.specs.Choice.{split≡}
 use Rattle.laws.specs.Lists.{All}
 use Rattle.laws.specs.Keys.{eqK}
-use Rattle.words.specs.Front.{Front, front-refl, front-then}
+use Rattle.words.specs.Front.{Front, front-refl, front-then, front-less}
 use Rattle.table.specs.Table.{lookup, sumOf}
+use Rattle.table.specs.Chain.{Cleared, chained-none, headed-none}
+use Rattle.table.specs.Index.{bucketAt}
 use Rattle.btsnoop.specs.Packets.{Packet}
 use Rattle.btsnoop.specs.PacketTable.{packetAt, packetsFrom, dataOf, Tabled}
-use Rattle.btsnoop.specs.PacketFrames.{packets-next, packets-none, data-mono, tabled-less, two-ways, packet-front, tabled-front}
+use Rattle.btsnoop.specs.PacketFrames.{packets-next, packets-none, data-mono, tabled-less, two-ways, packet-front, packets-front, tabled-front}
 use Rattle.l2cap.specs.Pdus.{Pdu, packetKey, reassembly, pdus}
 use Rattle.l2cap.specs.PduTable.{pdusFrom, paysOf, Reassembled}
 use Rattle.l2cap.specs.PduFrames.{inside-top}
 use Rattle.l2cap.specs.Rekeyed.{runBy, rekey, run-by}
-use Rattle.l2cap.specs.Steps.{numberOf, asOpen, openAt, heldOf, mapOf, Ready, Step, Stepped}
+use Rattle.l2cap.specs.Steps.{numberOf, bucketsOf, indexOf, asOpen, openAt, heldOf, mapOf, Ready, Step, Stepped, Run}
 use Rattle.l2cap.specs.declared.Tables.{Tables}
-use Rattle.l2cap.proofs.Opens.{never}
+use Rattle.l2cap.proofs.Opens.{never, buckets-few}
 
 -- ---- link and direction as one number
 
@@ -53,21 +55,22 @@ pub record Running (f w₀ : List ℕ) (q count : ℕ) (w : List ℕ) (t : Table
   pub front : Front (4 * q) w w₀
   pub same : pdusFrom f w (2 * q) 0 (t .made) ++ runNumbered (mapOf f w (3 * q) (t .live) i) (packetsFrom f w₀ i (count - i)) ≡ pdus (packetsFrom f w₀ 0 count)
 
-module _ (f w₀ : List ℕ) (count : ℕ) (pre : Tabled f w₀ count) (q : ℕ) where
-  pub run-start : q ≡ length f / 4 → Running f w₀ q count w₀ (record { live = 0; made = 0; top = 4 * q }) 0
+module _ (f w₀ : List ℕ) (q count : ℕ) (pre : Run f w₀ q count) where
+  pub run-start : Running f w₀ q count w₀ (record { live = 0; made = 0; top = 4 * q }) 0
   unfolding pdusFrom paysOf sumOf dataOf mapOf openAt lookup asOpen heldOf
-  run-start e =
+  run-start =
       let z : count - 0 ≡ count = omega arith in
       record {
         within = omega arith;
         ready = record {
-          quarter = e;
+          quarter = pre .quarter;
           live = omega arith;
           made = omega arith;
           bump = omega arith;
           ends = omega arith;
           few = omega arith;
           sound = record { sound = λ k a g x. never x };
+          indexed = pre .indexed;
           placed = λ j h. absurd (omega arith);
         };
         size = refl;
@@ -77,10 +80,10 @@ module _ (f w₀ : List ℕ) (count : ℕ) (pre : Tabled f w₀ count) (q : ℕ)
 
   module _ (w : List ℕ) (t : Tables) (i : ℕ) (v : Running f w₀ q count w t i) where
     low : 24 * count ≤ 4 * q
-    low = omega (arith, pre .total, v .ready .quarter)
+    low = omega (arith, pre .tabled .total, v .ready .quarter)
 
     pub run-step : i < count → Step f w q t i
-    run-step h = record { ready = v .ready; tabled = tabled-less f w (i + 1) count (omega arith) (tabled-front (4 * q) f w w₀ count low (v .front) (v .size) pre) }
+    run-step h = record { ready = v .ready; tabled = tabled-less f w (i + 1) count (omega arith) (tabled-front (4 * q) f w w₀ count low (v .front) (v .size) (pre .tabled)) }
 
     pub run-turn : i < count → (u : List ℕ) (r : Tables) → Stepped f w q t i u r → Running f w₀ q count u r (i + 1)
     unfolding runBy
@@ -97,7 +100,7 @@ module _ (f w₀ : List ℕ) (count : ℕ) (pre : Tabled f w₀ count) (q : ℕ)
     pub run-end : count ≤ i → Reassembled f w (t .made) (pdus (packetsFrom f w₀ 0 count))
     unfolding runBy
     run-end h =
-        let tb : Tabled f w count = tabled-front (4 * q) f w w₀ count low (v .front) (v .size) pre in
+        let tb : Tabled f w count = tabled-front (4 * q) f w w₀ count low (v .front) (v .size) (pre .tabled) in
         let dm : dataOf w i ≤ dataOf w count = data-mono w i count (v .within) in
         record {
           list = rw (← v .ready .quarter) (sym (append-nil (pdusFrom f w (2 * q) 0 (t .made))) ∙ (rw (packets-none f w₀ i count h) at (v .same)));
@@ -106,3 +109,26 @@ module _ (f w₀ : List ℕ) (count : ℕ) (pre : Tabled f w₀ count) (q : ℕ)
           small = tb .small;
           room = tb .room;
         }
+
+-- ---- before the first packet
+
+module _ (f w : List ℕ) (count : ℕ) (pre : Tabled f w count) (q : ℕ) (e : q ≡ length f / 4) (m : ℕ) (me : m ≡ bucketsOf q) where
+  pub clear-room : 4 * (6 * q + m) ≤ length w
+  clear-room = omega (arith, buckets-few q (omega (arith, pre .total)), pre .room)
+
+  module _ (v : List ℕ) (c : Cleared w (6 * q) m v) where
+    low₀ : 24 * count ≤ 4 * (6 * q)
+    low₀ = omega (arith, pre .total)
+
+    pub clear-run : Run f v q count
+    clear-run = record {
+      tabled = tabled-front (4 * (6 * q)) f v w count low₀ (c .front) (c .size) pre;
+      quarter = e;
+      indexed = record {
+        chained = chained-none (bucketAt v (indexOf q)) v (5 * q);
+        headed = rw me at (headed-none (bucketAt v (indexOf q)) w (6 * q) m v c);
+      };
+    }
+
+    pub clear-end : (u : List ℕ) (n : ℕ) → Reassembled f u n (pdus (packetsFrom f v 0 count)) → Reassembled f u n (pdus (packetsFrom f w 0 count))
+    clear-end u n r = rw (packets-front (4 * (6 * q)) f v w 0 count (omega (arith, low₀)) (c .front)) at r

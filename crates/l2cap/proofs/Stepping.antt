@@ -13,19 +13,20 @@ use Rattle.laws.specs.Choice.{split≡}
 use Rattle.laws.specs.Numbers.{le16}
 use Rattle.words.specs.Words.{word}
 use Rattle.words.specs.Front.{Front, front-then, front-word, front-less, front-refl}
-use Rattle.table.specs.Table.{some as row, lookup, upd, second, sumOf, Stored, Agree, lookup-agree, sum-agree, second-le}
+use Rattle.table.specs.Table.{some as row, lookup, upd, second, sumOf, Stored, Agree, lookup-agree, long-agree, sum-agree, second-le}
+use Rattle.table.specs.Index.{Indexed, Stands, Entered, stands-less, indexed-agree}
 use Rattle.btsnoop.specs.PacketTable.{packetAt, dataOf}
 use Rattle.btsnoop.specs.PacketFrames.{data-next, data-front}
 use Rattle.l2cap.specs.Pdus.{joined, isComplete, stillOpen, completed}
 use Rattle.l2cap.specs.PduTable.{pdusFrom, paysOf}
 use Rattle.l2cap.specs.PduFrames.{Placed, placed-agree, pdus-agree, pays-agree}
 use Rattle.l2cap.specs.Rekeyed.{putBy}
-use Rattle.l2cap.specs.Steps.{since, Walk, Need, asOpen, openAt, longer, grown, nextAt, Arrive, Finish, Finished, heldOf, mapOf, Sound, Step, after, Stepped}
+use Rattle.l2cap.specs.Steps.{since, Walk, Need, bucketsOf, indexOf, SetOpen, asOpen, openAt, longer, grown, nextAt, Arrive, Finish, Finished, heldOf, mapOf, Sound, Step, after, Stepped}
 use Rattle.l2cap.specs.declared.Open.{Open}
 use Rattle.l2cap.specs.declared.Open.the-variants.{Closed, From}
 use Rattle.l2cap.specs.declared.Tables.{Tables}
 use Rattle.l2cap.proofs.Walking.{number-at, piece-own, piece-other, since-one, since-snoc, since-front}
-use Rattle.l2cap.proofs.Opens.{never, as-zero, as-pos, arrive-got, arrive-none}
+use Rattle.l2cap.proofs.Opens.{buckets-some, buckets-few, never, as-zero, as-pos, arrive-got, arrive-none}
 
 -- ---- what is open once a packet is read
 
@@ -154,10 +155,23 @@ record Storing (f w : List ℕ) (q : ℕ) (t : Tables) (i : ℕ) (v : List ℕ) 
   held : heldOf f w (word w (6 * i)) (i + 1) o ≡ stillOpen (after f w (3 * q) (t .live) i)
 
 module _ (f w : List ℕ) (q : ℕ) (t : Tables) (i : ℕ) (p : Step f w q t i) where
-  pub step-arrive : Arrive w (3 * q) (t .live) i
+  small : q ≤ 1048576
+  small = omega (arith, p .tabled .small, p .ready .quarter)
+
+  -- one row more has room, and so has its index
+  stands : Stands w (indexOf q) (t .live + 1)
+  stands = record {
+    rows = omega (arith, p .tabled .total, p .ready .live, p .ready .quarter);
+    chain = omega (arith, p .tabled .total, p .ready .live, p .ready .quarter);
+    room = omega (arith, buckets-few q (omega (arith, p .tabled .total, p .ready .quarter)), p .tabled .room, p .ready .quarter);
+    some = buckets-some q;
+    few = omega (arith, p .tabled .total, p .tabled .small, p .ready .live);
+  }
+
+  pub step-arrive : Arrive w q (t .live) i
   step-arrive = record {
     low = omega (arith, p .tabled .total, p .tabled .room);
-    room = omega (arith, p .tabled .total, p .tabled .room, p .ready .live, p .ready .quarter);
+    look = record { seek = record { stands = stands-less w (indexOf q) (t .live + 1) (t .live) (omega arith) stands; indexed = p .ready .indexed }; small = small };
     sums = omega (arith, p .tabled .total, p .tabled .small, p .ready .few, data-next w i);
   }
 
@@ -166,10 +180,10 @@ module _ (f w : List ℕ) (q : ℕ) (t : Tables) (i : ℕ) (p : Step f w q t i) 
 
   step-row :
       (v : List ℕ) (made top : ℕ) (o : Open) (x y : ℕ) → Storing f w q t i v made top o y → asOpen (row x y) ≡ o →
-      (key k : ℕ) → key ≡ word w (6 * i) → k ≡ key → (u : List ℕ) (c : ℕ) → Stored v (3 * q) (t .live) k x y u c →
+      (key : ℕ) → key ≡ word w (6 * i) → (u : List ℕ) (c : ℕ) → Entered v (indexOf q) (t .live) key x y u c →
       Stepped f w q t i u (record { live = c; made = made; top = top })
-  step-row v made top o x y b oe key k ke kk u c so₀ =
-      let so : Stored v (3 * q) (t .live) (word w (6 * i)) x y u c = (rw (kk ∙ ke) at so₀) in
+  step-row v made top o x y b oe key ke u c en =
+      let so : Stored v (3 * q) (t .live) (word w (6 * i)) x y u c = (rw ke at (en .stored)) in
       let lk : (j : ℕ) → lookup v (3 * q) (t .live) j ≡ lookup w (3 * q) (t .live) j = (λ j. lookup-agree v w (3 * q) (t .live) j (b .rows)) in
       let says : (j : ℕ) → openAt u (3 * q) c j ≡ cond (eqb (word w (6 * i)) j) o (openAt w (3 * q) (t .live) j) =
       (λ j. stored-open v w u (3 * q) (t .live) (word w (6 * i)) x y c lk so j ∙ rw oe) in
@@ -190,6 +204,7 @@ module _ (f w : List ℕ) (q : ℕ) (t : Tables) (i : ℕ) (p : Step f w q t i) 
           ends = rw py (b .ends);
           few = rw (py, dt) (omega (arith, sum, b .few));
           sound = next-sound f u w (3 * q) (t .live) c i (4 * q) o (p .ready .sound) frn low says (b .counted);
+          indexed = en .indexed;
           placed = placed-agree f u v (2 * q) made top top (omega arith) ag (b .placed);
         };
         front = frn;
@@ -217,6 +232,7 @@ module _ (f w : List ℕ) (q : ℕ) (t : Tables) (i : ℕ) (p : Step f w q t i) 
           ends = p .ready .ends;
           few = omega (arith, p .ready .few, data-next w i);
           sound = next-sound f w w (3 * q) (t .live) (t .live) i (4 * q) Closed (p .ready .sound) (front-refl (4 * q) w) low says vs;
+          indexed = p .ready .indexed;
           placed = p .ready .placed;
         };
         front = front-refl (4 * q) w;
@@ -259,13 +275,30 @@ module _ (f w : List ℕ) (q : ℕ) (t : Tables) (i : ℕ) (p : Step f w q t i) 
       placed = p .ready .placed;
     }
 
+    pub hold-open : SetOpen w q (t .live)
+    hold-open = record { enter = record { stands = stands; indexed = p .ready .indexed }; small = small }
+
+    -- the PDU's end is written below the open rows
+    pub full-open : (need : ℕ) (v : List ℕ) (top : ℕ) → Finished f w (2 * q) (t .made) (t .top) i first need v top → SetOpen v q (t .live)
+    full-open need v top fin =
+        let up : (j : ℕ) → 3 * q ≤ j → word v j ≡ word w j = (λ j h. fin .above j (omega (arith, p .ready .made, p .tabled .total, p .ready .quarter))) in
+        record {
+          enter = record {
+            stands = record { rows = stands .rows; chain = stands .chain; room = rw (fin .size) (stands .room); some = stands .some; few = stands .few };
+            indexed = indexed-agree v w (indexOf q) (t .live) (omega arith)
+                (λ j h. long-agree v w (3 * q + 4 * j) (up (3 * q + 4 * j) (omega arith)) (up (3 * q + 4 * j + 1) (omega arith)))
+                (λ j lo hi. up j (omega arith)) (omega (arith, stands .chain)) (p .ready .indexed);
+          };
+          small = small;
+        }
+
     -- the PDU is not complete
     pub step-hold :
         (key need : ℕ) → key ≡ word w (6 * i) → Need (since f w key first (i + 1)) got need → got < need →
-        (k x y : ℕ) → k ≡ key → x ≡ first + 1 → y ≡ got → (u : List ℕ) (c : ℕ) → Stored w (3 * q) (t .live) k x y u c →
+        (x y : ℕ) → x ≡ first + 1 → y ≡ got → (u : List ℕ) (c : ℕ) → Entered w (indexOf q) (t .live) key x y u c →
         Stepped f w q t i u (record { live = c; made = t .made; top = t .top })
     unfolding heldOf stillOpen completed isComplete
-    step-hold key need ke ni lt k x y kk xe ye u c so =
+    step-hold key need ke ni lt x y xe ye u c en =
         let s = step-first in
         let B : List ℕ = since f w (word w (6 * i)) first (i + 1) in
         let cmp : leb (4 + le16 B 0) (length B) ≡ false = lt-leb (4 + le16 B 0) (length B) (let g : got < 4 + le16 B 0 = (rw ke at (ni .short lt)) in omega (arith, s .1)) in
@@ -282,16 +315,16 @@ module _ (f w : List ℕ) (q : ℕ) (t : Tables) (i : ℕ) (p : Step f w q t i) 
           counted = λ a g z. let m : first ≡ a = cc in let n : got ≡ g = cc in rw (← m, ← n) s;
           list = sym (rw (← held-next, cmp) (append-nil (pdusFrom f w (2 * q) 0 (t .made))));
           held = rw (← held-next, cmp);
-        }) va key k ke kk u c so
+        }) va key ke u c en
 
     -- the PDU is complete
     pub step-full :
         (key need : ℕ) → key ≡ word w (6 * i) → Need (since f w key first (i + 1)) got need → need ≤ got →
         (v : List ℕ) (top : ℕ) → Finished f w (2 * q) (t .made) (t .top) i first need v top →
-        (k : ℕ) → k ≡ key → (u : List ℕ) (c : ℕ) → Stored v (3 * q) (t .live) k 0 0 u c →
+        (u : List ℕ) (c : ℕ) → Entered v (indexOf q) (t .live) key 0 0 u c →
         Stepped f w q t i u (record { live = c; made = t .made + 1; top = top })
     unfolding heldOf stillOpen completed isComplete
-    step-full key need ke ni le v top fin k kk u c so =
+    step-full key need ke ni le v top fin u c en =
         let s = step-first in
         let B : List ℕ = since f w (word w (6 * i)) first (i + 1) in
         let nb : need ≡ 4 + le16 B 0 = (rw ke at (ni .enough le)) in
@@ -308,4 +341,4 @@ module _ (f w : List ℕ) (q : ℕ) (t : Tables) (i : ℕ) (p : Step f w q t i) 
           counted = λ a g z. never z;
           list = fin .list ∙ rw (← held-next, cmp);
           held = rw (← held-next, cmp);
-        }) (as-zero 0 0 refl) key k ke kk u c so
+        }) (as-zero 0 0 refl) key ke u c en

@@ -5,11 +5,13 @@ use mathlib.Core.Bool.{cond}
 use mathlib.Core.List.{List, [], _∷_, _++_}
 use mathlib.Core.Option.{Option, none, some}
 use lib.ListN.{length}
-use lib.Dec.{eqb}
+use lib.Dec.{eqb, ltb}
 use Rattle.laws.specs.Numbers.{le16}
 use Rattle.words.specs.Words.{word, putWord}
 use Rattle.words.specs.Front.{Front}
 use Rattle.table.specs.Table.{Slot, none as no-row, some as row, lookup, sumOf}
+use Rattle.table.specs.Index.{Indexed, SeekPre, EnterPre}
+use Rattle.table.specs.declared.Index.{Index}
 use Rattle.btsnoop.specs.Packets.{Packet}
 use Rattle.btsnoop.specs.PacketTable.{packetAt, packetsFrom, dataOf, Tabled}
 use Rattle.l2cap.specs.Pdus.{joined, stillOpen, completed, pduOf}
@@ -62,6 +64,14 @@ pub record Need (B : List ℕ) (got r : ℕ) : Type 0 where
 
 -- ---- what is open
 
+-- how many buckets there are, with q a quarter of the file's length
+unfoldable pub bucketsOf : ℕ → ℕ
+bucketsOf q = cond (ltb q 4096) 1 4096
+
+-- where the open PDUs stand and their index
+abbrev pub indexOf : ℕ → Index
+indexOf q = record { rows = 3 * q; chain = 5 * q; heads = 6 * q; m = bucketsOf q }
+
 -- a row holds the number of the first packet and one more, or 0 if nothing is open, and the bytes so far
 unfoldable pub asOpen : Slot → Open
 asOpen no-row = Closed
@@ -85,10 +95,18 @@ nextAt w b live i = grown (word w (6 * i + 1)) (openAt w b live (word w (6 * i))
 pub record Small (o : Open) (n : ℕ) : Type 0 where
   pub small : (a g : ℕ) → o ≡ From a g → g + n ≤ 67108864
 
-pub record Arrive (w : List ℕ) (b live i : ℕ) : Type 0 where
+pub record Look (w : List ℕ) (q live : ℕ) : Type 0 where
+  pub seek : SeekPre w (indexOf q) live
+  pub small : q ≤ 1048576
+
+pub record SetOpen (w : List ℕ) (q live : ℕ) : Type 0 where
+  pub enter : EnterPre w (indexOf q) live
+  pub small : q ≤ 1048576
+
+pub record Arrive (w : List ℕ) (q live i : ℕ) : Type 0 where
   pub low : 24 * i + 24 ≤ length w
-  pub room : 4 * (b + 4 * live) ≤ length w
-  pub sums : sumOf w b live + word w (6 * i + 3) ≤ 67108864
+  pub look : Look w q live
+  pub sums : sumOf w (3 * q) live + word w (6 * i + 3) ≤ 67108864
 
 -- ---- a PDU's row
 
@@ -150,6 +168,7 @@ pub record Ready (f w : List ℕ) (q : ℕ) (t : Tables) (i : ℕ) : Type 0 wher
   pub ends : t .top ≤ 4 * q + 4 * t .made + paysOf w (2 * q) (t .made)
   pub few : 4 * t .made + paysOf w (2 * q) (t .made) + sumOf w (3 * q) (t .live) ≤ dataOf w i
   pub sound : Sound f w (3 * q) (t .live) i
+  pub indexed : Indexed w (indexOf q) (t .live)
   pub placed : Placed f w (2 * q) (t .made) (t .top)
 
 pub record Step (f w : List ℕ) (q : ℕ) (t : Tables) (i : ℕ) : Type 0 where
@@ -166,3 +185,11 @@ pub record Stepped (f w : List ℕ) (q : ℕ) (t : Tables) (i : ℕ) (u : List �
   pub size : length u ≡ length w
   pub list : pdusFrom f u (2 * q) 0 (r .made) ≡ pdusFrom f w (2 * q) 0 (t .made) ++ completed (after f w (3 * q) (t .live) i) (packetAt f w i)
   pub map : _≡_ {A = ℕ → Option (List ℕ)} (mapOf f u (3 * q) (r .live) (i + 1)) (putBy eqb (mapOf f w (3 * q) (t .live) i) (numberOf (packetAt f w i)) (stillOpen (after f w (3 * q) (t .live) i)))
+
+-- ---- all steps
+
+-- a table of packets, and nothing open
+pub record Run (f w : List ℕ) (q count : ℕ) : Type 0 where
+  pub tabled : Tabled f w count
+  pub quarter : q ≡ length f / 4
+  pub indexed : Indexed w (indexOf q) 0

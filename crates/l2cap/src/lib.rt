@@ -4,14 +4,17 @@ ghost use Prim.Native.Nat.{_+_, _*_, _≤_, _<_, min};
 ghost use lib.ListN.{length, getD, take, drop};
 ghost use Rattle.laws.specs.Numbers.{le16};
 ghost use Rattle.laws.specs.Stores.{Writes};
+ghost use Rattle.table.specs.Index.{Entered};
 ghost use Rattle.btsnoop.specs.PacketTable.{packetAt, packetsFrom, Tabled};
 ghost use Rattle.l2cap.specs.Pdus.{pdus};
 ghost use Rattle.l2cap.specs.PduTable.{pduAt, Reassembled};
 ghost use Rattle.l2cap.specs.PduFrames.{Lent};
-ghost use Rattle.l2cap.specs.Steps.{pieceOf, since, brought, Walk, Paste, Gather, Need, openAt, grown, nextAt, Small, Arrive, putPdu, PutPdu, Finish, Finished, Step, Stepped};
+ghost use Rattle.l2cap.specs.Steps.{pieceOf, since, brought, Walk, Paste, Gather, Need, bucketsOf, indexOf, openAt, grown, nextAt, Small, Look, SetOpen, Arrive, putPdu, PutPdu, Finish, Finished, Step, Stepped, Run};
+use table::Index;
 use table::Row;
-use table::find;
-use table::store;
+use table::clear;
+use table::enter;
+use table::seek;
 use words::copy_to;
 use words::get32;
 use words::get64;
@@ -157,21 +160,54 @@ fn narrow(x: usize) -> u32
     x as u32
 }
 
-// What is open under the key.
-fn look(w: &[u8], base: usize, count: usize, key: u32) -> Open
-    requires { ⌜ 4 * (base + 4 * count) ≤ length (now w) ⌝ }
-    ensures { λ r. ⌜ r ≡ openAt (now (w .entry)) base count key ⌝ }
+// How many buckets there are: one, where work has no room for more.
+fn buckets(q: usize) -> usize
+    ensures { λ r. ⌜ r ≡ bucketsOf q ⌝ }
 {
-    let f = find(w, base, count, wide64(key));
+    if q < 4096 {
+        return 1;
+    }
+    4096
+}
+
+// Where the open PDUs stand and their index, with q a quarter of the file's length.
+fn index_of(q: usize) -> Index
+    requires { ⌜ q ≤ 1048576 ⌝ }
+    ensures { λ r. ⌜ r ≡ indexOf q ⌝ }
+{
+    Index {
+        rows: 3 * q,
+        chain: 5 * q,
+        heads: 6 * q,
+        m: buckets(q),
+    }
+}
+
+// What is open under the key.
+fn look(w: &[u8], q: usize, count: usize, key: u32) -> Open
+    requires { ⌜ Look (now w) q count ⌝ }
+    ensures { λ r. ⌜ r ≡ openAt (now (w .entry)) (3 * q) count key ⌝ }
+{
+    let x = index_of(q);
+    let f = seek(w, x, count, wide64(key));
     let Row::At(i) = f else {
         return Open::Closed;
     };
-    let first = wide32(get32(w, base + 4 * i + 2));
-    let got = wide32(get32(w, base + 4 * i + 3));
+    let first = wide32(get32(w, 3 * q + 4 * i + 2));
+    let got = wide32(get32(w, 3 * q + 4 * i + 3));
     if first == 0 {
         return Open::Closed;
     }
     Open::From(first - 1, got)
+}
+
+// Sets what is open under the key, and returns the count of rows.
+fn set_open(w: &mut [u8], q: usize, count: usize, key: u32, a: u32, b: u32) -> usize
+    requires { ⌜ SetOpen (now w) q count ⌝ }
+    ensures { λ r. ⌜ Entered (now (w .entry)) (indexOf q) count key a b (now (w .exit)) r ⌝ }
+{
+    let x = index_of(q);
+    enter(w, x, count, wide64(key), a, b)
 }
 
 // What a fragment of n bytes in packet i makes of what is open.
@@ -189,14 +225,14 @@ fn fragment(o: Open, start: u32, i: usize, n: usize) -> Open
 }
 
 // What is open under packet i's key once it is read.
-fn arrive(w: &[u8], opens: usize, live: usize, i: usize) -> Open
-    requires { ⌜ Arrive (now w) opens live i ⌝ }
-    ensures { λ r. ⌜ r ≡ nextAt (now (w .entry)) opens live i ⌝ }
+fn arrive(w: &[u8], q: usize, live: usize, i: usize) -> Open
+    requires { ⌜ Arrive (now w) q live i ⌝ }
+    ensures { λ r. ⌜ r ≡ nextAt (now (w .entry)) (3 * q) live i ⌝ }
 {
     let key = get32(w, 6 * i);
     let start = get32(w, 6 * i + 1);
     let n = wide32(get32(w, 6 * i + 3));
-    let o = look(w, opens, live, key);
+    let o = look(w, q, live, key);
     fragment(o, start, i, n)
 }
 
@@ -258,21 +294,21 @@ fn step(file: &[u8], w: &mut [u8], q: usize, t: Tables, i: usize) -> Tables
     let made = t.made;
     let top = t.top;
     let key = get32(w, 6 * i);
-    let next = arrive(w, 3 * q, live, i);
+    let next = arrive(w, q, live, i);
     let Open::From(first, got) = next else {
         return t;
     };
     let need = needed(file, w, first, i + 1, key, got);
     if need <= got {
         let end = finish(file, w, 2 * q, made, top, i, first, need);
-        let rows = store(w, 3 * q, live, wide64(key), 0, 0);
+        let rows = set_open(w, q, live, key, 0, 0);
         return Tables {
             live: rows,
             made: made + 1,
             top: end,
         };
     }
-    let rows = store(w, 3 * q, live, wide64(key), narrow(first + 1), narrow(got));
+    let rows = set_open(w, q, live, key, narrow(first + 1), narrow(got));
     Tables {
         live: rows,
         made: made,
@@ -280,12 +316,11 @@ fn step(file: &[u8], w: &mut [u8], q: usize, t: Tables, i: usize) -> Tables
     }
 }
 
-// The PDUs of the packets whose table stands at the start of work: their rows, and the payloads that had to be joined.
-pub fn reassemble(file: &[u8], w: &mut [u8], count: usize) -> Tables
-    requires { ⌜ Tabled (now file) (now w) count ⌝ }
+// The steps of all packets.
+fn run(file: &[u8], w: &mut [u8], q: usize, count: usize) -> Tables
+    requires { ⌜ Run (now file) (now w) q count ⌝ }
     ensures { λ r. ⌜ Reassembled (now (file .entry)) (now (w .exit)) (r .made) (pdus (packetsFrom (now (file .entry)) (now (w .entry)) 0 count)) ⌝ }
 {
-    let q = file.len() / 4;
     let mut t = Tables {
         live: 0,
         made: 0,
@@ -297,6 +332,17 @@ pub fn reassemble(file: &[u8], w: &mut [u8], count: usize) -> Tables
         i += 1;
     }
     t
+}
+
+// The PDUs of the packets whose table stands at the start of work: their rows, and the payloads that had to be joined.
+pub fn reassemble(file: &[u8], w: &mut [u8], count: usize) -> Tables
+    requires { ⌜ Tabled (now file) (now w) count ⌝ }
+    ensures { λ r. ⌜ Reassembled (now (file .entry)) (now (w .exit)) (r .made) (pdus (packetsFrom (now (file .entry)) (now (w .entry)) 0 count)) ⌝ }
+{
+    let q = file.len() / 4;
+    let m = buckets(q);
+    clear(w, 6 * q, m);
+    run(file, w, q, count)
 }
 
 // The payload of the PDU whose row is at word at: a part of the file, or of work if it was joined.
