@@ -64,6 +64,17 @@ module _ (f w : List ℕ) (b live i : ℕ) (s : Sound f w b live i) where
       (held-open (openAt w b live (word w (6 * i))) (λ a g e. s .sound (word w (6 * i)) a g e .0) (eqb (word w (6 * i + 1)) 1)
       ∙ ap (joined (heldOf f w (word w (6 * i)) i (openAt w b live (word w (6 * i))))) (sym (packet-start f w i)))
 
+  -- it began with a packet of the key
+  pub arrive-own : (a g : ℕ) → nextAt w b live i ≡ From a g → word w (6 * a) ≡ word w (6 * i)
+  unfolding nextAt grown longer
+  arrive-own a g e = go (openAt w b live (word w (6 * i))) (λ x y q. s .own (word w (6 * i)) x y q) (eqb (word w (6 * i + 1)) 1) e where
+    go :
+        (o : Open) → ((x y : ℕ) → o ≡ From x y → word w (6 * x) ≡ word w (6 * i)) → (t : Bool) →
+        cond t (From i (word w (6 * i + 3))) (longer o (word w (6 * i + 3))) ≡ From a g → word w (6 * a) ≡ word w (6 * i)
+    go o h true q = let x : i ≡ a = cc in rw (← x)
+    go Closed h false q = never q
+    go (From x y) h false q = let m : x ≡ a = cc in rw (← m) (h x y refl)
+
   -- and its bytes are counted right
   pub arrive-sound : word w (6 * i + 2) + word w (6 * i + 3) ≤ length f → (a g : ℕ) → nextAt w b live i ≡ From a g → (a ≤ i) × (g ≡ length (since f w (word w (6 * i)) a (i + 1)))
   unfolding nextAt grown longer
@@ -92,7 +103,8 @@ module _
     (f u w : List ℕ) (b live c i n : ℕ) (v : Open)
     (s : Sound f w b live i) (fr : Front n u w) (low : 24 * i + 24 ≤ n)
     (says : (k : ℕ) → openAt u b c k ≡ cond (eqb (word w (6 * i)) k) v (openAt w b live k))
-    (vs : (a g : ℕ) → v ≡ From a g → (a ≤ i) × (g ≡ length (since f w (word w (6 * i)) a (i + 1)))) where
+    (vs : (a g : ℕ) → v ≡ From a g → (a ≤ i) × (g ≡ length (since f w (word w (6 * i)) a (i + 1))))
+    (vo : (a g : ℕ) → v ≡ From a g → word w (6 * a) ≡ word w (6 * i)) where
   since-other : (k a : ℕ) → (word w (6 * i) ≡ k → ⊥) → a ≤ i → since f u k a (i + 1) ≡ since f w k a i
   since-other k a ne h =
       since-front n f u w k a (i + 1) (omega arith) (omega arith) fr ∙ since-snoc f w k a i h ∙ (rw (piece-other f w k i ne, append-nil))
@@ -116,7 +128,17 @@ module _
       (λ e. rw (ne-eqb (word w (6 * i)) k e, ne-eqb k (word w (6 * i)) (λ x. e (sym x))) (held-other k e (openAt w b live k) (λ a g q. s .sound k a g q .0))))
 
   pub next-sound : Sound f u b c (i + 1)
-  next-sound = record { sound = λ k a g e. go k a g (sym (says k) ∙ e) } where
+  next-sound = record { sound = λ k a g e. go k a g (sym (says k) ∙ e); own = λ k a g e. own k a g (sym (says k) ∙ e) } where
+    own : (k a g : ℕ) → cond (eqb (word w (6 * i)) k) v (openAt w b live k) ≡ From a g → word u (6 * a) ≡ k
+    own k a g e =
+        split≡ (word w (6 * i)) k
+        (λ z.
+        let q : v ≡ From a g = (rw (eq-eqb (word w (6 * i)) k z) at e) in
+        front-word n u w (6 * a) (omega (arith, vs a g q .0)) fr ∙ vo a g q ∙ z)
+        (λ z.
+        let q : openAt w b live k ≡ From a g = (rw (ne-eqb (word w (6 * i)) k z) at e) in
+        front-word n u w (6 * a) (omega (arith, s .sound k a g q .0)) fr ∙ s .own k a g q)
+
     go : (k a g : ℕ) → cond (eqb (word w (6 * i)) k) v (openAt w b live k) ≡ From a g → (a ≤ i + 1) × (g ≡ length (since f u k a (i + 1)))
     go k a g e =
         split≡ (word w (6 * i)) k
@@ -151,6 +173,8 @@ record Storing (f w : List ℕ) (q : ℕ) (t : Tables) (i : ℕ) (v : List ℕ) 
   few : 4 * made + paysOf v (2 * q) made + sumOf w (3 * q) (t .live) + y ≤ dataOf w (i + 1) + second (lookup w (3 * q) (t .live) (word w (6 * i)))
   placed : Placed f v (2 * q) made top
   counted : (a g : ℕ) → o ≡ From a g → (a ≤ i) × (g ≡ length (since f w (word w (6 * i)) a (i + 1)))
+  own : (a g : ℕ) → o ≡ From a g → word w (6 * a) ≡ word w (6 * i)
+  beyond : (j : ℕ) → 7 * q ≤ j → word v j ≡ word w j
   list : pdusFrom f v (2 * q) 0 made ≡ pdusFrom f w (2 * q) 0 (t .made) ++ completed (after f w (3 * q) (t .live) i) (packetAt f w i)
   held : heldOf f w (word w (6 * i)) (i + 1) o ≡ stillOpen (after f w (3 * q) (t .live) i)
 
@@ -158,12 +182,15 @@ module _ (f w : List ℕ) (q : ℕ) (t : Tables) (i : ℕ) (p : Step f w q t i) 
   small : q ≤ 1048576
   small = omega (arith, p .tabled .small, p .ready .quarter)
 
+  few : bucketsOf q ≤ q
+  few = buckets-few q (omega (arith, p .tabled .total, p .ready .quarter))
+
   -- one row more has room, and so has its index
   stands : Stands w (indexOf q) (t .live + 1)
   stands = record {
     rows = omega (arith, p .tabled .total, p .ready .live, p .ready .quarter);
     chain = omega (arith, p .tabled .total, p .ready .live, p .ready .quarter);
-    room = omega (arith, buckets-few q (omega (arith, p .tabled .total, p .ready .quarter)), p .tabled .room, p .ready .quarter);
+    room = omega (arith, few, p .tabled .room, p .ready .quarter);
     some = buckets-some q;
     few = omega (arith, p .tabled .total, p .tabled .small, p .ready .live);
   }
@@ -203,14 +230,15 @@ module _ (f w : List ℕ) (q : ℕ) (t : Tables) (i : ℕ) (p : Step f w q t i) 
           bump = b .bump;
           ends = rw py (b .ends);
           few = rw (py, dt) (omega (arith, sum, b .few));
-          sound = next-sound f u w (3 * q) (t .live) c i (4 * q) o (p .ready .sound) frn low says (b .counted);
+          sound = next-sound f u w (3 * q) (t .live) c i (4 * q) o (p .ready .sound) frn low says (b .counted) (b .own);
           indexed = en .indexed;
           placed = placed-agree f u v (2 * q) made top top (omega arith) ag (b .placed);
         };
         front = frn;
+        beyond = λ j h. en .beyond j (omega (arith, h, few)) ∙ b .beyond j h;
         size = so .size ∙ b .size;
         list = pdus-agree f u v (2 * q) 0 made made top (omega arith) ag frt (b .placed) ∙ b .list;
-        map = next-map f u w (3 * q) (t .live) c i (4 * q) o (p .ready .sound) frn low says (b .counted) ∙ rw (b .held, number-at f w i);
+        map = next-map f u w (3 * q) (t .live) c i (4 * q) o (p .ready .sound) frn low says (b .counted) (b .own) ∙ rw (b .held, number-at f w i);
       }
 
   -- a continuation of nothing
@@ -223,6 +251,7 @@ module _ (f w : List ℕ) (q : ℕ) (t : Tables) (i : ℕ) (p : Step f w q t i) 
       let says : (j : ℕ) → openAt w (3 * q) (t .live) j ≡ cond (eqb k j) Closed (openAt w (3 * q) (t .live) j) =
       (λ j. split≡ k j (λ z. rw (eq-eqb k j z) (ap (openAt w (3 * q) (t .live)) (sym z) ∙ no)) (λ z. rw (ne-eqb k j z))) in
       let vs : (a g : ℕ) → Closed ≡ From a g → (a ≤ i) × (g ≡ length (since f w k a (i + 1))) = (λ a g x. never x) in
+      let vo : (a g : ℕ) → Closed ≡ From a g → word w (6 * a) ≡ k = (λ a g x. never x) in
       record {
         ready = record {
           quarter = p .ready .quarter;
@@ -231,22 +260,26 @@ module _ (f w : List ℕ) (q : ℕ) (t : Tables) (i : ℕ) (p : Step f w q t i) 
           bump = p .ready .bump;
           ends = p .ready .ends;
           few = omega (arith, p .ready .few, data-next w i);
-          sound = next-sound f w w (3 * q) (t .live) (t .live) i (4 * q) Closed (p .ready .sound) (front-refl (4 * q) w) low says vs;
+          sound = next-sound f w w (3 * q) (t .live) (t .live) i (4 * q) Closed (p .ready .sound) (front-refl (4 * q) w) low says vs vo;
           indexed = p .ready .indexed;
           placed = p .ready .placed;
         };
         front = front-refl (4 * q) w;
+        beyond = λ j h. refl;
         size = refl;
         list = sym (rw (← hn) (append-nil (pdusFrom f w (2 * q) 0 (t .made))));
-        map = next-map f w w (3 * q) (t .live) (t .live) i (4 * q) Closed (p .ready .sound) (front-refl (4 * q) w) low says vs ∙ rw (← hn, number-at f w i);
+        map = next-map f w w (3 * q) (t .live) (t .live) i (4 * q) Closed (p .ready .sound) (front-refl (4 * q) w) low says vs vo ∙ rw (← hn, number-at f w i);
       }
 
   module _ (first got : ℕ) (e : nextAt w (3 * q) (t .live) i ≡ From first got) where
     pub step-first : (first ≤ i) × (got ≡ length (since f w (word w (6 * i)) first (i + 1)))
     step-first = arrive-sound f w (3 * q) (t .live) i (p .ready .sound) (p .tabled .fits .fits i (omega arith)) first got e
 
-    pub step-walk : Walk f w first (i + 1)
-    step-walk = record { tabled = p .tabled; before = omega (arith, step-first .0) }
+    step-own : word w (6 * first) ≡ word w (6 * i)
+    step-own = arrive-own f w (3 * q) (t .live) i (p .ready .sound) first got e
+
+    pub step-walk : (key : ℕ) → key ≡ word w (6 * i) → Walk f w q first (i + 1) key
+    step-walk key ke = record { tabled = p .tabled; quarter = p .ready .quarter; linked = p .linked; before = omega (arith, step-first .0); own = step-own ∙ sym ke }
 
     held-next : some (since f w (word w (6 * i)) first (i + 1)) ≡ after f w (3 * q) (t .live) i
     unfolding heldOf
@@ -262,9 +295,9 @@ module _ (f w : List ℕ) (q : ℕ) (t : Tables) (i : ℕ) (p : Step f w q t i) 
     pub step-narrow : (first + 1 ≤ 1048576) × (got ≤ 1048576)
     step-narrow = (omega (arith, step-first .0, p .tabled .total, p .tabled .small), omega (arith, step-small, p .tabled .total, p .tabled .small))
 
-    pub step-finish : (key need : ℕ) → key ≡ word w (6 * i) → Need (since f w key first (i + 1)) got need → need ≤ got → Finish f w (2 * q) (t .made) (t .top) i first need
+    pub step-finish : (key need : ℕ) → key ≡ word w (6 * i) → Need (since f w key first (i + 1)) got need → need ≤ got → Finish f w q (t .made) (t .top) i first need
     step-finish key need ke ni le = record {
-      tabled = p .tabled;
+      walk = step-walk (word w (6 * i)) refl;
       low = omega (arith, p .tabled .total, p .ready .quarter, p .ready .bump);
       mid = omega (arith, p .ready .ends, step-small, p .tabled .total, p .ready .quarter);
       room = omega (arith, p .ready .made, p .tabled .total, p .tabled .room, p .ready .quarter);
@@ -313,6 +346,8 @@ module _ (f w : List ℕ) (q : ℕ) (t : Tables) (i : ℕ) (p : Step f w q t i) 
           few = omega (arith, step-got);
           placed = p .ready .placed;
           counted = λ a g z. let m : first ≡ a = cc in let n : got ≡ g = cc in rw (← m, ← n) s;
+          own = λ a g z. let m : first ≡ a = cc in rw (← m) step-own;
+          beyond = λ j h. refl;
           list = sym (rw (← held-next, cmp) (append-nil (pdusFrom f w (2 * q) 0 (t .made))));
           held = rw (← held-next, cmp);
         }) va key ke u c en
@@ -339,6 +374,8 @@ module _ (f w : List ℕ) (q : ℕ) (t : Tables) (i : ℕ) (p : Step f w q t i) 
           few = omega (arith, fin .pays, step-got);
           placed = fin .placed;
           counted = λ a g z. never z;
+          own = λ a g z. never z;
+          beyond = λ j h. fin .above j (omega (arith, h, p .ready .made, p .tabled .total, p .ready .quarter));
           list = fin .list ∙ rw (← held-next, cmp);
           held = rw (← held-next, cmp);
         }) (as-zero 0 0 refl) key ke u c en

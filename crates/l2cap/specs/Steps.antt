@@ -18,6 +18,7 @@ use Rattle.l2cap.specs.Pdus.{joined, stillOpen, completed, pduOf}
 use Rattle.l2cap.specs.PduTable.{pdusFrom, paysOf}
 use Rattle.l2cap.specs.PduFrames.{Placed}
 use Rattle.l2cap.specs.Rekeyed.{putBy}
+use Rattle.l2cap.specs.Links.{Linked}
 use Rattle.l2cap.specs.declared.Open.{Open}
 use Rattle.l2cap.specs.declared.Open.the-variants.{Closed, From}
 use Rattle.l2cap.specs.declared.Tables.{Tables}
@@ -43,18 +44,22 @@ since f w k first upto = gathered k (packetsFrom f w first (upto - first))
 unfoldable pub brought : List ℕ → ℕ → ℕ → ℕ
 brought w k i = cond (eqb (word w (6 * i)) k) (word w (6 * i + 3)) 0
 
-pub record Walk (f w : List ℕ) (first upto : ℕ) : Type 0 where
+-- the packets are linked, and the first has the key
+pub record Walk (f w : List ℕ) (q first upto key : ℕ) : Type 0 where
   pub tabled : Tabled f w upto
+  pub quarter : q ≡ length f / 4
+  pub linked : Linked w q upto
   pub before : first ≤ upto
+  pub own : word w (6 * first) ≡ key
 
 pub record Paste (f w : List ℕ) (i left to : ℕ) : Type 0 where
   pub tabled : Tabled f w (i + 1)
   pub room : to + left ≤ length w
 
-pub record Gather (f w : List ℕ) (first upto need to : ℕ) : Type 0 where
-  pub tabled : Tabled f w upto
-  pub before : first ≤ upto
+pub record Gather (f w : List ℕ) (q first upto key need to : ℕ) : Type 0 where
+  pub walk : Walk f w q first upto key
   pub low : 24 * upto ≤ to
+  pub high : to + need ≤ 28 * q
   pub room : to + need ≤ length w
 
 -- r bytes make the PDU complete whose bytes so far are B, got of them
@@ -123,16 +128,16 @@ pub record PutPdu (w : List ℕ) (at s l : ℕ) : Type 0 where
   pub start : s < 4294967296
   pub len : l < 4294967296
 
-pub record Finish (f w : List ℕ) (b made top i first need : ℕ) : Type 0 where
-  pub tabled : Tabled f w (i + 1)
+pub record Finish (f w : List ℕ) (q made top i first need : ℕ) : Type 0 where
+  pub walk : Walk f w q first (i + 1) (word w (6 * i))
   pub low : 24 * i + 24 ≤ top
-  pub mid : top + need ≤ 4 * b
-  pub room : 4 * (b + 7 * made) + 28 ≤ length w
-  pub small : b + 7 * made ≤ 16777216
+  pub mid : top + need ≤ 4 * (2 * q)
+  pub room : 4 * (2 * q + 7 * made) + 28 ≤ length w
+  pub small : 2 * q + 7 * made ≤ 16777216
   pub before : first ≤ i
   pub needs : need ≡ 4 + le16 (since f w (word w (6 * i)) first (i + 1)) 0
   pub there : need ≤ length (since f w (word w (6 * i)) first (i + 1))
-  pub placed : Placed f w b made top
+  pub placed : Placed f w (2 * q) made top
 
 pub record Finished (f w : List ℕ) (b made top i first need : ℕ) (u : List ℕ) (r : ℕ) : Type 0 where
   pub list : pdusFrom f u b 0 (made + 1) ≡ pdusFrom f w b 0 made ++ (pduOf (since f w (word w (6 * i)) first (i + 1)) (packetAt f w i) ∷ [])
@@ -155,9 +160,10 @@ heldOf f w k upto (From a g) = some (since f w k a upto)
 unfoldable pub mapOf : List ℕ → List ℕ → ℕ → ℕ → ℕ → ℕ → Option (List ℕ)
 mapOf f w b live i k = heldOf f w k i (openAt w b live k)
 
--- the bytes so far are counted right
+-- the bytes so far are counted right, from a packet of the key on
 pub record Sound (f w : List ℕ) (b live i : ℕ) : Type 0 where
   pub sound : (k a g : ℕ) → openAt w b live k ≡ From a g → (a ≤ i) × (g ≡ length (since f w k a i))
+  pub own : (k a g : ℕ) → openAt w b live k ≡ From a g → word w (6 * a) ≡ k
 
 -- i packets are read. Every data byte is in one open PDU or one made, or dropped: so all areas have room.
 pub record Ready (f w : List ℕ) (q : ℕ) (t : Tables) (i : ℕ) : Type 0 where
@@ -174,6 +180,7 @@ pub record Ready (f w : List ℕ) (q : ℕ) (t : Tables) (i : ℕ) : Type 0 wher
 pub record Step (f w : List ℕ) (q : ℕ) (t : Tables) (i : ℕ) : Type 0 where
   pub ready : Ready f w q t i
   pub tabled : Tabled f w (i + 1)
+  pub linked : Linked w q (i + 1)
 
 -- the state that packet i finds, and the bytes at hand after it
 abbrev pub after : List ℕ → List ℕ → ℕ → ℕ → ℕ → Option (List ℕ)
@@ -182,14 +189,16 @@ after f w b live i = joined (mapOf f w b live i (numberOf (packetAt f w i))) (pa
 pub record Stepped (f w : List ℕ) (q : ℕ) (t : Tables) (i : ℕ) (u : List ℕ) (r : Tables) : Type 0 where
   pub ready : Ready f u q r (i + 1)
   pub front : Front (4 * q) u w
+  pub beyond : (j : ℕ) → 7 * q ≤ j → word u j ≡ word w j
   pub size : length u ≡ length w
   pub list : pdusFrom f u (2 * q) 0 (r .made) ≡ pdusFrom f w (2 * q) 0 (t .made) ++ completed (after f w (3 * q) (t .live) i) (packetAt f w i)
   pub map : _≡_ {A = ℕ → Option (List ℕ)} (mapOf f u (3 * q) (r .live) (i + 1)) (putBy eqb (mapOf f w (3 * q) (t .live) i) (numberOf (packetAt f w i)) (stillOpen (after f w (3 * q) (t .live) i)))
 
 -- ---- all steps
 
--- a table of packets, and nothing open
+-- a table of packets, linked, and nothing open
 pub record Run (f w : List ℕ) (q count : ℕ) : Type 0 where
   pub tabled : Tabled f w count
   pub quarter : q ≡ length f / 4
+  pub linked : Linked w q count
   pub indexed : Indexed w (indexOf q) 0
