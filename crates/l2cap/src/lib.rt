@@ -59,15 +59,7 @@ fn later(w: &[u8], q: usize, i: usize) -> usize
 }
 
 // The byte number at of what the key has from the packets first .. upto - 1; 0 if it is not there.
-fn byte_of(
-    file: &[u8],
-    w: &[u8],
-    q: usize,
-    first: usize,
-    upto: usize,
-    key: u32,
-    at: usize,
-) -> u8
+fn byte_of(file: &[u8], w: &[u8], q: usize, first: usize, upto: usize, key: u32, at: usize) -> u8
     requires { ⌜ Walk (now file) (now w) q first upto key ⌝ }
     ensures { λ r. ⌜ r ≡ getD (since (now (file .entry)) (now (w .entry)) key first upto) at 0 ⌝ }
 {
@@ -93,15 +85,7 @@ fn pair(a: u8, b: u8) -> u32
 }
 
 // The 16-bit number at a place of what the key has: it may be split over fragments.
-fn half(
-    file: &[u8],
-    w: &[u8],
-    q: usize,
-    first: usize,
-    upto: usize,
-    key: u32,
-    at: usize,
-) -> u32
+fn half(file: &[u8], w: &[u8], q: usize, first: usize, upto: usize, key: u32, at: usize) -> u32
     requires { ⌜ (Walk (now file) (now w) q first upto key) × (at < 4) ⌝ }
     ensures { λ r. ⌜ (r ≡ le16 (since (now (file .entry)) (now (w .entry)) key first upto) at) × (r < 65536) ⌝ }
 {
@@ -112,15 +96,7 @@ fn half(
 }
 
 // How many bytes make the PDU complete. With fewer than 4 its length is not there, and no packet is walked for it.
-fn needed(
-    file: &[u8],
-    w: &[u8],
-    q: usize,
-    first: usize,
-    upto: usize,
-    key: u32,
-    got: usize,
-) -> usize
+fn needed(file: &[u8], w: &[u8], q: usize, first: usize, upto: usize, key: u32, got: usize) -> usize
     requires { ⌜ Walk (now file) (now w) q first upto key ⌝ }
     ensures { λ r. ⌜ Need (since (now (file .entry)) (now (w .entry)) key first upto) got r ⌝ }
 {
