@@ -18,8 +18,8 @@ use Rattle.btsnoop.specs.PacketTable.{packetAt}
 use Rattle.l2cap.specs.Pdus.{Pdu, pduOf}
 use Rattle.l2cap.specs.PduTable.{pduAt, pdusFrom, paysOf, Inside}
 use Rattle.l2cap.specs.PduFrames.{Placed, pdus-snoc, pays-next, placed-agree, pdus-agree, pays-agree}
-use Rattle.l2cap.specs.Steps.{since, putPdu, PutPdu, Finish, Finished}
-use Rattle.l2cap.proofs.Walking.{since-one, piece-own}
+use Rattle.l2cap.specs.Steps.{since, Walk, Gather, putPdu, PutPdu, Finish, Finished}
+use Rattle.l2cap.proofs.Walking.{since-one, piece-own, word-behind}
 use Rattle.l2cap.proofs.Rows.{row-outside, row-length, row-front, row-len, row-new, row-inside}
 
 -- ---- one row more, whose payload lies in d
@@ -51,14 +51,6 @@ row-more f v u w b made top r k c p s l t room low up hc e ag fr pl d de ins =
 
 -- ---- a run of stores below the rows
 
-byte-behind : (vs w : List ℕ) (at k : ℕ) → at + length vs ≤ k → getD (sets w at vs) k 0 ≡ getD w k 0
-byte-behind [] w at k h = refl
-byte-behind (x ∷ vs) w at k h =
-    byte-behind vs (set w at x) (suc at) k (omega arith) ∙ getD-set-other w at k x 0 (λ e. omega arith)
-
-word-behind : (vs w : List ℕ) (at j : ℕ) → at + length vs ≤ 4 * j → word (sets w at vs) j ≡ word w j
-word-behind vs w at j h = word-of-bytes (sets w at vs) w j (λ k lo hi. byte-behind vs w at k (omega arith))
-
 part-sets : (vs l : List ℕ) (at a m : ℕ) → at + length vs ≤ length l → a + m ≤ length vs → take m (drop (at + a) (sets l at vs)) ≡ take m (drop a vs)
 part-sets vs l at a m h g =
     let d : drop at (sets l at vs) ≡ vs ++ drop (at + length vs) l =
@@ -66,7 +58,13 @@ part-sets vs l at a m h g =
     ap (take m) (sym (drop-drop a at (sets l at vs)) ∙ ap (drop a) d ∙ drop-append-le a vs (drop (at + length vs) l) (omega arith))
     ∙ take-append-le m (drop a vs) (drop (at + length vs) l) (simp length-drop (omega arith))
 
-module _ (f w : List ℕ) (b made top i first need : ℕ) (pre : Finish f w b made top i first need) where
+module _ (f w : List ℕ) (q made top i first need : ℕ) (pre : Finish f w q made top i first need) where
+  pub finish-walk : (key : ℕ) → key ≡ word w (6 * i) → Walk f w q first (i + 1) key
+  finish-walk key e = rw e (pre .walk)
+
+  pub finish-gather : (key : ℕ) → key ≡ word w (6 * i) → Gather f w q first (i + 1) key need top
+  finish-gather key e = record { walk = finish-walk key e; low = omega (arith, pre .low); high = omega (arith, pre .mid); room = omega (arith, pre .mid, pre .room) }
+
   -- ---- a single fragment: the payload stays in the file
 
   since-single : first ≡ i → since f w (word w (6 * i)) first (i + 1) ≡ take (word w (6 * i + 3)) (drop (word w (6 * i + 2)) f)
@@ -76,18 +74,18 @@ module _ (f w : List ℕ) (b made top i first need : ℕ) (pre : Finish f w b ma
   single-length : first ≡ i → length (since f w (word w (6 * i)) first (i + 1)) ≡ word w (6 * i + 3)
   single-length e =
       rw (since-single e)
-      (length-take-le (word w (6 * i + 3)) (drop (word w (6 * i + 2)) f) (simp length-drop (omega (arith, pre .tabled .fits .fits i (omega arith)))))
+      (length-take-le (word w (6 * i + 3)) (drop (word w (6 * i + 2)) f) (simp length-drop (omega (arith, pre .walk .tabled .fits .fits i (omega arith)))))
 
-  pub single-put : (x s : ℕ) → first ≡ i → x ≡ word w (6 * i + 2) → s ≡ x → PutPdu w (b + 7 * made) (s + 4) (need - 4)
+  pub single-put : (x s : ℕ) → first ≡ i → x ≡ word w (6 * i + 2) → s ≡ x → PutPdu w (2 * q + 7 * made) (s + 4) (need - 4)
   single-put x s e xe se = record {
     room = pre .room;
-    start = omega (arith, single-length e, pre .there, pre .needs, pre .tabled .fits .fits i (omega arith), pre .tabled .small);
+    start = omega (arith, single-length e, pre .there, pre .needs, pre .walk .tabled .fits .fits i (omega arith), pre .walk .tabled .small);
     len = omega (arith, pre .mid, pre .small);
   }
 
   pub finish-file :
       (key c x s t : ℕ) → key ≡ word w (6 * i) → ((c ≡ le16 (since f w key first (i + 1)) 2) × (c < 65536)) → t ≡ long w (6 * i + 4) → first ≡ i → x ≡ word w (6 * i + 2) → s ≡ x →
-      (u : List ℕ) → u ≡ putPdu w (b + 7 * made) key c 0 (s + 4) (need - 4) t → Finished f w b made top i first need u top
+      (u : List ℕ) → u ≡ putPdu w (2 * q + 7 * made) key c 0 (s + 4) (need - 4) t → Finished f w (2 * q) made top i first need u top
   unfolding packetAt pduOf
   finish-file key c x s t ke ce te fe xe se u e =
       let B : List ℕ = since f w (word w (6 * i)) first (i + 1) in
@@ -99,24 +97,24 @@ module _ (f w : List ℕ) (b made top i first need : ℕ) (pre : Finish f w b ma
       ∙ part-take 4 (le16 B 0) (word w (6 * i + 3)) (drop (word w (6 * i + 2)) f) (omega (arith, pre .needs, pre .there))
       ∙ ap (λ (l : List ℕ). take (le16 B 0) (drop 4 l)) (sym (since-single fe))) in
       let cb : c ≡ le16 B 2 = (rw ke at (ce .0)) in
-      let q = row-more f w u w b made top top key c 0 (s + 4) (need - 4) t (pre .room) (omega (arith, pre .mid)) (omega arith) (ce .1) e (λ j lo hi. refl) (front-refl top w) (pre .placed) f refl (omega (arith, pre .needs, pre .there, pre .tabled .fits .fits i (omega arith))) in
+      let z = row-more f w u w (2 * q) made top top key c 0 (s + 4) (need - 4) t (pre .room) (omega (arith, pre .mid)) (omega arith) (ce .1) e (λ j lo hi. refl) (front-refl top w) (pre .placed) f refl (omega (arith, pre .needs, pre .there, pre .walk .tabled .fits .fits i (omega arith))) in
       record {
-        list = q .list ∙ rw (pay, cb, te, ke);
-        placed = q .placed;
-        pays = omega (arith, q .pays, pre .needs);
-        front = q .front;
-        above = λ j h. rw e (row-outside w (b + 7 * made) key c 0 (s + 4) (need - 4) t j (inr h));
+        list = z .list ∙ rw (pay, cb, te, ke);
+        placed = z .placed;
+        pays = omega (arith, z .pays, pre .needs);
+        front = z .front;
+        above = λ j h. rw e (row-outside w (2 * q + 7 * made) key c 0 (s + 4) (need - 4) t j (inr h));
         least = omega arith;
         most = omega arith;
-        size = rw e (row-length w (b + 7 * made) key c 0 (s + 4) (need - 4) t);
+        size = rw e (row-length w (2 * q + 7 * made) key c 0 (s + 4) (need - 4) t);
       }
 
   -- ---- several: the bytes are joined at top, with their header
 
   pub finish-work :
       (key c t : ℕ) → key ≡ word w (6 * i) → ((c ≡ le16 (since f w key first (i + 1)) 2) × (c < 65536)) → t ≡ long w (6 * i + 4) →
-      (r : ℕ) (v : List ℕ) → Writes w top (take need (since f w key first (i + 1))) r v → (u : List ℕ) → u ≡ putPdu v (b + 7 * made) key c 1 (top + 4) (need - 4) t →
-      Finished f w b made top i first need u r
+      (r : ℕ) (v : List ℕ) → Writes w top (take need (since f w key first (i + 1))) r v → (u : List ℕ) → u ≡ putPdu v (2 * q + 7 * made) key c 1 (top + 4) (need - 4) t →
+      Finished f w (2 * q) made top i first need u r
   unfolding packetAt pduOf
   finish-work key c t ke ce te r v g₀ u e =
       let B : List ℕ = since f w (word w (6 * i)) first (i + 1) in
@@ -126,21 +124,21 @@ module _ (f w : List ℕ) (b made top i first need : ℕ) (pre : Finish f w b ma
       let lv : length v ≡ length w = writes-long w top (take need B) r v g in
       let re : r ≡ top + need = omega (arith, g .next) in
       let pay : take (need - 4) (drop (top + 4) u) ≡ take (le16 B 0) (drop 4 B) =
-      front-part (top + need) u v (top + 4) (need - 4) (omega (arith, pre .needs)) (rw e (row-front v (b + 7 * made) key c 1 (top + 4) (need - 4) t (top + need) (omega (arith, pre .mid))))
+      front-part (top + need) u v (top + 4) (need - 4) (omega (arith, pre .needs)) (rw e (row-front v (2 * q + 7 * made) key c 1 (top + 4) (need - 4) t (top + need) (omega (arith, pre .mid))))
       ∙ (rw (g .writes) (part-sets (take need B) w top 4 (need - 4) (omega (arith, pre .mid, pre .room)) (omega (arith, pre .needs))))
       ∙ sym (part-take 4 (need - 4) need B (omega (arith, pre .needs)))
       ∙ ap (λ (n : ℕ). take n (drop 4 B)) m in
       let cb : c ≡ le16 B 2 = (rw ke at (ce .0)) in
-      let ag : (j : ℕ) → b ≤ j → word v j ≡ word w j = (λ j lo. rw (g .writes) (word-behind (take need B) w top j (omega (arith, pre .mid)))) in
+      let ag : (j : ℕ) → 2 * q ≤ j → word v j ≡ word w j = (λ j lo. rw (g .writes) (word-behind (take need B) w top j (omega (arith, pre .mid)))) in
       let fr : Front top v w = rw (g .writes) (front-sets top (take need B) w top (omega arith)) in
-      let q = row-more f v u w b made top r key c 1 (top + 4) (need - 4) t (omega (arith, pre .room)) (omega (arith, pre .mid)) (omega arith) (ce .1) e (λ j lo hi. ag j lo) fr (pre .placed) u refl (omega (arith, pre .needs)) in
+      let z = row-more f v u w (2 * q) made top r key c 1 (top + 4) (need - 4) t (omega (arith, pre .room)) (omega (arith, pre .mid)) (omega arith) (ce .1) e (λ j lo hi. ag j lo) fr (pre .placed) u refl (omega (arith, pre .needs)) in
       record {
-        list = q .list ∙ rw (pay, cb, te, ke);
-        placed = q .placed;
-        pays = omega (arith, q .pays, pre .needs);
-        front = q .front;
-        above = λ j h. (rw e (row-outside v (b + 7 * made) key c 1 (top + 4) (need - 4) t j (inr h))) ∙ ag j (omega arith);
+        list = z .list ∙ rw (pay, cb, te, ke);
+        placed = z .placed;
+        pays = omega (arith, z .pays, pre .needs);
+        front = z .front;
+        above = λ j h. (rw e (row-outside v (2 * q + 7 * made) key c 1 (top + 4) (need - 4) t j (inr h))) ∙ ag j (omega arith);
         least = omega arith;
         most = omega arith;
-        size = (rw e (row-length v (b + 7 * made) key c 1 (top + 4) (need - 4) t)) ∙ lv;
+        size = (rw e (row-length v (2 * q + 7 * made) key c 1 (top + 4) (need - 4) t)) ∙ lv;
       }

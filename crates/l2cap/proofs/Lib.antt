@@ -1,3 +1,4 @@
+pub mod Linking
 pub mod Walking
 pub mod Opens
 pub mod Rows

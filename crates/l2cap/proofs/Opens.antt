@@ -1,16 +1,20 @@
 -- What is open: the row of a key, and what a fragment makes of it.
 use mathlib.Core.Path.{_≡_, refl, sym, _∙_}
 use mathlib.Core.Bool.{Bool, true, false, cond}
-use Prim.Native.Nat.{ℕ, zero, suc, _+_, _-_, _*_, _≤_}
+use Prim.Native.Nat.{ℕ, zero, suc, _+_, _-_, _*_, _<_, _≤_}
 use mathlib.Core.List.{List}
 use native.Mathlib.Omega.{arith}
-use lib.Dec.{eqb}
-use borrow.Author.Tests.{eq-eqb, ne-eqb}
+use lib.ListN.{length}
+use lib.Dec.{eqb, ltb}
+use borrow.Author.Tests.{eq-eqb, ne-eqb, lt-ltb, le-ltb}
+use Rattle.laws.specs.Choice.{split≤}
 use Rattle.words.specs.Words.{word}
-use Rattle.table.specs.Table.{Slot, none as no-row, some as row, findIn, lookup, lookup-found, lookup-nothing, second, second-le}
+use Rattle.table.specs.Table.{Slot, none as no-row, some as row, findIn, lookup, lookup-found, lookup-nothing, second, second-le, find-below}
+use Rattle.table.specs.Index.{SeekPre, EnterPre, Entered}
+use Rattle.table.specs.declared.Index.{Index}
 use Rattle.table.specs.declared.Row.{Row}
 use Rattle.table.specs.declared.Row.the-variants.{At, Nothing}
-use Rattle.l2cap.specs.Steps.{asOpen, openAt, longer, grown, nextAt, Small, Arrive}
+use Rattle.l2cap.specs.Steps.{bucketsOf, indexOf, Look, SetOpen, asOpen, openAt, longer, grown, nextAt, Small, Arrive}
 use Rattle.l2cap.specs.declared.Open.{Open}
 use Rattle.l2cap.specs.declared.Open.the-variants.{Closed, From}
 
@@ -35,21 +39,58 @@ as-got no-row a g e = never e
 as-got (row zero y) a g e = never e
 as-got (row (suc x) y) a g e = cc
 
-module _ (w : List ℕ) (b k n x : ℕ) (f : Row) (xe : x ≡ k) (e : f ≡ findIn w b x n) where
-  pub look-none : f ≡ Nothing → Closed ≡ openAt w b n k
-  unfolding openAt asOpen
-  look-none d = rw (lookup-nothing w b k n (sym (rw xe at e) ∙ d))
+-- ---- the buckets
 
-  look-some : (i : ℕ) → f ≡ At i → openAt w b n k ≡ asOpen (row (word w (b + 4 * i + 2)) (word w (b + 4 * i + 3)))
-  unfolding openAt
-  look-some i d = rw (lookup-found w b k n i (sym (rw xe at e) ∙ d))
+pub buckets-one : (q : ℕ) → q < 4096 → 1 ≡ bucketsOf q
+unfolding bucketsOf
+buckets-one q h = rw (lt-ltb q 4096 h)
 
-  pub look-zero : (i a y : ℕ) → f ≡ At i → a ≡ word w (b + 4 * i + 2) → y ≡ a → y ≡ 0 → Closed ≡ openAt w b n k
-  look-zero i a y d p q z = sym (look-some i d ∙ as-zero (word w (b + 4 * i + 2)) (word w (b + 4 * i + 3)) (sym p ∙ sym q ∙ z))
+pub buckets-many : (q : ℕ) → 4096 ≤ q → 4096 ≡ bucketsOf q
+unfolding bucketsOf
+buckets-many q h = rw (le-ltb q 4096 h)
 
-  pub look-from : (i a y g h : ℕ) → f ≡ At i → a ≡ word w (b + 4 * i + 2) → y ≡ a → (y ≡ 0 → ⊥) → g ≡ word w (b + 4 * i + 3) → h ≡ g → From (y - 1) h ≡ openAt w b n k
-  look-from i a y g h d p q z p2 q2 =
-      sym (look-some i d ∙ as-pos (word w (b + 4 * i + 2)) (word w (b + 4 * i + 3)) (λ t. z (q ∙ p ∙ t)) ∙ rw (q, p, q2, p2))
+pub buckets-some : (q : ℕ) → 0 < bucketsOf q
+buckets-some q = split≤ 4096 q (λ h. omega (arith, buckets-many q h)) (λ h. omega (arith, buckets-one q h))
+
+pub buckets-few : (q : ℕ) → 0 < q → bucketsOf q ≤ q
+buckets-few q p = split≤ 4096 q (λ h. omega (arith, buckets-many q h)) (λ h. omega (arith, buckets-one q h))
+
+pub index-is : (q m : ℕ) → m ≡ bucketsOf q → _≡_ {A = Index} (record { rows = 3 * q; chain = 5 * q; heads = 6 * q; m = m }) (indexOf q)
+index-is q m e = rw e
+
+-- ---- the row of a key
+
+module _ (w : List ℕ) (q n : ℕ) (x : Index) (ex : x ≡ indexOf q) where
+  pub look-seek : Look w q n → SeekPre w x n
+  look-seek p = rw ex (p .seek)
+
+  pub open-enter : SetOpen w q n → EnterPre w x n
+  open-enter p = rw ex (p .enter)
+
+  pub open-entered : (key k a b : ℕ) → k ≡ key → (u : List ℕ) (r : ℕ) → Entered w x n k a b u r → Entered w (indexOf q) n key a b u r
+  open-entered key k a b e u r d = rw (ex, e) at d
+
+  module _ (k y : ℕ) (f : Row) (ye : y ≡ k) (e : f ≡ findIn w (x .rows) y n) where
+    found : f ≡ findIn w (3 * q) k n
+    found = rw (ex, ye) at e
+
+    pub look-row : Look w q n → (i : ℕ) → f ≡ At i → 4 * (3 * q + 4 * i) + 16 ≤ length w
+    look-row p i d = omega (arith, find-below w (3 * q) k n i (sym found ∙ d), p .seek .stands .rows, p .seek .stands .chain, p .seek .stands .room)
+
+    pub look-none : f ≡ Nothing → Closed ≡ openAt w (3 * q) n k
+    unfolding openAt asOpen
+    look-none d = rw (lookup-nothing w (3 * q) k n (sym found ∙ d))
+
+    look-some : (i : ℕ) → f ≡ At i → openAt w (3 * q) n k ≡ asOpen (row (word w (3 * q + 4 * i + 2)) (word w (3 * q + 4 * i + 3)))
+    unfolding openAt
+    look-some i d = rw (lookup-found w (3 * q) k n i (sym found ∙ d))
+
+    pub look-zero : (i a z : ℕ) → f ≡ At i → a ≡ word w (3 * q + 4 * i + 2) → z ≡ a → z ≡ 0 → Closed ≡ openAt w (3 * q) n k
+    look-zero i a z d p r o = sym (look-some i d ∙ as-zero (word w (3 * q + 4 * i + 2)) (word w (3 * q + 4 * i + 3)) (sym p ∙ sym r ∙ o))
+
+    pub look-from : (i a z g h : ℕ) → f ≡ At i → a ≡ word w (3 * q + 4 * i + 2) → z ≡ a → (z ≡ 0 → ⊥) → g ≡ word w (3 * q + 4 * i + 3) → h ≡ g → From (z - 1) h ≡ openAt w (3 * q) n k
+    look-from i a z g h d p r o p2 q2 =
+        sym (look-some i d ∙ as-pos (word w (3 * q + 4 * i + 2)) (word w (3 * q + 4 * i + 3)) (λ t. o (r ∙ p ∙ t)) ∙ rw (r, p, q2, p2))
 
 -- ---- a fragment
 
@@ -66,12 +107,12 @@ module _ (start : ℕ) (o : Open) (i n : ℕ) where
   unfolding grown longer
   grown-more h a g e = rw (ne-eqb start 1 h, e)
 
-pub arrive-small : (w : List ℕ) (b live i : ℕ) → Arrive w b live i → (key x n : ℕ) (o : Open) → key ≡ word w (6 * i) → o ≡ openAt w b live key → x ≡ word w (6 * i + 3) → n ≡ x → Small o n
+pub arrive-small : (w : List ℕ) (q live i : ℕ) → Arrive w q live i → (key x n : ℕ) (o : Open) → key ≡ word w (6 * i) → o ≡ openAt w (3 * q) live key → x ≡ word w (6 * i + 3) → n ≡ x → Small o n
 unfolding openAt
-arrive-small w b live i pre key x n o ke oe xe ne = record {
+arrive-small w q live i pre key x n o ke oe xe ne = record {
   small = λ a g e.
-      let h : second (lookup w b live key) ≡ g = as-got (lookup w b live key) a g (sym oe ∙ e) in
-      omega (arith, second-le w b live key, pre .sums);
+      let h : second (lookup w (3 * q) live key) ≡ g = as-got (lookup w (3 * q) live key) a g (sym oe ∙ e) in
+      omega (arith, second-le w (3 * q) live key, pre .sums);
 }
 
 pub arrive-is : (w : List ℕ) (b live i key start x n : ℕ) (o r : Open) → key ≡ word w (6 * i) → start ≡ word w (6 * i + 1) → x ≡ word w (6 * i + 3) → n ≡ x → o ≡ openAt w b live key → r ≡ grown start o i n → r ≡ nextAt w b live i

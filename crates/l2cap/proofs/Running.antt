@@ -10,18 +10,22 @@ use borrow.Author.Tests.{eq-eqb, ne-eqb}
 use Rattle.laws.specs.Choice.{split≡}
 use Rattle.laws.specs.Lists.{All}
 use Rattle.laws.specs.Keys.{eqK}
-use Rattle.words.specs.Front.{Front, front-refl, front-then}
+use Rattle.words.specs.Words.{word}
+use Rattle.words.specs.Front.{Front, front-refl, front-then, front-less, front-word}
 use Rattle.table.specs.Table.{lookup, sumOf}
+use Rattle.table.specs.Chain.{chained-none, headed-none}
+use Rattle.table.specs.Index.{bucketAt}
 use Rattle.btsnoop.specs.Packets.{Packet}
 use Rattle.btsnoop.specs.PacketTable.{packetAt, packetsFrom, dataOf, Tabled}
-use Rattle.btsnoop.specs.PacketFrames.{packets-next, packets-none, data-mono, tabled-less, two-ways, packet-front, tabled-front}
+use Rattle.btsnoop.specs.PacketFrames.{packets-next, packets-none, data-mono, tabled-less, two-ways, packet-front, packets-front, tabled-front}
 use Rattle.l2cap.specs.Pdus.{Pdu, packetKey, reassembly, pdus}
 use Rattle.l2cap.specs.PduTable.{pdusFrom, paysOf, Reassembled}
 use Rattle.l2cap.specs.PduFrames.{inside-top}
 use Rattle.l2cap.specs.Rekeyed.{runBy, rekey, run-by}
-use Rattle.l2cap.specs.Steps.{numberOf, asOpen, openAt, heldOf, mapOf, Ready, Step, Stepped}
+use Rattle.l2cap.specs.Links.{Linked, linked-less, linked-agree, Filled, LinkRoom, LinkedTo}
+use Rattle.l2cap.specs.Steps.{numberOf, bucketsOf, indexOf, asOpen, openAt, heldOf, mapOf, Ready, Step, Stepped, Run}
 use Rattle.l2cap.specs.declared.Tables.{Tables}
-use Rattle.l2cap.proofs.Opens.{never}
+use Rattle.l2cap.proofs.Opens.{never, buckets-some, buckets-few}
 
 -- ---- link and direction as one number
 
@@ -51,36 +55,39 @@ pub record Running (f w₀ : List ℕ) (q count : ℕ) (w : List ℕ) (t : Table
   pub ready : Ready f w q t i
   pub size : length w ≡ length w₀
   pub front : Front (4 * q) w w₀
+  pub linked : Linked w q count
   pub same : pdusFrom f w (2 * q) 0 (t .made) ++ runNumbered (mapOf f w (3 * q) (t .live) i) (packetsFrom f w₀ i (count - i)) ≡ pdus (packetsFrom f w₀ 0 count)
 
-module _ (f w₀ : List ℕ) (count : ℕ) (pre : Tabled f w₀ count) (q : ℕ) where
-  pub run-start : q ≡ length f / 4 → Running f w₀ q count w₀ (record { live = 0; made = 0; top = 4 * q }) 0
+module _ (f w₀ : List ℕ) (q count : ℕ) (pre : Run f w₀ q count) where
+  pub run-start : Running f w₀ q count w₀ (record { live = 0; made = 0; top = 4 * q }) 0
   unfolding pdusFrom paysOf sumOf dataOf mapOf openAt lookup asOpen heldOf
-  run-start e =
+  run-start =
       let z : count - 0 ≡ count = omega arith in
       record {
         within = omega arith;
         ready = record {
-          quarter = e;
+          quarter = pre .quarter;
           live = omega arith;
           made = omega arith;
           bump = omega arith;
           ends = omega arith;
           few = omega arith;
-          sound = record { sound = λ k a g x. never x };
+          sound = record { sound = λ k a g x. never x; own = λ k a g x. never x };
+          indexed = pre .indexed;
           placed = λ j h. absurd (omega arith);
         };
         size = refl;
         front = front-refl (4 * q) w₀;
+        linked = pre .linked;
         same = rw z (sym (pdus-numbered (packetsFrom f w₀ 0 count) (two-ways f w₀ 0 count)));
       }
 
   module _ (w : List ℕ) (t : Tables) (i : ℕ) (v : Running f w₀ q count w t i) where
     low : 24 * count ≤ 4 * q
-    low = omega (arith, pre .total, v .ready .quarter)
+    low = omega (arith, pre .tabled .total, v .ready .quarter)
 
     pub run-step : i < count → Step f w q t i
-    run-step h = record { ready = v .ready; tabled = tabled-less f w (i + 1) count (omega arith) (tabled-front (4 * q) f w w₀ count low (v .front) (v .size) pre) }
+    run-step h = record { ready = v .ready; tabled = tabled-less f w (i + 1) count (omega arith) (tabled-front (4 * q) f w w₀ count low (v .front) (v .size) (pre .tabled)); linked = linked-less w q (i + 1) count (omega arith) (v .linked) }
 
     pub run-turn : i < count → (u : List ℕ) (r : Tables) → Stepped f w q t i u r → Running f w₀ q count u r (i + 1)
     unfolding runBy
@@ -91,13 +98,14 @@ module _ (f w₀ : List ℕ) (count : ℕ) (pre : Tabled f w₀ count) (q : ℕ)
           ready = st .ready;
           size = st .size ∙ v .size;
           front = front-then (4 * q) u w w₀ (st .front) (v .front);
+          linked = linked-agree u w q count (λ j l. front-word (4 * q) u w j (omega arith) (st .front)) (st .beyond) (v .linked);
           same = rw (st .list, st .map, append-assoc, pk) (rw (packets-next f w₀ i count h) at (v .same));
         }
 
     pub run-end : count ≤ i → Reassembled f w (t .made) (pdus (packetsFrom f w₀ 0 count))
     unfolding runBy
     run-end h =
-        let tb : Tabled f w count = tabled-front (4 * q) f w w₀ count low (v .front) (v .size) pre in
+        let tb : Tabled f w count = tabled-front (4 * q) f w w₀ count low (v .front) (v .size) (pre .tabled) in
         let dm : dataOf w i ≤ dataOf w count = data-mono w i count (v .within) in
         record {
           list = rw (← v .ready .quarter) (sym (append-nil (pdusFrom f w (2 * q) 0 (t .made))) ∙ (rw (packets-none f w₀ i count h) at (v .same)));
@@ -106,3 +114,37 @@ module _ (f w₀ : List ℕ) (count : ℕ) (pre : Tabled f w₀ count) (q : ℕ)
           small = tb .small;
           room = tb .room;
         }
+
+-- ---- before the first packet
+
+module _ (f w : List ℕ) (count : ℕ) (pre : Tabled f w count) (q : ℕ) (e : q ≡ length f / 4) (m : ℕ) (me : m ≡ bucketsOf q) where
+  many : m ≤ q
+  many = omega (arith, buckets-few q (omega (arith, pre .total)))
+
+  pub link-room : LinkRoom w q m count
+  link-room = record { low = omega (arith, pre .total); some = omega (arith, buckets-some q); few = many; small = omega (arith, pre .small); room = omega (arith, pre .room) }
+
+  module _ (x : List ℕ) (l : LinkedTo w q count x) where
+    pub fill-room : 4 * (6 * q + m) ≤ length x
+    fill-room = omega (arith, many, l .size, pre .room)
+
+    module _ (v : List ℕ) (c : Filled x (6 * q) m 0 v) where
+      low₀ : 24 * count ≤ 4 * (6 * q)
+      low₀ = omega (arith, pre .total)
+
+      fr : Front (4 * (6 * q)) v w
+      fr = front-then (4 * (6 * q)) v x w (c .front) (l .front)
+
+      pub fill-run : Run f v q count
+      fill-run = record {
+        tabled = tabled-front (4 * (6 * q)) f v w count low₀ fr (c .size ∙ l .size) pre;
+        quarter = e;
+        linked = linked-agree v x q count (λ j h. front-word (4 * (6 * q)) v x j (omega arith) (c .front)) (λ j h. c .beyond j (omega (arith, many))) (l .linked);
+        indexed = record {
+          chained = chained-none (bucketAt v (indexOf q)) v (5 * q);
+          headed = rw me at (headed-none (bucketAt v (indexOf q)) x (6 * q) m v (record { zeros = c .is; front = c .front; size = c .size }));
+        };
+      }
+
+      pub run-all : (u : List ℕ) (n : ℕ) → Reassembled f u n (pdus (packetsFrom f v 0 count)) → Reassembled f u n (pdus (packetsFrom f w 0 count))
+      run-all u n r = rw (packets-front (4 * (6 * q)) f v w 0 count (omega (arith, low₀)) fr) at r

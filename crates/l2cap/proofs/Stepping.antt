@@ -13,19 +13,20 @@ use Rattle.laws.specs.Choice.{split≡}
 use Rattle.laws.specs.Numbers.{le16}
 use Rattle.words.specs.Words.{word}
 use Rattle.words.specs.Front.{Front, front-then, front-word, front-less, front-refl}
-use Rattle.table.specs.Table.{some as row, lookup, upd, second, sumOf, Stored, Agree, lookup-agree, sum-agree, second-le}
+use Rattle.table.specs.Table.{some as row, lookup, upd, second, sumOf, Stored, Agree, lookup-agree, long-agree, sum-agree, second-le}
+use Rattle.table.specs.Index.{Indexed, Stands, Entered, stands-less, indexed-agree}
 use Rattle.btsnoop.specs.PacketTable.{packetAt, dataOf}
 use Rattle.btsnoop.specs.PacketFrames.{data-next, data-front}
 use Rattle.l2cap.specs.Pdus.{joined, isComplete, stillOpen, completed}
 use Rattle.l2cap.specs.PduTable.{pdusFrom, paysOf}
 use Rattle.l2cap.specs.PduFrames.{Placed, placed-agree, pdus-agree, pays-agree}
 use Rattle.l2cap.specs.Rekeyed.{putBy}
-use Rattle.l2cap.specs.Steps.{since, Walk, Need, asOpen, openAt, longer, grown, nextAt, Arrive, Finish, Finished, heldOf, mapOf, Sound, Step, after, Stepped}
+use Rattle.l2cap.specs.Steps.{since, Walk, Need, bucketsOf, indexOf, SetOpen, asOpen, openAt, longer, grown, nextAt, Arrive, Finish, Finished, heldOf, mapOf, Sound, Step, after, Stepped}
 use Rattle.l2cap.specs.declared.Open.{Open}
 use Rattle.l2cap.specs.declared.Open.the-variants.{Closed, From}
 use Rattle.l2cap.specs.declared.Tables.{Tables}
 use Rattle.l2cap.proofs.Walking.{number-at, piece-own, piece-other, since-one, since-snoc, since-front}
-use Rattle.l2cap.proofs.Opens.{never, as-zero, as-pos, arrive-got, arrive-none}
+use Rattle.l2cap.proofs.Opens.{buckets-some, buckets-few, never, as-zero, as-pos, arrive-got, arrive-none}
 
 -- ---- what is open once a packet is read
 
@@ -63,6 +64,17 @@ module _ (f w : List ℕ) (b live i : ℕ) (s : Sound f w b live i) where
       (held-open (openAt w b live (word w (6 * i))) (λ a g e. s .sound (word w (6 * i)) a g e .0) (eqb (word w (6 * i + 1)) 1)
       ∙ ap (joined (heldOf f w (word w (6 * i)) i (openAt w b live (word w (6 * i))))) (sym (packet-start f w i)))
 
+  -- it began with a packet of the key
+  pub arrive-own : (a g : ℕ) → nextAt w b live i ≡ From a g → word w (6 * a) ≡ word w (6 * i)
+  unfolding nextAt grown longer
+  arrive-own a g e = go (openAt w b live (word w (6 * i))) (λ x y q. s .own (word w (6 * i)) x y q) (eqb (word w (6 * i + 1)) 1) e where
+    go :
+        (o : Open) → ((x y : ℕ) → o ≡ From x y → word w (6 * x) ≡ word w (6 * i)) → (t : Bool) →
+        cond t (From i (word w (6 * i + 3))) (longer o (word w (6 * i + 3))) ≡ From a g → word w (6 * a) ≡ word w (6 * i)
+    go o h true q = let x : i ≡ a = cc in rw (← x)
+    go Closed h false q = never q
+    go (From x y) h false q = let m : x ≡ a = cc in rw (← m) (h x y refl)
+
   -- and its bytes are counted right
   pub arrive-sound : word w (6 * i + 2) + word w (6 * i + 3) ≤ length f → (a g : ℕ) → nextAt w b live i ≡ From a g → (a ≤ i) × (g ≡ length (since f w (word w (6 * i)) a (i + 1)))
   unfolding nextAt grown longer
@@ -91,7 +103,8 @@ module _
     (f u w : List ℕ) (b live c i n : ℕ) (v : Open)
     (s : Sound f w b live i) (fr : Front n u w) (low : 24 * i + 24 ≤ n)
     (says : (k : ℕ) → openAt u b c k ≡ cond (eqb (word w (6 * i)) k) v (openAt w b live k))
-    (vs : (a g : ℕ) → v ≡ From a g → (a ≤ i) × (g ≡ length (since f w (word w (6 * i)) a (i + 1)))) where
+    (vs : (a g : ℕ) → v ≡ From a g → (a ≤ i) × (g ≡ length (since f w (word w (6 * i)) a (i + 1))))
+    (vo : (a g : ℕ) → v ≡ From a g → word w (6 * a) ≡ word w (6 * i)) where
   since-other : (k a : ℕ) → (word w (6 * i) ≡ k → ⊥) → a ≤ i → since f u k a (i + 1) ≡ since f w k a i
   since-other k a ne h =
       since-front n f u w k a (i + 1) (omega arith) (omega arith) fr ∙ since-snoc f w k a i h ∙ (rw (piece-other f w k i ne, append-nil))
@@ -115,7 +128,17 @@ module _
       (λ e. rw (ne-eqb (word w (6 * i)) k e, ne-eqb k (word w (6 * i)) (λ x. e (sym x))) (held-other k e (openAt w b live k) (λ a g q. s .sound k a g q .0))))
 
   pub next-sound : Sound f u b c (i + 1)
-  next-sound = record { sound = λ k a g e. go k a g (sym (says k) ∙ e) } where
+  next-sound = record { sound = λ k a g e. go k a g (sym (says k) ∙ e); own = λ k a g e. own k a g (sym (says k) ∙ e) } where
+    own : (k a g : ℕ) → cond (eqb (word w (6 * i)) k) v (openAt w b live k) ≡ From a g → word u (6 * a) ≡ k
+    own k a g e =
+        split≡ (word w (6 * i)) k
+        (λ z.
+        let q : v ≡ From a g = (rw (eq-eqb (word w (6 * i)) k z) at e) in
+        front-word n u w (6 * a) (omega (arith, vs a g q .0)) fr ∙ vo a g q ∙ z)
+        (λ z.
+        let q : openAt w b live k ≡ From a g = (rw (ne-eqb (word w (6 * i)) k z) at e) in
+        front-word n u w (6 * a) (omega (arith, s .sound k a g q .0)) fr ∙ s .own k a g q)
+
     go : (k a g : ℕ) → cond (eqb (word w (6 * i)) k) v (openAt w b live k) ≡ From a g → (a ≤ i + 1) × (g ≡ length (since f u k a (i + 1)))
     go k a g e =
         split≡ (word w (6 * i)) k
@@ -150,14 +173,32 @@ record Storing (f w : List ℕ) (q : ℕ) (t : Tables) (i : ℕ) (v : List ℕ) 
   few : 4 * made + paysOf v (2 * q) made + sumOf w (3 * q) (t .live) + y ≤ dataOf w (i + 1) + second (lookup w (3 * q) (t .live) (word w (6 * i)))
   placed : Placed f v (2 * q) made top
   counted : (a g : ℕ) → o ≡ From a g → (a ≤ i) × (g ≡ length (since f w (word w (6 * i)) a (i + 1)))
+  own : (a g : ℕ) → o ≡ From a g → word w (6 * a) ≡ word w (6 * i)
+  beyond : (j : ℕ) → 7 * q ≤ j → word v j ≡ word w j
   list : pdusFrom f v (2 * q) 0 made ≡ pdusFrom f w (2 * q) 0 (t .made) ++ completed (after f w (3 * q) (t .live) i) (packetAt f w i)
   held : heldOf f w (word w (6 * i)) (i + 1) o ≡ stillOpen (after f w (3 * q) (t .live) i)
 
 module _ (f w : List ℕ) (q : ℕ) (t : Tables) (i : ℕ) (p : Step f w q t i) where
-  pub step-arrive : Arrive w (3 * q) (t .live) i
+  small : q ≤ 1048576
+  small = omega (arith, p .tabled .small, p .ready .quarter)
+
+  few : bucketsOf q ≤ q
+  few = buckets-few q (omega (arith, p .tabled .total, p .ready .quarter))
+
+  -- one row more has room, and so has its index
+  stands : Stands w (indexOf q) (t .live + 1)
+  stands = record {
+    rows = omega (arith, p .tabled .total, p .ready .live, p .ready .quarter);
+    chain = omega (arith, p .tabled .total, p .ready .live, p .ready .quarter);
+    room = omega (arith, few, p .tabled .room, p .ready .quarter);
+    some = buckets-some q;
+    few = omega (arith, p .tabled .total, p .tabled .small, p .ready .live);
+  }
+
+  pub step-arrive : Arrive w q (t .live) i
   step-arrive = record {
     low = omega (arith, p .tabled .total, p .tabled .room);
-    room = omega (arith, p .tabled .total, p .tabled .room, p .ready .live, p .ready .quarter);
+    look = record { seek = record { stands = stands-less w (indexOf q) (t .live + 1) (t .live) (omega arith) stands; indexed = p .ready .indexed }; small = small };
     sums = omega (arith, p .tabled .total, p .tabled .small, p .ready .few, data-next w i);
   }
 
@@ -166,10 +207,10 @@ module _ (f w : List ℕ) (q : ℕ) (t : Tables) (i : ℕ) (p : Step f w q t i) 
 
   step-row :
       (v : List ℕ) (made top : ℕ) (o : Open) (x y : ℕ) → Storing f w q t i v made top o y → asOpen (row x y) ≡ o →
-      (key k : ℕ) → key ≡ word w (6 * i) → k ≡ key → (u : List ℕ) (c : ℕ) → Stored v (3 * q) (t .live) k x y u c →
+      (key : ℕ) → key ≡ word w (6 * i) → (u : List ℕ) (c : ℕ) → Entered v (indexOf q) (t .live) key x y u c →
       Stepped f w q t i u (record { live = c; made = made; top = top })
-  step-row v made top o x y b oe key k ke kk u c so₀ =
-      let so : Stored v (3 * q) (t .live) (word w (6 * i)) x y u c = (rw (kk ∙ ke) at so₀) in
+  step-row v made top o x y b oe key ke u c en =
+      let so : Stored v (3 * q) (t .live) (word w (6 * i)) x y u c = (rw ke at (en .stored)) in
       let lk : (j : ℕ) → lookup v (3 * q) (t .live) j ≡ lookup w (3 * q) (t .live) j = (λ j. lookup-agree v w (3 * q) (t .live) j (b .rows)) in
       let says : (j : ℕ) → openAt u (3 * q) c j ≡ cond (eqb (word w (6 * i)) j) o (openAt w (3 * q) (t .live) j) =
       (λ j. stored-open v w u (3 * q) (t .live) (word w (6 * i)) x y c lk so j ∙ rw oe) in
@@ -189,13 +230,15 @@ module _ (f w : List ℕ) (q : ℕ) (t : Tables) (i : ℕ) (p : Step f w q t i) 
           bump = b .bump;
           ends = rw py (b .ends);
           few = rw (py, dt) (omega (arith, sum, b .few));
-          sound = next-sound f u w (3 * q) (t .live) c i (4 * q) o (p .ready .sound) frn low says (b .counted);
+          sound = next-sound f u w (3 * q) (t .live) c i (4 * q) o (p .ready .sound) frn low says (b .counted) (b .own);
+          indexed = en .indexed;
           placed = placed-agree f u v (2 * q) made top top (omega arith) ag (b .placed);
         };
         front = frn;
+        beyond = λ j h. en .beyond j (omega (arith, h, few)) ∙ b .beyond j h;
         size = so .size ∙ b .size;
         list = pdus-agree f u v (2 * q) 0 made made top (omega arith) ag frt (b .placed) ∙ b .list;
-        map = next-map f u w (3 * q) (t .live) c i (4 * q) o (p .ready .sound) frn low says (b .counted) ∙ rw (b .held, number-at f w i);
+        map = next-map f u w (3 * q) (t .live) c i (4 * q) o (p .ready .sound) frn low says (b .counted) (b .own) ∙ rw (b .held, number-at f w i);
       }
 
   -- a continuation of nothing
@@ -208,6 +251,7 @@ module _ (f w : List ℕ) (q : ℕ) (t : Tables) (i : ℕ) (p : Step f w q t i) 
       let says : (j : ℕ) → openAt w (3 * q) (t .live) j ≡ cond (eqb k j) Closed (openAt w (3 * q) (t .live) j) =
       (λ j. split≡ k j (λ z. rw (eq-eqb k j z) (ap (openAt w (3 * q) (t .live)) (sym z) ∙ no)) (λ z. rw (ne-eqb k j z))) in
       let vs : (a g : ℕ) → Closed ≡ From a g → (a ≤ i) × (g ≡ length (since f w k a (i + 1))) = (λ a g x. never x) in
+      let vo : (a g : ℕ) → Closed ≡ From a g → word w (6 * a) ≡ k = (λ a g x. never x) in
       record {
         ready = record {
           quarter = p .ready .quarter;
@@ -216,21 +260,26 @@ module _ (f w : List ℕ) (q : ℕ) (t : Tables) (i : ℕ) (p : Step f w q t i) 
           bump = p .ready .bump;
           ends = p .ready .ends;
           few = omega (arith, p .ready .few, data-next w i);
-          sound = next-sound f w w (3 * q) (t .live) (t .live) i (4 * q) Closed (p .ready .sound) (front-refl (4 * q) w) low says vs;
+          sound = next-sound f w w (3 * q) (t .live) (t .live) i (4 * q) Closed (p .ready .sound) (front-refl (4 * q) w) low says vs vo;
+          indexed = p .ready .indexed;
           placed = p .ready .placed;
         };
         front = front-refl (4 * q) w;
+        beyond = λ j h. refl;
         size = refl;
         list = sym (rw (← hn) (append-nil (pdusFrom f w (2 * q) 0 (t .made))));
-        map = next-map f w w (3 * q) (t .live) (t .live) i (4 * q) Closed (p .ready .sound) (front-refl (4 * q) w) low says vs ∙ rw (← hn, number-at f w i);
+        map = next-map f w w (3 * q) (t .live) (t .live) i (4 * q) Closed (p .ready .sound) (front-refl (4 * q) w) low says vs vo ∙ rw (← hn, number-at f w i);
       }
 
   module _ (first got : ℕ) (e : nextAt w (3 * q) (t .live) i ≡ From first got) where
     pub step-first : (first ≤ i) × (got ≡ length (since f w (word w (6 * i)) first (i + 1)))
     step-first = arrive-sound f w (3 * q) (t .live) i (p .ready .sound) (p .tabled .fits .fits i (omega arith)) first got e
 
-    pub step-walk : Walk f w first (i + 1)
-    step-walk = record { tabled = p .tabled; before = omega (arith, step-first .0) }
+    step-own : word w (6 * first) ≡ word w (6 * i)
+    step-own = arrive-own f w (3 * q) (t .live) i (p .ready .sound) first got e
+
+    pub step-walk : (key : ℕ) → key ≡ word w (6 * i) → Walk f w q first (i + 1) key
+    step-walk key ke = record { tabled = p .tabled; quarter = p .ready .quarter; linked = p .linked; before = omega (arith, step-first .0); own = step-own ∙ sym ke }
 
     held-next : some (since f w (word w (6 * i)) first (i + 1)) ≡ after f w (3 * q) (t .live) i
     unfolding heldOf
@@ -246,9 +295,9 @@ module _ (f w : List ℕ) (q : ℕ) (t : Tables) (i : ℕ) (p : Step f w q t i) 
     pub step-narrow : (first + 1 ≤ 1048576) × (got ≤ 1048576)
     step-narrow = (omega (arith, step-first .0, p .tabled .total, p .tabled .small), omega (arith, step-small, p .tabled .total, p .tabled .small))
 
-    pub step-finish : (key need : ℕ) → key ≡ word w (6 * i) → Need (since f w key first (i + 1)) got need → need ≤ got → Finish f w (2 * q) (t .made) (t .top) i first need
+    pub step-finish : (key need : ℕ) → key ≡ word w (6 * i) → Need (since f w key first (i + 1)) got need → need ≤ got → Finish f w q (t .made) (t .top) i first need
     step-finish key need ke ni le = record {
-      tabled = p .tabled;
+      walk = step-walk (word w (6 * i)) refl;
       low = omega (arith, p .tabled .total, p .ready .quarter, p .ready .bump);
       mid = omega (arith, p .ready .ends, step-small, p .tabled .total, p .ready .quarter);
       room = omega (arith, p .ready .made, p .tabled .total, p .tabled .room, p .ready .quarter);
@@ -259,13 +308,30 @@ module _ (f w : List ℕ) (q : ℕ) (t : Tables) (i : ℕ) (p : Step f w q t i) 
       placed = p .ready .placed;
     }
 
+    pub hold-open : SetOpen w q (t .live)
+    hold-open = record { enter = record { stands = stands; indexed = p .ready .indexed }; small = small }
+
+    -- the PDU's end is written below the open rows
+    pub full-open : (need : ℕ) (v : List ℕ) (top : ℕ) → Finished f w (2 * q) (t .made) (t .top) i first need v top → SetOpen v q (t .live)
+    full-open need v top fin =
+        let up : (j : ℕ) → 3 * q ≤ j → word v j ≡ word w j = (λ j h. fin .above j (omega (arith, p .ready .made, p .tabled .total, p .ready .quarter))) in
+        record {
+          enter = record {
+            stands = record { rows = stands .rows; chain = stands .chain; room = rw (fin .size) (stands .room); some = stands .some; few = stands .few };
+            indexed = indexed-agree v w (indexOf q) (t .live) (omega arith)
+                (λ j h. long-agree v w (3 * q + 4 * j) (up (3 * q + 4 * j) (omega arith)) (up (3 * q + 4 * j + 1) (omega arith)))
+                (λ j lo hi. up j (omega arith)) (omega (arith, stands .chain)) (p .ready .indexed);
+          };
+          small = small;
+        }
+
     -- the PDU is not complete
     pub step-hold :
         (key need : ℕ) → key ≡ word w (6 * i) → Need (since f w key first (i + 1)) got need → got < need →
-        (k x y : ℕ) → k ≡ key → x ≡ first + 1 → y ≡ got → (u : List ℕ) (c : ℕ) → Stored w (3 * q) (t .live) k x y u c →
+        (x y : ℕ) → x ≡ first + 1 → y ≡ got → (u : List ℕ) (c : ℕ) → Entered w (indexOf q) (t .live) key x y u c →
         Stepped f w q t i u (record { live = c; made = t .made; top = t .top })
     unfolding heldOf stillOpen completed isComplete
-    step-hold key need ke ni lt k x y kk xe ye u c so =
+    step-hold key need ke ni lt x y xe ye u c en =
         let s = step-first in
         let B : List ℕ = since f w (word w (6 * i)) first (i + 1) in
         let cmp : leb (4 + le16 B 0) (length B) ≡ false = lt-leb (4 + le16 B 0) (length B) (let g : got < 4 + le16 B 0 = (rw ke at (ni .short lt)) in omega (arith, s .1)) in
@@ -280,18 +346,20 @@ module _ (f w : List ℕ) (q : ℕ) (t : Tables) (i : ℕ) (p : Step f w q t i) 
           few = omega (arith, step-got);
           placed = p .ready .placed;
           counted = λ a g z. let m : first ≡ a = cc in let n : got ≡ g = cc in rw (← m, ← n) s;
+          own = λ a g z. let m : first ≡ a = cc in rw (← m) step-own;
+          beyond = λ j h. refl;
           list = sym (rw (← held-next, cmp) (append-nil (pdusFrom f w (2 * q) 0 (t .made))));
           held = rw (← held-next, cmp);
-        }) va key k ke kk u c so
+        }) va key ke u c en
 
     -- the PDU is complete
     pub step-full :
         (key need : ℕ) → key ≡ word w (6 * i) → Need (since f w key first (i + 1)) got need → need ≤ got →
         (v : List ℕ) (top : ℕ) → Finished f w (2 * q) (t .made) (t .top) i first need v top →
-        (k : ℕ) → k ≡ key → (u : List ℕ) (c : ℕ) → Stored v (3 * q) (t .live) k 0 0 u c →
+        (u : List ℕ) (c : ℕ) → Entered v (indexOf q) (t .live) key 0 0 u c →
         Stepped f w q t i u (record { live = c; made = t .made + 1; top = top })
     unfolding heldOf stillOpen completed isComplete
-    step-full key need ke ni le v top fin k kk u c so =
+    step-full key need ke ni le v top fin u c en =
         let s = step-first in
         let B : List ℕ = since f w (word w (6 * i)) first (i + 1) in
         let nb : need ≡ 4 + le16 B 0 = (rw ke at (ni .enough le)) in
@@ -306,6 +374,8 @@ module _ (f w : List ℕ) (q : ℕ) (t : Tables) (i : ℕ) (p : Step f w q t i) 
           few = omega (arith, fin .pays, step-got);
           placed = fin .placed;
           counted = λ a g z. never z;
+          own = λ a g z. never z;
+          beyond = λ j h. fin .above j (omega (arith, h, p .ready .made, p .tabled .total, p .ready .quarter));
           list = fin .list ∙ rw (← held-next, cmp);
           held = rw (← held-next, cmp);
-        }) (as-zero 0 0 refl) key k ke kk u c so
+        }) (as-zero 0 0 refl) key ke u c en

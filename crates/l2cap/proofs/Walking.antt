@@ -1,18 +1,20 @@
 -- The packets are walked again: what they bring to a key, a byte of it, and the bytes joined.
 use mathlib.Core.Path.{_≡_, refl, sym, ap, _∙_}
 use mathlib.Core.List.{List, [], _∷_, _++_, append-assoc, append-nil}
-use Prim.Native.Nat.{ℕ, zero, suc, _+_, _-_, _*_, _<_, _≤_, min}
+use Prim.Native.Nat.{ℕ, zero, suc, _+_, _-_, _*_, _/_, _<_, _≤_, min}
 use native.Mathlib.Omega.{arith}
-use lib.ListN.{length, getD, take, drop, length-take, length-drop, List·getD-append}
-use lib.Seq.{length-take-le, take-all, take-nil, take-take, getD-append-add, getD-take, getD-drop}
+use lib.ListN.{length, getD, set, take, drop, length-take, length-drop, List·getD-append}
+use lib.Seq.{sets, getD-set-other, length-take-le, take-all, take-nil, take-take, getD-append-add, getD-take, getD-drop}
 use borrow.Author.Tests.{eq-eqb, ne-eqb}
 use Rattle.laws.specs.Choice.{split≡, split≤}
-use Rattle.laws.specs.Stores.{Writes, Emitting, emit-start, emit-turn, emit-end}
-use Rattle.words.specs.Words.{word}
+use Rattle.laws.specs.Stores.{Writes, writes-long, Emitting, emit-start, emit-turn, emit-end}
+use native.Mathlib.Numerals.{add-one}
+use Rattle.words.specs.Words.{word, word-of-bytes}
 use Rattle.words.specs.Front.{Front, front-then, front-sets, front-refl}
 use Rattle.btsnoop.specs.Packets.{Packet}
 use Rattle.btsnoop.specs.PacketTable.{packetAt, packetsFrom}
 use Rattle.btsnoop.specs.PacketFrames.{packets-next, packets-none, packets-snoc, packet-front, packets-front, tabled-less, tabled-front}
+use Rattle.l2cap.specs.Links.{soonest, soonest-from, soonest-bucket, soonest-skip, Linked, Next}
 use Rattle.l2cap.specs.Steps.{numberOf, pieceOf, gathered, since, brought, Walk, Paste, Gather}
 
 -- ---- one packet
@@ -92,31 +94,74 @@ pub since-front : (n : ℕ) (f u w : List ℕ) (k i upto : ℕ) → 24 * upto �
 unfolding since
 since-front n f u w k i upto h l a = ap (gathered k) (packets-front n f u w i (upto - i) (omega arith) a)
 
+-- ---- from a packet to the next of its bucket
+
+module _ (w : List ℕ) (q upto : ℕ) (l : Linked w q upto) (i : ℕ) where
+  link-is : i < upto → word w (7 * q + i) ≡ suc (soonest (λ j. l .bucket (word w (6 * j))) (l .bucket (word w (6 * i))) (suc i) (l .count - suc i))
+  link-is h = l .next i (omega (arith, l .most))
+
+  pub link-some : i < upto → 0 < word w (7 * q + i)
+  link-some h = rw (link-is h) (omega arith)
+
+  module _ (r : ℕ) (h : i < upto) (e : word w (7 * q + i) ≡ r + 1) where
+    link-to : r ≡ soonest (λ j. l .bucket (word w (6 * j))) (l .bucket (word w (6 * i))) (suc i) (l .count - suc i)
+    link-to = let z : r + 1 ≡ suc (soonest (λ j. l .bucket (word w (6 * j))) (l .bucket (word w (6 * i))) (suc i) (l .count - suc i)) = sym e ∙ link-is h in omega (arith, z)
+
+    pub link-more : i < r
+    link-more = omega (arith, link-to, soonest-from (λ j. l .bucket (word w (6 * j))) (l .bucket (word w (6 * i))) (suc i) (l .count - suc i))
+
+    pub link-bucket : (k : ℕ) → l .bucket (word w (6 * i)) ≡ k → r < upto → l .bucket (word w (6 * r)) ≡ k
+    link-bucket k m u = rw link-to (soonest-bucket (λ j. l .bucket (word w (6 * j))) (l .bucket (word w (6 * i))) (suc i) (l .count - suc i) (rw (← link-to) (omega (arith, l .most)))) ∙ m
+
+-- packets in between do not have the key
+pub since-jump :
+    (f w : List ℕ) (q upto key : ℕ) (l : Linked w q upto) (i r : ℕ) → i < upto → word w (7 * q + i) ≡ r + 1 → l .bucket (word w (6 * i)) ≡ l .bucket key →
+    since f w key (i + 1) upto ≡ since f w key r upto
+since-jump f w q upto key l i r h e m =
+    rw (link-to w q upto l i r h e, add-one)
+    (soonest-skip (λ j. since f w key j upto) (λ j. l .bucket (word w (6 * j))) (l .bucket (word w (6 * i))) (suc i) (l .count - suc i) skip) where
+      skip : (j : ℕ) → (l .bucket (word w (6 * j)) ≡ l .bucket (word w (6 * i)) → ⊥) → since f w key j upto ≡ since f w key (suc j) upto
+      skip j n =
+          split≤ upto j
+          (λ u. since-stop f w key j upto u ∙ sym (since-stop f w key (suc j) upto (omega arith)))
+          (λ u. since-cons f w key j upto u ∙ rw (piece-other f w key j (λ x. n (ap (l .bucket) x ∙ sym m)), add-one))
+
 -- ---- a byte of what a key has
 
 past : (a b : List ℕ) (j : ℕ) → length a ≤ j → getD (a ++ b) j 0 ≡ getD b (j - length a) 0
 past a b j h = let z : length a + (j - length a) ≡ j = omega arith in rw z at (getD-append-add a b (j - length a) 0)
 
-pub record Seeking (f w : List ℕ) (key first upto at i j : ℕ) : Type 0 where
-  pub within : i ≤ upto
+pub record Seeking (f w : List ℕ) (q first upto key at i j : ℕ) : Type 0 where
+  pub linked : Linked w q upto
+  pub mine : i < upto → linked .bucket (word w (6 * i)) ≡ linked .bucket key
   pub less : j ≤ at
   pub same : getD (since f w key i upto) j 0 ≡ getD (since f w key first upto) at 0
 
-module _ (f w : List ℕ) (key first upto at : ℕ) (pre : Walk f w first upto) where
-  pub seek-start : Seeking f w key first upto at first at
-  seek-start = record { within = pre .before; less = omega arith; same = refl }
+module _ (f w : List ℕ) (q first upto key at : ℕ) (pre : Walk f w q first upto key) where
+  pub seek-start : Seeking f w q first upto key at first at
+  seek-start = record { linked = pre .linked; mine = λ h. ap (pre .linked .bucket) (pre .own); less = omega arith; same = refl }
 
-  module _ (i j : ℕ) (s : Seeking f w key first upto at i j) where
+  module _ (i j : ℕ) (s : Seeking f w q first upto key at i j) where
+    pub seek-row : i < upto → 24 * i + 24 ≤ length w
+    seek-row h = omega (arith, pre .tabled .total, pre .tabled .room)
+
+    pub seek-next : i < upto → Next w q i
+    seek-next h = record { room = omega (arith, pre .quarter, pre .tabled .total, pre .tabled .room); some = link-some w q upto (s .linked) i h }
+
+    pub seek-more : i < upto → (r : ℕ) → word w (7 * q + i) ≡ r + 1 → i < r
+    seek-more h r e = link-more w q upto (s .linked) i r h e
+
     piece-size : (n : ℕ) → n ≡ brought w key i → i < upto → length (pieceOf key (packetAt f w i)) ≡ n
     piece-size n e h = piece-length f w key i (pre .tabled .fits .fits i h) ∙ sym e
 
-    pub seek-turn : (n : ℕ) → n ≡ brought w key i → i < upto → n ≤ j → Seeking f w key first upto at (i + 1) (j - n)
-    seek-turn n e h l =
+    pub seek-turn : (n : ℕ) → n ≡ brought w key i → i < upto → n ≤ j → (r : ℕ) → word w (7 * q + i) ≡ r + 1 → Seeking f w q first upto key at r (j - n)
+    seek-turn n e h l r ne =
         let p : length (pieceOf key (packetAt f w i)) ≡ n = piece-size n e h in
         record {
-          within = omega arith;
+          linked = s .linked;
+          mine = link-bucket w q upto (s .linked) i r h ne (s .linked .bucket key) (s .mine h);
           less = omega (arith, s .less);
-          same = sym (rw (since-cons f w key i upto h, past (pieceOf key (packetAt f w i)) (since f w key (i + 1) upto) j (omega arith), p)) ∙ s .same;
+          same = ap (λ (x : List ℕ). getD x (j - n) 0) (sym (since-jump f w q upto key (s .linked) i r h ne (s .mine h))) ∙ sym (rw (since-cons f w key i upto h, past (pieceOf key (packetAt f w i)) (since f w key (i + 1) upto) j (omega arith), p)) ∙ s .same;
         }
 
     pub seek-inside : (n x r : ℕ) → n ≡ brought w key i → i < upto → j < n → x ≡ word w (6 * i + 2) → r ≡ x → r + j < length f
@@ -157,43 +202,82 @@ take-app zero a b = let z : 0 - length a ≡ 0 = omega arith in rw z
 take-app (suc n) [] b = let z : suc n - 0 ≡ suc n = omega arith in rw z
 take-app (suc n) (x ∷ a) b = let z : suc n - suc (length a) ≡ n - length a = omega arith in rw (z, take-app n a b)
 
-pub record Gathering (f w₀ : List ℕ) (key first upto need to : ℕ) (w : List ℕ) (i pos : ℕ) : Type 0 where
-  pub within : i ≤ upto
+byte-behind : (vs w : List ℕ) (at k : ℕ) → at + length vs ≤ k → getD (sets w at vs) k 0 ≡ getD w k 0
+byte-behind [] w at k h = refl
+byte-behind (x ∷ vs) w at k h =
+    byte-behind vs (set w at x) (suc at) k (omega arith) ∙ getD-set-other w at k x 0 (λ e. omega arith)
+
+-- a run of stores leaves the words behind it
+pub word-behind : (vs w : List ℕ) (at j : ℕ) → at + length vs ≤ 4 * j → word (sets w at vs) j ≡ word w j
+word-behind vs w at j h = word-of-bytes (sets w at vs) w j (λ k lo hi. byte-behind vs w at k (omega arith))
+
+pub record Gathering (f w₀ : List ℕ) (q first upto key need to : ℕ) (w : List ℕ) (i pos : ℕ) : Type 0 where
+  pub linked : Linked w₀ q upto
+  pub mine : i < upto → linked .bucket (word w₀ (6 * i)) ≡ linked .bucket key
   pub low : to ≤ pos
   pub ends : pos ≤ to + need
   pub front : Front (24 * upto) w w₀
+  pub behind : (j : ℕ) → to + need ≤ 4 * j → word w j ≡ word w₀ j
   pub emits : Emitting w₀ to (take need (since f w₀ key first upto)) w pos (take (to + need - pos) (since f w₀ key i upto))
 
-module _ (f w₀ : List ℕ) (key first upto need to : ℕ) (pre : Gather f w₀ first upto need to) where
-  pub gather-start : Gathering f w₀ key first upto need to w₀ first to
+module _ (f w₀ : List ℕ) (q first upto key need to : ℕ) (pre : Gather f w₀ q first upto key need to) where
+  pub gather-start : Gathering f w₀ q first upto key need to w₀ first to
   gather-start =
       let z : to + need - to ≡ need = omega arith in
-      record { within = pre .before; low = omega arith; ends = omega arith; front = front-refl (24 * upto) w₀; emits = rw z (emit-start w₀ to (take need (since f w₀ key first upto))) }
+      record {
+        linked = pre .walk .linked;
+        mine = λ h. ap (pre .walk .linked .bucket) (pre .walk .own);
+        low = omega arith;
+        ends = omega arith;
+        front = front-refl (24 * upto) w₀;
+        behind = λ j h. refl;
+        emits = rw z (emit-start w₀ to (take need (since f w₀ key first upto)));
+      }
 
-  module _ (w : List ℕ) (i pos : ℕ) (g : Gathering f w₀ key first upto need to w i pos) where
+  module _ (w : List ℕ) (i pos : ℕ) (g : Gathering f w₀ q first upto key need to w i pos) where
     pub gather-paste : i < upto → Paste f w i (to + need - pos) pos
     gather-paste h = record {
-      tabled = tabled-less f w (i + 1) upto (omega arith) (tabled-front (24 * upto) f w w₀ upto (omega arith) (g .front) (g .emits .long) (pre .tabled));
+      tabled = tabled-less f w (i + 1) upto (omega arith) (tabled-front (24 * upto) f w w₀ upto (omega arith) (g .front) (g .emits .long) (pre .walk .tabled));
       room = omega (arith, pre .room, g .ends, g .emits .long);
     }
 
-    pub gather-turn : i < upto → (r : ℕ) (u : List ℕ) → Writes w pos (take (to + need - pos) (pieceOf key (packetAt f w i))) r u → Gathering f w₀ key first upto need to u (i + 1) r
-    gather-turn h r u v =
-        let left : ℕ = to + need - pos in
-        let a : List ℕ = pieceOf key (packetAt f w₀ i) in
-        let pk : packetAt f w i ≡ packetAt f w₀ i = packet-front (24 * upto) f w w₀ i (omega arith) (g .front) in
-        let v₀ : Writes w pos (take left a) r u = (rw pk at v) in
-        let la : length (take left a) ≡ min left (length a) = length-take left a in
-        let lf : left - length a ≡ to + need - r = omega (arith, v₀ .next, g .ends) in
-        let eq : take left (since f w₀ key i upto) ≡ take left a ++ take (to + need - r) (since f w₀ key (i + 1) upto) =
-        ap (take left) (since-cons f w₀ key i upto h) ∙ take-app left a (since f w₀ key (i + 1) upto) ∙ rw lf in
-        record {
-          within = omega arith;
-          low = omega (arith, v₀ .next, g .low);
-          ends = omega (arith, v₀ .next, g .ends);
-          front = front-then (24 * upto) u w w₀ (rw (v₀ .writes) (front-sets (24 * upto) (take left a) w pos (omega (arith, pre .low, g .low)))) (g .front);
-          emits = emit-turn w₀ to (take need (since f w₀ key first upto)) w pos (take left (since f w₀ key i upto)) (g .emits) (take left a) (take (to + need - r) (since f w₀ key (i + 1) upto)) r u eq v₀;
-        }
+    module _ (h : i < upto) (r : ℕ) (u : List ℕ) (v : Writes w pos (take (to + need - pos) (pieceOf key (packetAt f w i))) r u) where
+      wrote : Writes w pos (take (to + need - pos) (pieceOf key (packetAt f w₀ i))) r u
+      wrote = rw (packet-front (24 * upto) f w w₀ i (omega arith) (g .front)) at v
+
+      short : length (take (to + need - pos) (pieceOf key (packetAt f w₀ i))) ≡ min (to + need - pos) (length (pieceOf key (packetAt f w₀ i)))
+      short = length-take (to + need - pos) (pieceOf key (packetAt f w₀ i))
+
+      behind₁ : (j : ℕ) → to + need ≤ 4 * j → word u j ≡ word w₀ j
+      behind₁ j l = rw (wrote .writes) (word-behind (take (to + need - pos) (pieceOf key (packetAt f w₀ i))) w pos j (omega (arith, short, g .ends))) ∙ g .behind j l
+
+      link₁ : word u (7 * q + i) ≡ word w₀ (7 * q + i)
+      link₁ = behind₁ (7 * q + i) (omega (arith, pre .high))
+
+      pub gather-next : Next u q i
+      gather-next = record {
+        room = omega (arith, writes-long w pos (take (to + need - pos) (pieceOf key (packetAt f w i))) r u v, g .emits .long, pre .walk .quarter, pre .walk .tabled .total, pre .walk .tabled .room);
+        some = rw link₁ (link-some w₀ q upto (g .linked) i h);
+      }
+
+      module _ (x : ℕ) (e : word u (7 * q + i) ≡ x + 1) where
+        pub gather-more : i < x
+        gather-more = link-more w₀ q upto (g .linked) i x h (sym link₁ ∙ e)
+
+        pub gather-turn : Gathering f w₀ q first upto key need to u x r
+        gather-turn =
+            let lf : to + need - pos - length (pieceOf key (packetAt f w₀ i)) ≡ to + need - r = omega (arith, wrote .next, short, g .ends) in
+            let eq : take (to + need - pos) (since f w₀ key i upto) ≡ take (to + need - pos) (pieceOf key (packetAt f w₀ i)) ++ take (to + need - r) (since f w₀ key x upto) =
+            ap (take (to + need - pos)) (since-cons f w₀ key i upto h ∙ rw (since-jump f w₀ q upto key (g .linked) i x h (sym link₁ ∙ e) (g .mine h))) ∙ take-app (to + need - pos) (pieceOf key (packetAt f w₀ i)) (since f w₀ key x upto) ∙ rw lf in
+            record {
+              linked = g .linked;
+              mine = link-bucket w₀ q upto (g .linked) i x h (sym link₁ ∙ e) (g .linked .bucket key) (g .mine h);
+              low = omega (arith, wrote .next, g .low);
+              ends = omega (arith, wrote .next, short, g .ends);
+              front = front-then (24 * upto) u w w₀ (rw (wrote .writes) (front-sets (24 * upto) (take (to + need - pos) (pieceOf key (packetAt f w₀ i))) w pos (omega (arith, pre .low, g .low)))) (g .front);
+              behind = behind₁;
+              emits = emit-turn w₀ to (take need (since f w₀ key first upto)) w pos (take (to + need - pos) (since f w₀ key i upto)) (g .emits) (take (to + need - pos) (pieceOf key (packetAt f w₀ i))) (take (to + need - r) (since f w₀ key x upto)) r u eq wrote;
+            }
 
     pub gather-end : upto ≤ i → Writes w₀ to (take need (since f w₀ key first upto)) pos w
     gather-end h = emit-end w₀ to (take need (since f w₀ key first upto)) w pos (take (to + need - pos) (since f w₀ key i upto)) (g .emits) (rw (since-stop f w₀ key i upto h) (take-nil (to + need - pos)))

@@ -5,17 +5,20 @@ use mathlib.Core.Bool.{cond}
 use mathlib.Core.List.{List, [], _∷_, _++_}
 use mathlib.Core.Option.{Option, none, some}
 use lib.ListN.{length}
-use lib.Dec.{eqb}
+use lib.Dec.{eqb, ltb}
 use Rattle.laws.specs.Numbers.{le16}
 use Rattle.words.specs.Words.{word, putWord}
 use Rattle.words.specs.Front.{Front}
 use Rattle.table.specs.Table.{Slot, none as no-row, some as row, lookup, sumOf}
+use Rattle.table.specs.Index.{Indexed, SeekPre, EnterPre}
+use Rattle.table.specs.declared.Index.{Index}
 use Rattle.btsnoop.specs.Packets.{Packet}
 use Rattle.btsnoop.specs.PacketTable.{packetAt, packetsFrom, dataOf, Tabled}
 use Rattle.l2cap.specs.Pdus.{joined, stillOpen, completed, pduOf}
 use Rattle.l2cap.specs.PduTable.{pdusFrom, paysOf}
 use Rattle.l2cap.specs.PduFrames.{Placed}
 use Rattle.l2cap.specs.Rekeyed.{putBy}
+use Rattle.l2cap.specs.Links.{Linked}
 use Rattle.l2cap.specs.declared.Open.{Open}
 use Rattle.l2cap.specs.declared.Open.the-variants.{Closed, From}
 use Rattle.l2cap.specs.declared.Tables.{Tables}
@@ -41,18 +44,22 @@ since f w k first upto = gathered k (packetsFrom f w first (upto - first))
 unfoldable pub brought : List ℕ → ℕ → ℕ → ℕ
 brought w k i = cond (eqb (word w (6 * i)) k) (word w (6 * i + 3)) 0
 
-pub record Walk (f w : List ℕ) (first upto : ℕ) : Type 0 where
+-- the packets are linked, and the first has the key
+pub record Walk (f w : List ℕ) (q first upto key : ℕ) : Type 0 where
   pub tabled : Tabled f w upto
+  pub quarter : q ≡ length f / 4
+  pub linked : Linked w q upto
   pub before : first ≤ upto
+  pub own : word w (6 * first) ≡ key
 
 pub record Paste (f w : List ℕ) (i left to : ℕ) : Type 0 where
   pub tabled : Tabled f w (i + 1)
   pub room : to + left ≤ length w
 
-pub record Gather (f w : List ℕ) (first upto need to : ℕ) : Type 0 where
-  pub tabled : Tabled f w upto
-  pub before : first ≤ upto
+pub record Gather (f w : List ℕ) (q first upto key need to : ℕ) : Type 0 where
+  pub walk : Walk f w q first upto key
   pub low : 24 * upto ≤ to
+  pub high : to + need ≤ 28 * q
   pub room : to + need ≤ length w
 
 -- r bytes make the PDU complete whose bytes so far are B, got of them
@@ -61,6 +68,14 @@ pub record Need (B : List ℕ) (got r : ℕ) : Type 0 where
   pub short : got < r → got < 4 + le16 B 0
 
 -- ---- what is open
+
+-- how many buckets there are, with q a quarter of the file's length
+unfoldable pub bucketsOf : ℕ → ℕ
+bucketsOf q = cond (ltb q 4096) 1 4096
+
+-- where the open PDUs stand and their index
+abbrev pub indexOf : ℕ → Index
+indexOf q = record { rows = 3 * q; chain = 5 * q; heads = 6 * q; m = bucketsOf q }
 
 -- a row holds the number of the first packet and one more, or 0 if nothing is open, and the bytes so far
 unfoldable pub asOpen : Slot → Open
@@ -85,10 +100,18 @@ nextAt w b live i = grown (word w (6 * i + 1)) (openAt w b live (word w (6 * i))
 pub record Small (o : Open) (n : ℕ) : Type 0 where
   pub small : (a g : ℕ) → o ≡ From a g → g + n ≤ 67108864
 
-pub record Arrive (w : List ℕ) (b live i : ℕ) : Type 0 where
+pub record Look (w : List ℕ) (q live : ℕ) : Type 0 where
+  pub seek : SeekPre w (indexOf q) live
+  pub small : q ≤ 1048576
+
+pub record SetOpen (w : List ℕ) (q live : ℕ) : Type 0 where
+  pub enter : EnterPre w (indexOf q) live
+  pub small : q ≤ 1048576
+
+pub record Arrive (w : List ℕ) (q live i : ℕ) : Type 0 where
   pub low : 24 * i + 24 ≤ length w
-  pub room : 4 * (b + 4 * live) ≤ length w
-  pub sums : sumOf w b live + word w (6 * i + 3) ≤ 67108864
+  pub look : Look w q live
+  pub sums : sumOf w (3 * q) live + word w (6 * i + 3) ≤ 67108864
 
 -- ---- a PDU's row
 
@@ -105,16 +128,16 @@ pub record PutPdu (w : List ℕ) (at s l : ℕ) : Type 0 where
   pub start : s < 4294967296
   pub len : l < 4294967296
 
-pub record Finish (f w : List ℕ) (b made top i first need : ℕ) : Type 0 where
-  pub tabled : Tabled f w (i + 1)
+pub record Finish (f w : List ℕ) (q made top i first need : ℕ) : Type 0 where
+  pub walk : Walk f w q first (i + 1) (word w (6 * i))
   pub low : 24 * i + 24 ≤ top
-  pub mid : top + need ≤ 4 * b
-  pub room : 4 * (b + 7 * made) + 28 ≤ length w
-  pub small : b + 7 * made ≤ 16777216
+  pub mid : top + need ≤ 4 * (2 * q)
+  pub room : 4 * (2 * q + 7 * made) + 28 ≤ length w
+  pub small : 2 * q + 7 * made ≤ 16777216
   pub before : first ≤ i
   pub needs : need ≡ 4 + le16 (since f w (word w (6 * i)) first (i + 1)) 0
   pub there : need ≤ length (since f w (word w (6 * i)) first (i + 1))
-  pub placed : Placed f w b made top
+  pub placed : Placed f w (2 * q) made top
 
 pub record Finished (f w : List ℕ) (b made top i first need : ℕ) (u : List ℕ) (r : ℕ) : Type 0 where
   pub list : pdusFrom f u b 0 (made + 1) ≡ pdusFrom f w b 0 made ++ (pduOf (since f w (word w (6 * i)) first (i + 1)) (packetAt f w i) ∷ [])
@@ -137,9 +160,10 @@ heldOf f w k upto (From a g) = some (since f w k a upto)
 unfoldable pub mapOf : List ℕ → List ℕ → ℕ → ℕ → ℕ → ℕ → Option (List ℕ)
 mapOf f w b live i k = heldOf f w k i (openAt w b live k)
 
--- the bytes so far are counted right
+-- the bytes so far are counted right, from a packet of the key on
 pub record Sound (f w : List ℕ) (b live i : ℕ) : Type 0 where
   pub sound : (k a g : ℕ) → openAt w b live k ≡ From a g → (a ≤ i) × (g ≡ length (since f w k a i))
+  pub own : (k a g : ℕ) → openAt w b live k ≡ From a g → word w (6 * a) ≡ k
 
 -- i packets are read. Every data byte is in one open PDU or one made, or dropped: so all areas have room.
 pub record Ready (f w : List ℕ) (q : ℕ) (t : Tables) (i : ℕ) : Type 0 where
@@ -150,11 +174,13 @@ pub record Ready (f w : List ℕ) (q : ℕ) (t : Tables) (i : ℕ) : Type 0 wher
   pub ends : t .top ≤ 4 * q + 4 * t .made + paysOf w (2 * q) (t .made)
   pub few : 4 * t .made + paysOf w (2 * q) (t .made) + sumOf w (3 * q) (t .live) ≤ dataOf w i
   pub sound : Sound f w (3 * q) (t .live) i
+  pub indexed : Indexed w (indexOf q) (t .live)
   pub placed : Placed f w (2 * q) (t .made) (t .top)
 
 pub record Step (f w : List ℕ) (q : ℕ) (t : Tables) (i : ℕ) : Type 0 where
   pub ready : Ready f w q t i
   pub tabled : Tabled f w (i + 1)
+  pub linked : Linked w q (i + 1)
 
 -- the state that packet i finds, and the bytes at hand after it
 abbrev pub after : List ℕ → List ℕ → ℕ → ℕ → ℕ → Option (List ℕ)
@@ -163,6 +189,16 @@ after f w b live i = joined (mapOf f w b live i (numberOf (packetAt f w i))) (pa
 pub record Stepped (f w : List ℕ) (q : ℕ) (t : Tables) (i : ℕ) (u : List ℕ) (r : Tables) : Type 0 where
   pub ready : Ready f u q r (i + 1)
   pub front : Front (4 * q) u w
+  pub beyond : (j : ℕ) → 7 * q ≤ j → word u j ≡ word w j
   pub size : length u ≡ length w
   pub list : pdusFrom f u (2 * q) 0 (r .made) ≡ pdusFrom f w (2 * q) 0 (t .made) ++ completed (after f w (3 * q) (t .live) i) (packetAt f w i)
   pub map : _≡_ {A = ℕ → Option (List ℕ)} (mapOf f u (3 * q) (r .live) (i + 1)) (putBy eqb (mapOf f w (3 * q) (t .live) i) (numberOf (packetAt f w i)) (stillOpen (after f w (3 * q) (t .live) i)))
+
+-- ---- all steps
+
+-- a table of packets, linked, and nothing open
+pub record Run (f w : List ℕ) (q count : ℕ) : Type 0 where
+  pub tabled : Tabled f w count
+  pub quarter : q ≡ length f / 4
+  pub linked : Linked w q count
+  pub indexed : Indexed w (indexOf q) 0

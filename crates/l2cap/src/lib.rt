@@ -4,14 +4,21 @@ ghost use Prim.Native.Nat.{_+_, _*_, _≤_, _<_, min};
 ghost use lib.ListN.{length, getD, take, drop};
 ghost use Rattle.laws.specs.Numbers.{le16};
 ghost use Rattle.laws.specs.Stores.{Writes};
+ghost use Rattle.words.specs.Words.{word};
+ghost use Rattle.table.specs.Chain.{Bucket};
+ghost use Rattle.table.specs.Index.{Entered};
 ghost use Rattle.btsnoop.specs.PacketTable.{packetAt, packetsFrom, Tabled};
 ghost use Rattle.l2cap.specs.Pdus.{pdus};
 ghost use Rattle.l2cap.specs.PduTable.{pduAt, Reassembled};
 ghost use Rattle.l2cap.specs.PduFrames.{Lent};
-ghost use Rattle.l2cap.specs.Steps.{pieceOf, since, brought, Walk, Paste, Gather, Need, openAt, grown, nextAt, Small, Arrive, putPdu, PutPdu, Finish, Finished, Step, Stepped};
+ghost use Rattle.l2cap.specs.Links.{Next, Filled, LinkRoom, Unlinked, LinkedTo};
+ghost use Rattle.l2cap.specs.Steps.{pieceOf, since, brought, Walk, Paste, Gather, Need, bucketsOf, indexOf, openAt, grown, nextAt, Small, Look, SetOpen, Arrive, putPdu, PutPdu, Finish, Finished, Step, Stepped, Run};
+use table::Index;
 use table::Row;
-use table::find;
-use table::store;
+use table::bucket;
+use table::enter;
+use table::link;
+use table::seek;
 use words::copy_to;
 use words::get32;
 use words::get64;
@@ -43,9 +50,17 @@ fn brings(w: &[u8], i: usize, key: u32) -> usize
     0
 }
 
+// The next packet of the bucket of packet i; the count of packets if there is none.
+fn later(w: &[u8], q: usize, i: usize) -> usize
+    requires { ⌜ Next (now w) q i ⌝ }
+    ensures { λ r. ⌜ word (now (w .entry)) (7 * q + i) ≡ r + 1 ⌝ }
+{
+    wide32(get32(w, 7 * q + i)) - 1
+}
+
 // The byte number at of what the key has from the packets first .. upto - 1; 0 if it is not there.
-fn byte_of(file: &[u8], w: &[u8], first: usize, upto: usize, key: u32, at: usize) -> u8
-    requires { ⌜ Walk (now file) (now w) first upto ⌝ }
+fn byte_of(file: &[u8], w: &[u8], q: usize, first: usize, upto: usize, key: u32, at: usize) -> u8
+    requires { ⌜ Walk (now file) (now w) q first upto key ⌝ }
     ensures { λ r. ⌜ r ≡ getD (since (now (file .entry)) (now (w .entry)) key first upto) at 0 ⌝ }
 {
     let mut i = first;
@@ -57,7 +72,7 @@ fn byte_of(file: &[u8], w: &[u8], first: usize, upto: usize, key: u32, at: usize
             return file[s + j];
         }
         j -= n;
-        i += 1;
+        i = later(w, q, i);
     }
     0
 }
@@ -70,25 +85,25 @@ fn pair(a: u8, b: u8) -> u32
 }
 
 // The 16-bit number at a place of what the key has: it may be split over fragments.
-fn half(file: &[u8], w: &[u8], first: usize, upto: usize, key: u32, at: usize) -> u32
-    requires { ⌜ (Walk (now file) (now w) first upto) × (at < 4) ⌝ }
+fn half(file: &[u8], w: &[u8], q: usize, first: usize, upto: usize, key: u32, at: usize) -> u32
+    requires { ⌜ (Walk (now file) (now w) q first upto key) × (at < 4) ⌝ }
     ensures { λ r. ⌜ (r ≡ le16 (since (now (file .entry)) (now (w .entry)) key first upto) at) × (r < 65536) ⌝ }
 {
     pair(
-        byte_of(file, w, first, upto, key, at),
-        byte_of(file, w, first, upto, key, at + 1),
+        byte_of(file, w, q, first, upto, key, at),
+        byte_of(file, w, q, first, upto, key, at + 1),
     )
 }
 
 // How many bytes make the PDU complete. With fewer than 4 its length is not there, and no packet is walked for it.
-fn needed(file: &[u8], w: &[u8], first: usize, upto: usize, key: u32, got: usize) -> usize
-    requires { ⌜ Walk (now file) (now w) first upto ⌝ }
+fn needed(file: &[u8], w: &[u8], q: usize, first: usize, upto: usize, key: u32, got: usize) -> usize
+    requires { ⌜ Walk (now file) (now w) q first upto key ⌝ }
     ensures { λ r. ⌜ Need (since (now (file .entry)) (now (w .entry)) key first upto) got r ⌝ }
 {
     if got < 4 {
         return 4;
     }
-    4 + wide32(half(file, w, first, upto, key, 0))
+    4 + wide32(half(file, w, q, first, upto, key, 0))
 }
 
 fn least(a: usize, b: usize) -> usize
@@ -123,13 +138,14 @@ fn paste(file: &[u8], w: &mut [u8], i: usize, key: u32, left: usize, to: usize) 
 fn gather(
     file: &[u8],
     w: &mut [u8],
+    q: usize,
     first: usize,
     upto: usize,
     key: u32,
     need: usize,
     to: usize,
 ) -> usize
-    requires { ⌜ Gather (now file) (now w) first upto need to ⌝ }
+    requires { ⌜ Gather (now file) (now w) q first upto key need to ⌝ }
     ensures { λ r. ⌜ Writes (now (w .entry)) to (take need (since (now (file .entry)) (now (w .entry)) key first upto)) r (now (w .exit)) ⌝ }
 {
     let end = to + need;
@@ -137,7 +153,7 @@ fn gather(
     let mut pos = to;
     while i < upto {
         pos = paste(file, w, i, key, end - pos, pos);
-        i += 1;
+        i = later(w, q, i);
     }
     pos
 }
@@ -157,21 +173,54 @@ fn narrow(x: usize) -> u32
     x as u32
 }
 
-// What is open under the key.
-fn look(w: &[u8], base: usize, count: usize, key: u32) -> Open
-    requires { ⌜ 4 * (base + 4 * count) ≤ length (now w) ⌝ }
-    ensures { λ r. ⌜ r ≡ openAt (now (w .entry)) base count key ⌝ }
+// How many buckets there are: one, where work has no room for more.
+fn buckets(q: usize) -> usize
+    ensures { λ r. ⌜ r ≡ bucketsOf q ⌝ }
 {
-    let f = find(w, base, count, wide64(key));
+    if q < 4096 {
+        return 1;
+    }
+    4096
+}
+
+// Where the open PDUs stand and their index, with q a quarter of the file's length.
+fn index_of(q: usize) -> Index
+    requires { ⌜ q ≤ 1048576 ⌝ }
+    ensures { λ r. ⌜ r ≡ indexOf q ⌝ }
+{
+    Index {
+        rows: 3 * q,
+        chain: 5 * q,
+        heads: 6 * q,
+        m: buckets(q),
+    }
+}
+
+// What is open under the key.
+fn look(w: &[u8], q: usize, count: usize, key: u32) -> Open
+    requires { ⌜ Look (now w) q count ⌝ }
+    ensures { λ r. ⌜ r ≡ openAt (now (w .entry)) (3 * q) count key ⌝ }
+{
+    let x = index_of(q);
+    let f = seek(w, x, count, wide64(key));
     let Row::At(i) = f else {
         return Open::Closed;
     };
-    let first = wide32(get32(w, base + 4 * i + 2));
-    let got = wide32(get32(w, base + 4 * i + 3));
+    let first = wide32(get32(w, 3 * q + 4 * i + 2));
+    let got = wide32(get32(w, 3 * q + 4 * i + 3));
     if first == 0 {
         return Open::Closed;
     }
     Open::From(first - 1, got)
+}
+
+// Sets what is open under the key, and returns the count of rows.
+fn set_open(w: &mut [u8], q: usize, count: usize, key: u32, a: u32, b: u32) -> usize
+    requires { ⌜ SetOpen (now w) q count ⌝ }
+    ensures { λ r. ⌜ Entered (now (w .entry)) (indexOf q) count key a b (now (w .exit)) r ⌝ }
+{
+    let x = index_of(q);
+    enter(w, x, count, wide64(key), a, b)
 }
 
 // What a fragment of n bytes in packet i makes of what is open.
@@ -189,14 +238,14 @@ fn fragment(o: Open, start: u32, i: usize, n: usize) -> Open
 }
 
 // What is open under packet i's key once it is read.
-fn arrive(w: &[u8], opens: usize, live: usize, i: usize) -> Open
-    requires { ⌜ Arrive (now w) opens live i ⌝ }
-    ensures { λ r. ⌜ r ≡ nextAt (now (w .entry)) opens live i ⌝ }
+fn arrive(w: &[u8], q: usize, live: usize, i: usize) -> Open
+    requires { ⌜ Arrive (now w) q live i ⌝ }
+    ensures { λ r. ⌜ r ≡ nextAt (now (w .entry)) (3 * q) live i ⌝ }
 {
     let key = get32(w, 6 * i);
     let start = get32(w, 6 * i + 1);
     let n = wide32(get32(w, 6 * i + 3));
-    let o = look(w, opens, live, key);
+    let o = look(w, q, live, key);
     fragment(o, start, i, n)
 }
 
@@ -226,26 +275,26 @@ fn put_pdu(
 fn finish(
     file: &[u8],
     w: &mut [u8],
-    base: usize,
+    q: usize,
     made: usize,
     top: usize,
     i: usize,
     first: usize,
     need: usize,
 ) -> usize
-    requires { ⌜ Finish (now file) (now w) base made top i first need ⌝ }
-    ensures { λ r. ⌜ Finished (now (file .entry)) (now (w .entry)) base made top i first need (now (w .exit)) r ⌝ }
+    requires { ⌜ Finish (now file) (now w) q made top i first need ⌝ }
+    ensures { λ r. ⌜ Finished (now (file .entry)) (now (w .entry)) (2 * q) made top i first need (now (w .exit)) r ⌝ }
 {
     let key = get32(w, 6 * i);
-    let cid = half(file, w, first, i + 1, key, 2);
+    let cid = half(file, w, q, first, i + 1, key, 2);
     let time = get64(w, 6 * i + 4);
     if first == i {
         let s = wide32(get32(w, 6 * i + 2));
-        put_pdu(w, base + 7 * made, key, cid, 0, s + 4, need - 4, time);
+        put_pdu(w, 2 * q + 7 * made, key, cid, 0, s + 4, need - 4, time);
         return top;
     }
-    let end = gather(file, w, first, i + 1, key, need, top);
-    put_pdu(w, base + 7 * made, key, cid, 1, top + 4, need - 4, time);
+    let end = gather(file, w, q, first, i + 1, key, need, top);
+    put_pdu(w, 2 * q + 7 * made, key, cid, 1, top + 4, need - 4, time);
     end
 }
 
@@ -258,21 +307,21 @@ fn step(file: &[u8], w: &mut [u8], q: usize, t: Tables, i: usize) -> Tables
     let made = t.made;
     let top = t.top;
     let key = get32(w, 6 * i);
-    let next = arrive(w, 3 * q, live, i);
+    let next = arrive(w, q, live, i);
     let Open::From(first, got) = next else {
         return t;
     };
-    let need = needed(file, w, first, i + 1, key, got);
+    let need = needed(file, w, q, first, i + 1, key, got);
     if need <= got {
-        let end = finish(file, w, 2 * q, made, top, i, first, need);
-        let rows = store(w, 3 * q, live, wide64(key), 0, 0);
+        let end = finish(file, w, q, made, top, i, first, need);
+        let rows = set_open(w, q, live, key, 0, 0);
         return Tables {
             live: rows,
             made: made + 1,
             top: end,
         };
     }
-    let rows = store(w, 3 * q, live, wide64(key), narrow(first + 1), narrow(got));
+    let rows = set_open(w, q, live, key, narrow(first + 1), narrow(got));
     Tables {
         live: rows,
         made: made,
@@ -280,12 +329,53 @@ fn step(file: &[u8], w: &mut [u8], q: usize, t: Tables, i: usize) -> Tables
     }
 }
 
-// The PDUs of the packets whose table stands at the start of work: their rows, and the payloads that had to be joined.
-pub fn reassemble(file: &[u8], w: &mut [u8], count: usize) -> Tables
-    requires { ⌜ Tabled (now file) (now w) count ⌝ }
+// The bucket of packet i, of m.
+fn bucket_of(w: &[u8], i: usize, m: usize) -> usize
+    requires { ⌜ (24 * i + 24 ≤ length (now w)) × (0 < m) ⌝ }
+    ensures { λ r. ⌜ Bucket (word (now (w .entry)) (6 * i)) m r ⌝ }
+{
+    bucket(wide64(get32(w, 6 * i)), m as u64) as usize
+}
+
+// Sets m words from word at on.
+fn fill(w: &mut [u8], at: usize, m: usize, x: u32)
+    requires { ⌜ 4 * (at + m) ≤ length (now w) ⌝ }
+    ensures { λ _. ⌜ Filled (now (w .entry)) at m x (now (w .exit)) ⌝ }
+{
+    let mut i = 0;
+    while i < m {
+        put32(w, at + i, x);
+        i += 1;
+    }
+}
+
+// Links the packets of each of m buckets that are empty: from the last to the first.
+fn link_rows(w: &mut [u8], q: usize, m: usize, count: usize)
+    requires { ⌜ Unlinked (now w) q m count ⌝ }
+    ensures { λ _. ⌜ LinkedTo (now (w .entry)) q count (now (w .exit)) ⌝ }
+{
+    let mut i = count;
+    while 0 < i {
+        i -= 1;
+        let h = bucket_of(w, i, m);
+        link(w, 7 * q, 6 * q, i, h);
+    }
+}
+
+// Links the packets of each of m buckets. The words of the buckets stand from word 6 * q on, and are free afterwards.
+fn link_packets(w: &mut [u8], q: usize, m: usize, count: usize)
+    requires { ⌜ LinkRoom (now w) q m count ⌝ }
+    ensures { λ _. ⌜ LinkedTo (now (w .entry)) q count (now (w .exit)) ⌝ }
+{
+    fill(w, 6 * q, m, narrow(count + 1));
+    link_rows(w, q, m, count);
+}
+
+// The steps of all packets.
+fn run(file: &[u8], w: &mut [u8], q: usize, count: usize) -> Tables
+    requires { ⌜ Run (now file) (now w) q count ⌝ }
     ensures { λ r. ⌜ Reassembled (now (file .entry)) (now (w .exit)) (r .made) (pdus (packetsFrom (now (file .entry)) (now (w .entry)) 0 count)) ⌝ }
 {
-    let q = file.len() / 4;
     let mut t = Tables {
         live: 0,
         made: 0,
@@ -297,6 +387,18 @@ pub fn reassemble(file: &[u8], w: &mut [u8], count: usize) -> Tables
         i += 1;
     }
     t
+}
+
+// The PDUs of the packets whose table stands at the start of work: their rows, and the payloads that had to be joined.
+pub fn reassemble(file: &[u8], w: &mut [u8], count: usize) -> Tables
+    requires { ⌜ Tabled (now file) (now w) count ⌝ }
+    ensures { λ r. ⌜ Reassembled (now (file .entry)) (now (w .exit)) (r .made) (pdus (packetsFrom (now (file .entry)) (now (w .entry)) 0 count)) ⌝ }
+{
+    let q = file.len() / 4;
+    let m = buckets(q);
+    link_packets(w, q, m, count);
+    fill(w, 6 * q, m, 0);
+    run(file, w, q, count)
 }
 
 // The payload of the PDU whose row is at word at: a part of the file, or of work if it was joined.

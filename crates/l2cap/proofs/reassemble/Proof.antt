@@ -1,63 +1,52 @@
-use Rattle.l2cap.proofs.Running.{Running, run-start, run-step, run-turn, run-end}
+use Rattle.l2cap.proofs.Running.{link-room, fill-room, fill-run, run-all}
 use mathlib.Core.Path.{refl}
-use Prim.Native.Nat.{_-_}
-use borrow.Author.Needs.{needs}
 use native.Mathlib.Omega.{arith}
+use borrow.Author.Needs.{needs}
 use Rattle.l2cap.proofs.reassemble.Statement.{statement}
 use Rattle.l2cap.proofs.reassemble.Tie as tie
 use Rattle.l2cap.proofs.reassemble.Reads as reads
 use Rattle.l2cap.proofs.reassemble.Lts as lts
-use Rattle.l2cap.proofs.step.Reads as step-reads
+use Rattle.l2cap.proofs.buckets.Reads as buckets-reads
+use Rattle.l2cap.proofs.fill.Reads as fill-reads
+use Rattle.l2cap.proofs.link_packets.Reads as link-packets-reads
+use Rattle.l2cap.proofs.run.Reads as run-reads
 
-abbrev Inv-loop : tie.InvT-loop
-Inv-loop file w₀ count q t₀ i₀ w t i = Running file w₀ q count w t i
+-- src/lib.rt:422:9
+buckets-requires : tie.Need-buckets-requires
+buckets-requires c κs = search needs
 
-abbrev μ-loop : tie.MeasureT-loop
-μ-loop file w₀ count q t₀ i₀ w t i = count - i
+-- src/lib.rt:423:5
+link-packets-requires : tie.Need-link-packets-requires
+link-packets-requires c κs = link-room _ _ _ (c .before .before .before .before .pre) _ refl _ (c .before .buckets .ensures)
 
--- src/lib.rt:292:14
-mul-t7 : tie.Need-mul-t7 Inv-loop μ-loop
-mul-t7 c = search needs
+-- src/lib.rt:424:13
+mul-fill : tie.Need-mul-fill
+mul-fill c = search needs
 
--- src/lib.rt:295:5
-loop-holds : tie.Need-loop-holds Inv-loop μ-loop
-loop-holds c = run-start _ _ _ (c .before .before .pre) _ refl
+-- src/lib.rt:424:5
+fill-requires : tie.Need-fill-requires
+fill-requires c κs = fill-room _ _ _ (c .before .before .before .before .before .before .before .before .pre) _ refl _ (c .before .before .before .before .before .buckets .ensures) _ (c .before .before .before .link-packets .ensures)
 
--- src/lib.rt:296:9
-step-requires : tie.Need-step-requires Inv-loop μ-loop
-step-requires c κs = run-step _ _ _ (c .before .before .before .before .before .pre) _ _ _ _ (c .before .before .loop .inv) (c .before .loop-test .taken)
+-- src/lib.rt:425:5
+run-requires : tie.Need-run-requires
+run-requires c κs = fill-run _ _ _ (c .before .before .before .before .before .before .before .before .before .before .before .before .pre) _ refl _ (c .before .before .before .before .before .before .before .before .before .buckets .ensures) _ (c .before .before .before .before .before .before .before .link-packets .ensures) _ (c .before .before .before .fill .ensures)
 
--- src/lib.rt:297:9
-add-i : tie.Need-add-i Inv-loop μ-loop
-add-i c = omega arith
+-- src/lib.rt:417:1
+same-length : tie.Need-same-length
+same-length c = search needs
 
--- src/lib.rt:295:5
-loop-less : tie.Need-loop-less Inv-loop μ-loop
-loop-less c = omega arith
-
--- src/lib.rt:295:5
-loop-again : tie.Need-loop-again Inv-loop μ-loop
-loop-again c = run-turn _ _ _ (c .before .before .before .before .before .before .before .before .pre) _ _ _ _ (c .before .before .before .before .before .loop .inv) (c .before .before .before .before .loop-test .taken) _ _ (c .before .before .step .ensures)
-
--- src/lib.rt:284:1
-same-length : tie.Need-same-length Inv-loop μ-loop
-same-length c = c .before .loop .inv .size
-
--- src/lib.rt:284:1
-returns : tie.Need-returns Inv-loop μ-loop
-returns c = run-end _ _ _ (c .before .before .before .before .pre) _ _ _ _ (c .before .loop .inv) (c .loop-test .left)
+-- src/lib.rt:417:1
+returns : tie.Need-returns
+returns c = run-all _ _ _ (c .before .before .before .before .before .before .before .before .before .before .before .before .before .before .before .pre) _ refl _ (c .before .before .before .before .before .before .before .before .before .before .before .before .buckets .ensures) _ (c .before .before .before .before .before .before .before .before .before .before .link-packets .ensures) _ (c .before .before .before .before .before .before .fill .ensures) _ _ (c .before .before .run .ensures)
 
 pub reassemble-spec : {M : Type 1} → statement M
 reassemble-spec =
     tie.close
     (tie.spec
-    Inv-loop
-    μ-loop
-    mul-t7
-    loop-holds
-    step-requires
-    add-i
-    loop-less
-    loop-again
+    buckets-requires
+    link-packets-requires
+    mul-fill
+    fill-requires
+    run-requires
     same-length
     returns)

@@ -1,0 +1,105 @@
+-- Packets in buckets by their keys: one word for each packet, from word 7 * q on, says which packet of its bucket comes next.
+-- The words hold the number plus one, and the count of packets stands for none.
+use mathlib.Core.Path.{_≡_, refl, sym, ap, _∙_}
+use mathlib.Core.List.{List}
+use mathlib.Core.Bool.{Bool, true, false, cond}
+use Prim.Native.Nat.{ℕ, zero, suc, _+_, _-_, _*_, _<_, _≤_}
+use native.Mathlib.Omega.{arith}
+use lib.ListN.{length}
+use lib.Dec.{eqb}
+use borrow.Author.Tests.{eq-eqb, ne-eqb, eqb-true}
+use Rattle.laws.specs.Choice.{split≡}
+use Rattle.words.specs.Words.{word}
+use Rattle.words.specs.Front.{Front}
+
+-- the first of m rows from i on whose bucket is h; i + m if there is none
+unfoldable pub soonest : (ℕ → ℕ) → ℕ → ℕ → ℕ → ℕ
+soonest b h i zero = i
+soonest b h i (suc m) = cond (eqb (b i) h) i (soonest b h (suc i) m)
+
+pub soonest-from : (b : ℕ → ℕ) (h i m : ℕ) → i ≤ soonest b h i m
+unfolding soonest
+soonest-from b h i zero = omega arith
+soonest-from b h i (suc m) = go (eqb (b i) h) (soonest-from b h (suc i) m) where
+  go : (t : Bool) → suc i ≤ soonest b h (suc i) m → i ≤ cond t i (soonest b h (suc i) m)
+  go true p = omega arith
+  go false p = omega arith
+
+pub soonest-bucket : (b : ℕ → ℕ) (h i m : ℕ) → soonest b h i m < i + m → b (soonest b h i m) ≡ h
+unfolding soonest
+soonest-bucket b h i zero l = absurd (omega arith)
+soonest-bucket b h i (suc m) l = go (eqb (b i) h) refl l (soonest-bucket b h (suc i) m) where
+  go : (t : Bool) → eqb (b i) h ≡ t → cond t i (soonest b h (suc i) m) < i + suc m → (soonest b h (suc i) m < suc i + m → b (soonest b h (suc i) m) ≡ h) → b (cond t i (soonest b h (suc i) m)) ≡ h
+  go true e k ih = eqb-true (b i) h e
+  go false e k ih = ih (omega arith)
+
+pub soonest-agree : (b c : ℕ → ℕ) (h i m : ℕ) → ((j : ℕ) → i ≤ j → j < i + m → b j ≡ c j) → soonest b h i m ≡ soonest c h i m
+unfolding soonest
+soonest-agree b c h i zero e = refl
+soonest-agree b c h i (suc m) e = rw (e i (omega arith) (omega arith), soonest-agree b c h (suc i) m (λ j lo hi. e j (omega arith) (omega arith)))
+
+-- what no row of another bucket changes is the same at the first row of the bucket
+pub soonest-skip : {A : Type 0} (g : ℕ → A) (b : ℕ → ℕ) (h i m : ℕ) → ((j : ℕ) → (b j ≡ h → ⊥) → g j ≡ g (suc j)) → g i ≡ g (soonest b h i m)
+unfolding soonest
+soonest-skip g b h i zero e = refl
+soonest-skip g b h i (suc m) e =
+    split≡ (b i) h
+    (λ q. rw (eq-eqb (b i) h q))
+    (λ q. rw (ne-eqb (b i) h q) (e i q ∙ soonest-skip g b h (suc i) m e))
+
+-- ---- the words in work
+
+-- the packets below upto, and perhaps more, are linked; equal keys are in one bucket
+pub record Linked (w : List ℕ) (q upto : ℕ) : Type 0 where
+  pub bucket : ℕ → ℕ
+  pub count : ℕ
+  pub most : upto ≤ count
+  pub low : 6 * count ≤ q
+  pub next : (i : ℕ) → i < count → word w (7 * q + i) ≡ suc (soonest (λ j. bucket (word w (6 * j))) (bucket (word w (6 * i))) (suc i) (count - suc i))
+
+pub linked-less : (w : List ℕ) (q m n : ℕ) → m ≤ n → Linked w q n → Linked w q m
+linked-less w q m n h l = record { bucket = l .bucket; count = l .count; most = omega (arith, l .most); low = l .low; next = l .next }
+
+-- links do not see what is written between the packets and them
+pub linked-agree : (u w : List ℕ) (q n : ℕ) → ((j : ℕ) → j < q → word u j ≡ word w j) → ((j : ℕ) → 7 * q ≤ j → word u j ≡ word w j) → Linked w q n → Linked u q n
+linked-agree u w q n a b l = record {
+  bucket = l .bucket;
+  count = l .count;
+  most = l .most;
+  low = l .low;
+  next = λ i h.
+      b (7 * q + i) (omega arith) ∙ l .next i h
+      ∙ ap suc (rw (a (6 * i) (omega (arith, l .low))) (soonest-agree (λ j. l .bucket (word w (6 * j))) (λ j. l .bucket (word u (6 * j))) (l .bucket (word w (6 * i))) (suc i) (l .count - suc i) (λ j lo hi. sym (ap (l .bucket) (a (6 * j) (omega (arith, l .low)))))));
+}
+
+-- ---- what the functions ask and promise
+
+-- the link of packet i can be read
+pub record Next (w : List ℕ) (q i : ℕ) : Type 0 where
+  pub room : 4 * (7 * q + i) + 4 ≤ length w
+  pub some : 0 < word w (7 * q + i)
+
+-- m words from at on are x, and those behind them stay
+pub record Filled (w : List ℕ) (at m x : ℕ) (u : List ℕ) : Type 0 where
+  pub is : (h : ℕ) → h < m → word u (at + h) ≡ x
+  pub front : Front (4 * at) u w
+  pub beyond : (j : ℕ) → at + m ≤ j → word u j ≡ word w j
+  pub size : length u ≡ length w
+
+-- room to link the packets: m buckets whose words stand from word 6 * q on
+pub record LinkRoom (w : List ℕ) (q m count : ℕ) : Type 0 where
+  pub low : 6 * count ≤ q
+  pub some : 0 < m
+  pub few : m ≤ q
+  pub small : q ≤ 1048576
+  pub room : 32 * q ≤ length w
+
+-- no packet is linked
+pub record Unlinked (w : List ℕ) (q m count : ℕ) : Type 0 where
+  pub room : LinkRoom w q m count
+  pub heads : (h : ℕ) → h < m → word w (6 * q + h) ≡ suc count
+
+pub record LinkedTo (w : List ℕ) (q count : ℕ) (u : List ℕ) : Type 0 where
+  pub linked : Linked u q count
+  pub front : Front (4 * (6 * q)) u w
+  pub size : length u ≡ length w
