@@ -12,9 +12,10 @@ use Rattle.words.specs.Words.{word}
 use Rattle.table.specs.Table.{Slot, none as no-row, some as row, findIn, lookup, lookup-found, lookup-nothing, second, second-le, find-below}
 use Rattle.table.specs.Index.{SeekPre, EnterPre, Entered}
 use Rattle.table.specs.declared.Index.{Index}
+use Rattle.table.specs.Chain.{bucketsOf}
 use Rattle.table.specs.declared.Row.{Row}
 use Rattle.table.specs.declared.Row.the-variants.{At, Nothing}
-use Rattle.l2cap.specs.Steps.{bucketsOf, indexOf, Look, SetOpen, asOpen, openAt, longer, grown, nextAt, Small, Arrive}
+use Rattle.l2cap.specs.Steps.{indexOf, Look, SetOpen, asOpen, openAt, longer, grown, nextAt, Small, Arrive}
 use Rattle.l2cap.specs.declared.Open.{Open}
 use Rattle.l2cap.specs.declared.Open.the-variants.{Closed, From}
 
@@ -40,20 +41,6 @@ as-got (row zero y) a g e = never e
 as-got (row (suc x) y) a g e = cc
 
 -- ---- the buckets
-
-pub buckets-one : (q : ℕ) → q < 4096 → 1 ≡ bucketsOf q
-unfolding bucketsOf
-buckets-one q h = rw (lt-ltb q 4096 h)
-
-pub buckets-many : (q : ℕ) → 4096 ≤ q → 4096 ≡ bucketsOf q
-unfolding bucketsOf
-buckets-many q h = rw (le-ltb q 4096 h)
-
-pub buckets-some : (q : ℕ) → 0 < bucketsOf q
-buckets-some q = split≤ 4096 q (λ h. omega (arith, buckets-many q h)) (λ h. omega (arith, buckets-one q h))
-
-pub buckets-few : (q : ℕ) → 0 < q → bucketsOf q ≤ q
-buckets-few q p = split≤ 4096 q (λ h. omega (arith, buckets-many q h)) (λ h. omega (arith, buckets-one q h))
 
 pub index-is : (q m : ℕ) → m ≡ bucketsOf q → _≡_ {A = Index} (record { rows = 3 * q; chain = 5 * q; heads = 6 * q; m = m }) (indexOf q)
 index-is q m e = rw e

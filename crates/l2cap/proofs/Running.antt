@@ -13,7 +13,7 @@ use Rattle.laws.specs.Keys.{eqK}
 use Rattle.words.specs.Words.{word}
 use Rattle.words.specs.Front.{Front, front-refl, front-then, front-less, front-word}
 use Rattle.table.specs.Table.{lookup, sumOf}
-use Rattle.table.specs.Chain.{chained-none, headed-none}
+use Rattle.table.specs.Chain.{chained-none, headed-none, bucketsOf, buckets-some, buckets-fit}
 use Rattle.table.specs.Index.{bucketAt}
 use Rattle.btsnoop.specs.Packets.{Packet}
 use Rattle.btsnoop.specs.PacketTable.{packetAt, packetsFrom, dataOf, Tabled}
@@ -23,9 +23,9 @@ use Rattle.l2cap.specs.PduTable.{pdusFrom, paysOf, Reassembled}
 use Rattle.l2cap.specs.PduFrames.{inside-top}
 use Rattle.l2cap.specs.Rekeyed.{runBy, rekey, run-by}
 use Rattle.l2cap.specs.Links.{Linked, linked-less, linked-agree, Filled, LinkRoom, LinkedTo}
-use Rattle.l2cap.specs.Steps.{numberOf, bucketsOf, indexOf, asOpen, openAt, heldOf, mapOf, Ready, Step, Stepped, Run}
+use Rattle.l2cap.specs.Steps.{numberOf, indexOf, asOpen, openAt, heldOf, mapOf, Ready, Step, Stepped, Run}
 use Rattle.l2cap.specs.declared.Tables.{Tables}
-use Rattle.l2cap.proofs.Opens.{never, buckets-some, buckets-few}
+use Rattle.l2cap.proofs.Opens.{never}
 
 -- ---- link and direction as one number
 
@@ -119,7 +119,7 @@ module _ (f w₀ : List ℕ) (q count : ℕ) (pre : Run f w₀ q count) where
 
 module _ (f w : List ℕ) (count : ℕ) (pre : Tabled f w count) (q : ℕ) (e : q ≡ length f / 4) (m : ℕ) (me : m ≡ bucketsOf q) where
   many : m ≤ q
-  many = omega (arith, buckets-few q (omega (arith, pre .total)))
+  many = omega (arith, buckets-fit q (omega (arith, pre .total)))
 
   pub link-room : LinkRoom w q m count
   link-room = record { low = omega (arith, pre .total); some = omega (arith, buckets-some q); few = many; small = omega (arith, pre .small); room = omega (arith, pre .room) }

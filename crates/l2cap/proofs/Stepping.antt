@@ -13,6 +13,7 @@ use Rattle.laws.specs.Choice.{split≡}
 use Rattle.laws.specs.Numbers.{le16}
 use Rattle.words.specs.Words.{word}
 use Rattle.words.specs.Front.{Front, front-then, front-word, front-less, front-refl}
+use Rattle.table.specs.Chain.{bucketsOf, buckets-some, buckets-fit}
 use Rattle.table.specs.Table.{some as row, lookup, upd, second, sumOf, Stored, Agree, lookup-agree, long-agree, sum-agree, second-le}
 use Rattle.table.specs.Index.{Indexed, Stands, Entered, stands-less, indexed-agree}
 use Rattle.btsnoop.specs.PacketTable.{packetAt, dataOf}
@@ -21,12 +22,12 @@ use Rattle.l2cap.specs.Pdus.{joined, isComplete, stillOpen, completed}
 use Rattle.l2cap.specs.PduTable.{pdusFrom, paysOf}
 use Rattle.l2cap.specs.PduFrames.{Placed, placed-agree, pdus-agree, pays-agree}
 use Rattle.l2cap.specs.Rekeyed.{putBy}
-use Rattle.l2cap.specs.Steps.{since, Walk, Need, bucketsOf, indexOf, SetOpen, asOpen, openAt, longer, grown, nextAt, Arrive, Finish, Finished, heldOf, mapOf, Sound, Step, after, Stepped}
+use Rattle.l2cap.specs.Steps.{since, Walk, Need, indexOf, SetOpen, asOpen, openAt, longer, grown, nextAt, Arrive, Finish, Finished, heldOf, mapOf, Sound, Step, after, Stepped}
 use Rattle.l2cap.specs.declared.Open.{Open}
 use Rattle.l2cap.specs.declared.Open.the-variants.{Closed, From}
 use Rattle.l2cap.specs.declared.Tables.{Tables}
 use Rattle.l2cap.proofs.Walking.{number-at, piece-own, piece-other, since-one, since-snoc, since-front}
-use Rattle.l2cap.proofs.Opens.{buckets-some, buckets-few, never, as-zero, as-pos, arrive-got, arrive-none}
+use Rattle.l2cap.proofs.Opens.{never, as-zero, as-pos, arrive-got, arrive-none}
 
 -- ---- what is open once a packet is read
 
@@ -183,7 +184,7 @@ module _ (f w : List ℕ) (q : ℕ) (t : Tables) (i : ℕ) (p : Step f w q t i) 
   small = omega (arith, p .tabled .small, p .ready .quarter)
 
   few : bucketsOf q ≤ q
-  few = buckets-few q (omega (arith, p .tabled .total, p .ready .quarter))
+  few = buckets-fit q (omega (arith, p .tabled .total, p .ready .quarter))
 
   -- one row more has room, and so has its index
   stands : Stands w (indexOf q) (t .live + 1)

@@ -11,6 +11,7 @@ use Rattle.words.specs.Words.{word, putWord}
 use Rattle.words.specs.Front.{Front}
 use Rattle.table.specs.Table.{Slot, none as no-row, some as row, lookup, sumOf}
 use Rattle.table.specs.Index.{Indexed, SeekPre, EnterPre}
+use Rattle.table.specs.Chain.{bucketsOf}
 use Rattle.table.specs.declared.Index.{Index}
 use Rattle.btsnoop.specs.Packets.{Packet}
 use Rattle.btsnoop.specs.PacketTable.{packetAt, packetsFrom, dataOf, Tabled}
@@ -68,10 +69,6 @@ pub record Need (B : List ℕ) (got r : ℕ) : Type 0 where
   pub short : got < r → got < 4 + le16 B 0
 
 -- ---- what is open
-
--- how many buckets there are, with q a quarter of the file's length
-unfoldable pub bucketsOf : ℕ → ℕ
-bucketsOf q = cond (ltb q 4096) 1 4096
 
 -- where the open PDUs stand and their index
 abbrev pub indexOf : ℕ → Index

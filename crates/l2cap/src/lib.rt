@@ -12,9 +12,10 @@ ghost use Rattle.l2cap.specs.Pdus.{pdus};
 ghost use Rattle.l2cap.specs.PduTable.{pduAt, Reassembled};
 ghost use Rattle.l2cap.specs.PduFrames.{Lent};
 ghost use Rattle.l2cap.specs.Links.{Next, Filled, LinkRoom, Unlinked, LinkedTo};
-ghost use Rattle.l2cap.specs.Steps.{pieceOf, since, brought, Walk, Paste, Gather, Need, bucketsOf, indexOf, openAt, grown, nextAt, Small, Look, SetOpen, Arrive, putPdu, PutPdu, Finish, Finished, Step, Stepped, Run};
+ghost use Rattle.l2cap.specs.Steps.{pieceOf, since, brought, Walk, Paste, Gather, Need, indexOf, openAt, grown, nextAt, Small, Look, SetOpen, Arrive, putPdu, PutPdu, Finish, Finished, Step, Stepped, Run};
 use table::Index;
 use table::Row;
+use table::buckets;
 use table::bucket;
 use table::enter;
 use table::link;
@@ -171,16 +172,6 @@ fn narrow(x: usize) -> u32
     ensures { λ r. ⌜ r ≡ x ⌝ }
 {
     x as u32
-}
-
-// How many buckets there are: one, where work has no room for more.
-fn buckets(q: usize) -> usize
-    ensures { λ r. ⌜ r ≡ bucketsOf q ⌝ }
-{
-    if q < 4096 {
-        return 1;
-    }
-    4096
 }
 
 // Where the open PDUs stand and their index, with q a quarter of the file's length.

@@ -77,11 +77,16 @@ fn word_of(w: &[u8], base: usize, i: usize) -> u32 {
     get32(w, base + i)
 }
 
-// Stores v as the word number i of w, where it is there.
-fn put_word(w: &mut [u8], i: usize, v: u32) {
-    if i < w.len() / 4 {
-        put32(w, i, v);
+// Stores v as the word number i from word base of w on, where it is there.
+fn put_word(w: &mut [u8], base: usize, i: usize, v: u32) {
+    let n = w.len() / 4;
+    if n <= base {
+        return;
     }
+    if n - base <= i {
+        return;
+    }
+    put32(w, base + i, v);
 }
 
 // Whether two pieces have the same DLCI, stretch and direction.
@@ -103,36 +108,50 @@ fn same_key(w: &[u8], rows: usize, i: usize, j: usize) -> bool
     word_of(w, rows, a + 3) == word_of(w, rows, b + 3)
 }
 
-// Whether a piece after piece i has its key.
-fn is_followed(w: &[u8], rows: usize, n: usize, i: usize) -> bool
-    requires { ⌜ n ≤ 1048576 ⌝ }
+// One more than the piece of the same key before piece i, found by the links of pieces; 0 if there is none. A link leads to
+// an earlier piece, so the walk ends where one does not.
+fn before(w: &[u8], p: Plan, i: usize) -> usize
     requires { ⌜ i ≤ 1048576 ⌝ }
 {
-    let mut j = i + 1;
-    while j < n {
-        if same_key(w, rows, j, i) {
-            return true;
+    let mut at = i;
+    let mut k = word_of(w, p.chain, at) as usize;
+    while 0 < k {
+        if at < k {
+            return 0;
         }
-        j += 1;
+        at = k - 1;
+        if same_key(w, p.rows, at, i) {
+            return k;
+        }
+        k = word_of(w, p.chain, at) as usize;
     }
-    false
+    0
 }
 
-// Whether piece i is of the DLCI and the last of its key, and bytes are held after it.
-fn is_open(w: &[u8], p: Plan, i: usize) -> bool
+// Leaves nothing held after a piece that another piece of its key follows.
+fn drop_followed(w: &mut [u8], p: Plan)
     requires { ⌜ p .n ≤ 1048576 ⌝ }
+{
+    let n = p.n;
+    let held = p.held;
+    let mut i = 0;
+    while i < n {
+        let k = before(w, p, i);
+        if 0 < k {
+            put_word(w, held, k - 1, 0);
+        }
+        i += 1;
+    }
+}
+
+// Whether piece i is of the DLCI, and bytes are held after it.
+fn is_open(w: &[u8], p: Plan, i: usize) -> bool
     requires { ⌜ i ≤ 1048576 ⌝ }
 {
     if word_of(w, p.rows, 8 * i) != p.dlci {
         return false;
     }
-    if word_of(w, p.held, i) == 0 {
-        return false;
-    }
-    if is_followed(w, p.rows, p.n, i) {
-        return false;
-    }
-    true
+    word_of(w, p.held, i) != 0
 }
 
 // The stretch of piece i, with what is held after it.
@@ -156,12 +175,12 @@ fn put_stretch(w: &mut [u8], k: usize, s: Stretch)
     requires { ⌜ k ≤ 1048576 ⌝ }
 {
     let to = 6 * k;
-    put_word(w, to, s.way);
-    put_word(w, to + 1, s.cid);
-    put_word(w, to + 2, s.dlci);
-    put_word(w, to + 3, s.sessions);
-    put_word(w, to + 4, s.links);
-    put_word(w, to + 5, s.held);
+    put_word(w, to, 0, s.way);
+    put_word(w, to, 1, s.cid);
+    put_word(w, to, 2, s.dlci);
+    put_word(w, to, 3, s.sessions);
+    put_word(w, to, 4, s.links);
+    put_word(w, to, 5, s.held);
 }
 
 // Lists the stretch of piece i behind the k that are listed, if it is open and there is a place; returns how many are listed.
@@ -188,6 +207,7 @@ fn list_open(w: &mut [u8], p: Plan, most: usize) -> usize
     requires { ⌜ p .n ≤ 1048576 ⌝ }
     ensures { λ r. ⌜ r ≤ most ⌝ }
 {
+    drop_followed(w, p);
     let n = p.n;
     let mut i = 0;
     let mut k = 0;

@@ -5,7 +5,7 @@ use Rattle.l2cap.proofs.index_of.Statement.{statement}
 use Rattle.l2cap.proofs.index_of.Tie as tie
 use Rattle.l2cap.proofs.index_of.Reads as reads
 use Rattle.l2cap.proofs.index_of.Lts as lts
-use Rattle.l2cap.proofs.buckets.Reads as buckets-reads
+use Rattle.table.proofs.buckets.Reads as buckets-reads
 
 -- src/lib.rt:179:15
 mul-t2 : tie.Need-mul-t2
