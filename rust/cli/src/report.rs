@@ -1,0 +1,89 @@
+//! What was found, in words.
+
+use std::fmt::Write;
+use std::path::Path;
+
+use crate::time::utc;
+use crate::write::Done;
+use lumbryth::{cut, fixture_name, unpack, Cut, Direction, Imported};
+
+/// A number and what it counts.
+pub fn count(n: usize, one: &str, more: &str) -> String {
+    format!("{n} {}", if n == 1 { one } else { more })
+}
+
+/// How many spans do not unpack.
+pub fn broken(imported: &Imported) -> usize {
+    imported.spans.iter().filter(|span| unpack(&span.wire).is_err()).count()
+}
+
+/// How much of the record in which a file ends is there.
+pub fn bytes_of(cut: Cut) -> String {
+    let present = count(cut.present, "byte of it is there", "bytes of it are there");
+    match cut.missing {
+        Some(1) => format!("{present} and 1 is missing"),
+        Some(missing) => format!("{present} and {missing} are missing"),
+        None => format!("{present}, too few to say how many are missing"),
+    }
+}
+
+/// What an import found. `place` is where its frames are: among the fixtures, or listed.
+pub fn findings(file: &[u8], imported: &Imported, place: &str) -> String {
+    let mut text = format!(
+        "DLCI {} (channel {}): {}, {}\n",
+        imported.dlci,
+        imported.dlci / 2,
+        count(imported.frames, "frame", "frames"),
+        match broken(imported) {
+            0 => "all of which unpack".to_string(),
+            n => count(n, "of which does not unpack", "of which do not unpack"),
+        },
+    );
+    let under_way = match imported.unfinished {
+        0 => "no frame was under way".to_string(),
+        1 => format!("1 frame was under way and is not {place}"),
+        n => format!("{n} frames were under way and are not {place}"),
+    };
+    match cut(file, imported.tail) {
+        None => {
+            let _ = writeln!(text, "At the end of the file {under_way}.");
+        }
+        Some(cut) => {
+            let at = cut.offset;
+            let _ = writeln!(text, "THE FILE WAS CUT: it ends inside a record that starts at byte {at}:");
+            let _ = writeln!(text, "  {}.", bytes_of(cut));
+            let _ = writeln!(text, "  Kept: what was complete before byte {at}. There {under_way}.");
+            let _ = writeln!(text, "  Missing: what that record held, and whatever came after it. A reply that is not");
+            let _ = writeln!(text, "  {place} may have been sent all the same.");
+        }
+    }
+    text
+}
+
+/// What was done with the fixtures.
+pub fn written(done: &Done, dir: &Path) -> String {
+    let dir = dir.display();
+    let mut text = format!("{} written to {dir}", count(done.written, "fixture", "fixtures"));
+    if done.there > 0 {
+        text += &format!("; {} there already, with the same bytes", count(done.there, "was", "were"));
+    }
+    text + "\n"
+}
+
+/// The list of frames, a line each.
+pub fn frames(imported: &Imported) -> String {
+    let mut text = String::new();
+    for (counter, span) in (1..).zip(&imported.spans) {
+        let way = if span.direction == Direction::Rx { "rx" } else { "tx" };
+        let what = match fixture_name(span.ms, counter, span.direction, &span.wire) {
+            // The part of the name that is not said already.
+            Ok(name) => {
+                let part = name.split_once('.').map_or("", |(_, part)| part);
+                part.trim_end_matches(".bin").replace('.', " ")
+            }
+            Err(refusal) => format!("does not unpack ({}): {refusal}", refusal.number()),
+        };
+        let _ = writeln!(text, "{counter:>6}  {}  {way} {:>5}  {what}", utc(span.ms), span.wire.len());
+    }
+    text
+}
