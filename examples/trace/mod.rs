@@ -18,11 +18,7 @@ impl Trace {
     pub fn new(datalink: u32) -> Trace {
         let mut file = b"btsnoop\0\0\0\0\x01".to_vec();
         file.extend(datalink.to_be_bytes());
-        Trace {
-            datalink,
-            file,
-            starts: Vec::new(),
-        }
+        Trace { datalink, file, starts: Vec::new() }
     }
 
     /// A record, at so many microseconds since 1970.
@@ -37,17 +33,8 @@ impl Trace {
     }
 
     /// An ACL packet: one fragment of a PDU, the first of it or one that goes on.
-    pub fn fragment(
-        &mut self,
-        direction: Direction,
-        us: u64,
-        handle: u16,
-        first: bool,
-        data: &[u8],
-    ) {
-        let mut packet = (handle | if first { 2 } else { 1 } << 12)
-            .to_le_bytes()
-            .to_vec();
+    pub fn fragment(&mut self, direction: Direction, us: u64, handle: u16, first: bool, data: &[u8]) {
+        let mut packet = (handle | if first { 2 } else { 1 } << 12).to_le_bytes().to_vec();
         packet.extend((data.len() as u16).to_le_bytes());
         packet.extend(data);
         let rx = u32::from(direction == Rx);
@@ -79,26 +66,13 @@ impl Trace {
 
 /// An L2CAP PDU.
 pub fn pdu(cid: u16, payload: &[u8]) -> Vec<u8> {
-    [
-        &(payload.len() as u16).to_le_bytes(),
-        &cid.to_le_bytes(),
-        payload,
-    ]
-    .concat()
+    [&(payload.len() as u16).to_le_bytes(), &cid.to_le_bytes(), payload].concat()
 }
 
 /// A signalling PDU with one command, its body made of 16-bit words.
 pub fn signal(code: u8, identifier: u8, words: &[u16]) -> Vec<u8> {
     let body: Vec<u8> = words.iter().flat_map(|word| word.to_le_bytes()).collect();
-    pdu(
-        1,
-        &[
-            &[code, identifier],
-            &(body.len() as u16).to_le_bytes()[..],
-            &body,
-        ]
-        .concat(),
-    )
+    pdu(1, &[&[code, identifier], &(body.len() as u16).to_le_bytes()[..], &body].concat())
 }
 
 /// RFCOMM's frame check sequence.
@@ -107,11 +81,7 @@ fn fcs(bytes: &[u8]) -> u8 {
     for byte in bytes {
         crc ^= byte;
         for _ in 0..8 {
-            crc = if crc & 1 == 1 {
-                crc >> 1 ^ 0xE0
-            } else {
-                crc >> 1
-            };
+            crc = if crc & 1 == 1 { crc >> 1 ^ 0xE0 } else { crc >> 1 };
         }
     }
     0xFF - crc
@@ -127,10 +97,7 @@ pub fn control(dlci: u8, command: bool, control: u8) -> Vec<u8> {
 /// A UIH frame; with a credit it has control 0xFF and the credit byte.
 pub fn uih(dlci: u8, command: bool, credit: Option<u8>, information: &[u8]) -> Vec<u8> {
     let n = information.len();
-    let mut frame = vec![
-        dlci << 2 | u8::from(command) << 1 | 1,
-        if credit.is_some() { 0xFF } else { 0xEF },
-    ];
+    let mut frame = vec![dlci << 2 | u8::from(command) << 1 | 1, if credit.is_some() { 0xFF } else { 0xEF }];
     let check = fcs(&frame);
     if n < 128 {
         frame.push((n << 1 | 1) as u8);
