@@ -40,23 +40,22 @@ pub fn findings(file: &[u8], imported: &Imported, place: &str) -> String {
         },
     );
     let under_way = match imported.unfinished {
-        0 => "no frame was under way".to_string(),
-        1 => format!("1 frame was under way and is not {place}"),
-        n => format!("{n} frames were under way and are not {place}"),
+        0 => None,
+        1 => Some(format!("1 frame was under way and is not {place}")),
+        n => Some(format!("{n} frames were under way and are not {place}")),
     };
-    match cut(file, imported.tail) {
-        None => {
-            let _ = writeln!(text, "At the end of the file {under_way}.");
-        }
-        Some(cut) => {
-            let at = cut.offset;
-            let _ = writeln!(text, "THE FILE WAS CUT: it ends inside a record that starts at byte {at}:");
-            let _ = writeln!(text, "  {}.", bytes_of(cut));
-            let _ = writeln!(text, "  Kept: what was complete before byte {at}. There {under_way}.");
-            let _ = writeln!(text, "  Missing: what that record held, and whatever came after it. A reply that is not");
-            let _ = writeln!(text, "  {place} may have been sent all the same.");
-        }
+    let Some(cut) = cut(file, imported.tail) else {
+        let _ = writeln!(text, "At the end of the file {}.", under_way.unwrap_or("no frame was under way".to_string()));
+        return text;
+    };
+    let _ = writeln!(text, "The file was cut: it ends inside a record that starts at byte {}.", cut.offset);
+    let _ = writeln!(text, "  {}.", bytes_of(cut));
+    let _ = writeln!(text, "  Kept: {}, complete before that record.", count(imported.frames, "frame", "frames"));
+    let _ = writeln!(text, "  Missing: whatever was not complete before it, or came later.");
+    if let Some(words) = under_way {
+        let _ = writeln!(text, "  {words}.");
     }
+    let _ = writeln!(text, "  A reply that is not {place} may have been sent all the same.");
     text
 }
 

@@ -38,8 +38,10 @@ impl Drop for Made {
 /// is left of them.
 pub fn fixtures(dir: &Path, fixtures: &[Fixture]) -> Result<Done, String> {
     let failed = |path: &Path, error: io::Error| format!("{}: cannot be written: {error}", path.display());
-    if dir.exists() && !dir.is_dir() {
-        return Err(format!("{}: this is a file, not a directory; nothing was written", dir.display()));
+    // The nearest of the directory and those above it that is there.
+    let nearest = dir.ancestors().find(|above| fs::symlink_metadata(above).is_ok());
+    if let Some(other) = nearest.filter(|above| !above.is_dir()) {
+        return Err(format!("{}: this is not a directory; nothing was written", other.display()));
     }
     let new = still_to_write(dir, fixtures)?;
     let there = fixtures.len() - new.len();
