@@ -4,8 +4,8 @@
 //!
 //! For each trace tshark says which PDUs it put together, and which information it found on which DLCI. The PDUs are held to
 //! those of a plain reader here; the information, scanned for frames, to what the library imports for each DLCI: every span's
-//! bytes, direction and time, in order, and how many are under way at the end. Then faults are planted in what the library
-//! reads, and each of them has to show.
+//! bytes, direction and time, in order, and how many are under way at the end. Cuts of the trace are held to what tshark
+//! found in the records that are left. Then faults are planted in what our side reads, and each of them has to show.
 
 mod generate;
 mod judged;
@@ -20,9 +20,12 @@ use std::process::ExitCode;
 use std::{env, fs, process};
 
 use generate::Generated;
-use judged::{spans, Seen};
+use judged::{spans, Piece, Seen};
 use lumbryth::{import, unpack, Refusal, TailRule};
 use rng::Rng;
+
+/// How many cuts of each trace are judged.
+const CUTS: usize = 40;
 
 /// How much was judged.
 #[derive(Default)]
@@ -35,6 +38,7 @@ struct Tally {
     spans: usize,
     unfinished: usize,
     dlcis: usize,
+    cuts: usize,
     faults: usize,
 }
 
@@ -58,38 +62,53 @@ fn judge_pdus(seen: &Seen, file: &[u8], tally: &mut Tally) -> Result<(), String>
     Ok(())
 }
 
-/// Holds what the library imports for each DLCI to what tshark found on it.
-fn judge_spans(seen: &Seen, file: &[u8], dlcis: &[u8], tally: &mut Tally) -> Result<(), String> {
-    if let Some(piece) = seen.pieces.iter().find(|piece| !dlcis.contains(&piece.dlci)) {
+/// Holds what the library imports for each DLCI, and without a channel, to what tshark found on it. A file that was cut
+/// ends at the tail.
+fn judge_spans(pieces: &[Piece], file: &[u8], tail: usize, dlcis: &[u8], tally: &mut Tally) -> Result<(), String> {
+    if let Some(piece) = pieces.iter().find(|piece| !dlcis.contains(&piece.dlci)) {
         return Err(format!("record {}: DLCI {} is not in use", piece.record, piece.dlci));
     }
-    tally.pieces += seen.pieces.len();
-    for &dlci in dlcis {
-        let (there, under_way) = spans(&seen.pieces, dlci);
-        let imported = import(file, Some(dlci / 2), TailRule::Strict);
-        // A stream in which nothing unpacks is refused.
-        if there.iter().all(|span| unpack(&span.wire).is_err()) {
+    // The DLCIs on which something unpacks; of those the first seen is taken where no channel is given.
+    let carries = |dlci: u8| spans(pieces, dlci).0.iter().any(|span| unpack(&span.wire).is_ok());
+    let first = pieces.iter().map(|piece| piece.dlci).find(|&dlci| carries(dlci));
+    let wanted = dlcis.iter().map(|&dlci| (Some(dlci / 2), Some(dlci).filter(|&dlci| carries(dlci))));
+    for (channel, dlci) in wanted.chain([(None, first)]) {
+        let imported = import(file, channel, TailRule::Tolerant);
+        let Some(dlci) = dlci else {
             if imported != Err(Refusal::NoStream) {
-                return Err(format!("DLCI {dlci}: nothing there unpacks; here {imported:?}"));
+                return Err(format!("channel {channel:?}: nothing there unpacks; here {imported:?}"));
             }
             continue;
-        }
+        };
         let imported = imported.map_err(|refusal| format!("DLCI {dlci}: refused ({}): {refusal}", refusal.number()))?;
+        let (there, under_way) = spans(pieces, dlci);
         for (i, (here, there)) in imported.spans.iter().zip(&there).enumerate() {
             if here != there {
                 return Err(format!("DLCI {dlci}, span {}\nhere:  {here:?}\nthere: {there:?}", i + 1));
             }
         }
         let here = (imported.dlci, imported.frames, imported.spans.len(), imported.unfinished, imported.tail);
-        let there = (dlci, there.len(), there.len(), under_way, file.len());
+        let there = (dlci, there.len(), there.len(), under_way, tail);
         if here != there {
             return Err(format!("DLCI, frames, spans, unfinished, tail: {here:?} here, {there:?} there"));
         }
-        tally.spans += imported.frames;
-        tally.unfinished += under_way;
-        tally.dlcis += 1;
+        if channel.is_some() {
+            tally.spans += imported.frames;
+            tally.unfinished += under_way;
+            tally.dlcis += 1;
+        }
     }
     Ok(())
+}
+
+/// The same of the first `n` bytes, held to what tshark found in the records that are left.
+fn judge_cut(seen: &Seen, generated: &Generated, n: usize) -> Result<(), String> {
+    let ends: Vec<usize> = generated.starts[1..].iter().copied().chain([generated.file.len()]).collect();
+    let left = ends.iter().filter(|&&end| end <= n).count();
+    let tail = if left == 0 { 16 } else { ends[left - 1] };
+    let pieces = seen.pieces.iter().filter(|piece| piece.record <= left).cloned().collect::<Vec<_>>();
+    judge_spans(&pieces, &generated.file[..n], tail, &generated.dlcis, &mut Tally::default())
+        .map_err(|words| format!("cut at {n}: {words}"))
 }
 
 /// Where the last record starts and ends that completes a piece which ends a span, with the span's last byte in it.
@@ -127,7 +146,9 @@ fn plant(seen: &Seen, generated: &Generated) -> Result<usize, String> {
     ];
     for (name, copy) in &faults {
         let tally = &mut Tally::default();
-        if judge_pdus(seen, copy, tally).is_ok() || judge_spans(seen, copy, &generated.dlcis, tally).is_ok() {
+        if judge_pdus(seen, copy, tally).is_ok()
+            || judge_spans(&seen.pieces, copy, copy.len(), &generated.dlcis, tally).is_ok()
+        {
             return Err(format!("a planted fault went unseen: {name}"));
         }
     }
@@ -147,7 +168,16 @@ fn run(traces: usize, seed: u64, dir: &Path) -> Result<Tally, String> {
         };
         let seen = tshark::read(&path).map_err(kept)?;
         judge_pdus(&seen, &generated.file, &mut tally).map_err(kept)?;
-        judge_spans(&seen, &generated.file, &generated.dlcis, &mut tally).map_err(kept)?;
+        let file = &generated.file;
+        judge_spans(&seen.pieces, file, file.len(), &generated.dlcis, &mut tally).map_err(kept)?;
+        if import(file, None, TailRule::Strict) != import(file, None, TailRule::Tolerant) {
+            return Err(kept("the strict rule finds something else than the tolerant".to_string()));
+        }
+        for _ in 0..CUTS {
+            judge_cut(&seen, &generated, rng.within(16, file.len())).map_err(kept)?;
+        }
+        tally.pieces += seen.pieces.len();
+        tally.cuts += CUTS;
         tally.faults += plant(&seen, &generated).map_err(kept)?;
         tally.traces += 1;
         fs::remove_file(&path).map_err(|error| error.to_string())?;
@@ -168,7 +198,7 @@ fn main() -> ExitCode {
             let _ = fs::remove_dir(&dir);
             println!(
                 "tshark and the library agree on {} traces: {} records, {} PDUs ({} of them in fragments), {} pieces on {} \
-                 DLCIs, {} spans, {} unfinished; {} planted faults, each seen",
+                 DLCIs, {} spans, {} unfinished; and on {} cuts of them; {} planted faults, each seen",
                 tally.traces,
                 tally.records,
                 tally.pdus,
@@ -177,6 +207,7 @@ fn main() -> ExitCode {
                 tally.dlcis,
                 tally.spans,
                 tally.unfinished,
+                tally.cuts,
                 tally.faults
             );
             ExitCode::SUCCESS
