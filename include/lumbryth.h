@@ -15,7 +15,7 @@
  * - The caller owns all memory. Nothing is allocated, freed or kept after the call
  *   returns, and there is no hidden state: any number of threads may call at once,
  *   each with its own buffers.
- * - What is lent to be written (`out`, `work`, `values`) overlaps nothing
+ * - What is lent to be written (`out`, `work`, `starts`, `values`) overlaps nothing
  *   else that is lent to the same call. What is lent to be read may overlap.
  * - A call returns 0, or the number of its refusal (below). Only
  *   lumbryth_is_command_name returns a yes or no instead.
@@ -191,6 +191,17 @@ uint32_t lumbryth_import(const uint8_t *file, size_t file_len,
 uint32_t lumbryth_import_strict(const uint8_t *file, size_t file_len,
     uint8_t *work, size_t work_len, uint8_t *out, size_t out_len,
     uint32_t channel, uint64_t *values, size_t values_len);
+
+/*
+ * Finds the records of a trace: stores where each whole record starts at the front of
+ * `starts`, as many as there is room for. A trace has at most (file_len - 16) / 24.
+ * A record is 24 bytes and its packet, whose length stands in its bytes 4 to 7, highest
+ * first.
+ * Values: number of records, tail offset (as for an import).
+ * Refusals: 1, 3, 4.
+ */
+uint32_t lumbryth_records(const uint8_t *file, size_t file_len,
+    uint64_t *starts, size_t starts_len, uint64_t *values, size_t values_len);
 
 #ifdef __cplusplus
 }

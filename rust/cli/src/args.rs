@@ -27,6 +27,7 @@ pub struct Import {
 pub enum Command {
     Import(Import),
     Frames(Look),
+    Records(PathBuf),
     /// Print this and nothing else.
     Say(String),
 }
@@ -40,6 +41,7 @@ struct Takes {
 
 const IMPORT: Takes =
     Takes { command: "import", values: &["--out", "--channel", "--exclude"], flags: &["--tolerant", "--dry-run"] };
+const RECORDS: Takes = Takes { command: "records", values: &[], flags: &[] };
 const FRAMES: Takes = Takes { command: "frames", values: &["--channel"], flags: &["--tolerant"] };
 
 /// What was given: the trace, and options with their values.
@@ -90,6 +92,9 @@ pub fn parse(args: &[OsString]) -> Result<Command, String> {
     match first.to_str() {
         Some("import") => command(&IMPORT, help::IMPORT, rest, import),
         Some("frames") => command(&FRAMES, help::FRAMES, rest, |given| given.look().map(Command::Frames)),
+        Some("records") => {
+            command(&RECORDS, help::RECORDS, rest, |given| given.look().map(|look| Command::Records(look.trace)))
+        }
         Some("--help" | "-h") => Ok(Command::Say(help::ALL.to_string())),
         Some("--version" | "-V") => Ok(Command::Say(concat!("lumbryth ", env!("CARGO_PKG_VERSION"), "\n").to_string())),
         _ => {

@@ -3,6 +3,7 @@
 pub const USAGE: &str = "\
 usage: lumbryth import TRACE --out DIR [options]
        lumbryth frames TRACE [options]
+       lumbryth records TRACE
        lumbryth COMMAND --help
 ";
 
@@ -12,6 +13,7 @@ Bluetooth trace (a btsnoop file of at most 1048576 bytes)
 
 usage: lumbryth import TRACE --out DIR [options]   write each frame to a file
        lumbryth frames TRACE [options]             list the frames
+       lumbryth records TRACE                      list the records that carry them
        lumbryth COMMAND --help                     more about a command
        lumbryth --version
 
@@ -48,5 +50,15 @@ on the wire, type, sequence number and command, or why the frame does not unpack
 
   --channel N      only RFCOMM channel N, 0 to 31; else the first that carries frames
   --tolerant       read a file that was cut off, up to the record in which it ends
+  --               what follows is no option
+";
+
+pub const RECORDS: &str = "\
+usage: lumbryth records TRACE
+
+Lists the records of TRACE: number, the byte it starts at, time (UTC), direction (rx is from
+the headset or the controller), length of its packet, and what the packet is. A file that was
+cut off is listed up to the record in which it ends.
+
   --               what follows is no option
 ";

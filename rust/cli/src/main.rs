@@ -15,7 +15,7 @@ use std::path::Path;
 use std::process::ExitCode;
 
 use args::{Command, Import, Look};
-use lumbryth::{cut, import, plan, Imported, Refusal, TailRule};
+use lumbryth::{cut, import, plan, records, Imported, Refusal, TailRule};
 
 /// Why the program ends without doing what was asked.
 enum Failure {
@@ -55,6 +55,7 @@ fn run(args: &[OsString]) -> Result<(), Failure> {
         Command::Say(text) => print(&text),
         Command::Import(options) => run_import(&options),
         Command::Frames(options) => run_frames(&options),
+        Command::Records(trace) => run_records(&trace),
     }
 }
 
@@ -72,30 +73,25 @@ fn imported(look: &Look) -> Result<(Vec<u8>, Imported), Failure> {
     let rule = if look.tolerant { TailRule::Tolerant } else { TailRule::Strict };
     match import(&file, look.channel, rule) {
         Ok(imported) => Ok((file, imported)),
-        Err(refusal) => Err(Failure::Refused(refused(look, &file, refusal))),
+        Err(refusal) => Err(Failure::Refused(refused(&look.trace, look.channel, &file, refusal))),
     }
 }
 
 /// A refusal of a trace, with its number, in words that fit what was asked.
-fn refused(look: &Look, file: &[u8], refusal: Refusal) -> String {
+fn refused(trace: &Path, channel: Option<u8>, file: &[u8], refusal: Refusal) -> String {
     let mut words = match refusal {
         Refusal::NotBtsnoop if file.is_empty() => "the file is empty".to_string(),
         Refusal::NotBtsnoop if file.len() < 16 => {
             format!("the file has only {} bytes, and a btsnoop header has 16", file.len())
         }
-        Refusal::NoStream => match look.channel {
+        Refusal::NoStream => match channel {
             Some(channel) => format!("nothing on channel {channel} unpacks as a frame"),
             None => "nothing in the trace unpacks as a frame".to_string(),
         },
         other => other.to_string(),
     };
-    // The strict rule tells where a file was cut before it looks for frames.
-    let offset = match (refusal, import(file, look.channel, TailRule::Strict)) {
-        (Refusal::Truncated { offset }, _) => Some(offset),
-        (Refusal::NoStream, Err(Refusal::Truncated { offset })) => Some(offset),
-        _ => None,
-    };
-    if let Some(cut) = offset.and_then(|offset| cut(file, offset)) {
+    let cut = records(file).ok().and_then(|records| cut(file, records.tail));
+    if let Some(cut) = cut {
         if refusal == Refusal::NoStream {
             words += &format!("; the file ends inside the record that starts at byte {}", cut.offset);
         }
@@ -103,12 +99,12 @@ fn refused(look: &Look, file: &[u8], refusal: Refusal) -> String {
     }
     let hint = match refusal {
         Refusal::Truncated { .. } => "\nlumbryth: --tolerant keeps what was complete before that record",
-        Refusal::NoStream if offset.is_some() => {
+        Refusal::NoStream if cut.is_some() => {
             "\nlumbryth: what that record held, and whatever came after it, is not in the file"
         }
         _ => "",
     };
-    format!("{}: refused ({}): {words}{hint}", look.trace.display(), refusal.number())
+    format!("{}: refused ({}): {words}{hint}", trace.display(), refusal.number())
 }
 
 fn run_import(options: &Import) -> Result<(), Failure> {
@@ -135,4 +131,10 @@ fn run_frames(look: &Look) -> Result<(), Failure> {
     let (file, imported) = imported(look)?;
     let findings = report::findings(&file, &imported, "listed");
     print(&(findings + &report::frames(&imported)))
+}
+
+fn run_records(trace: &Path) -> Result<(), Failure> {
+    let file = source::read(trace).map_err(Failure::Refused)?;
+    let found = records(&file).map_err(|refusal| Failure::Refused(refused(trace, None, &file, refusal)))?;
+    print(&report::records(&file, &found))
 }

@@ -5,7 +5,7 @@ use std::path::Path;
 
 use crate::time::utc;
 use crate::write::Done;
-use lumbryth::{cut, fixture_name, unpack, Cut, Direction, Imported};
+use lumbryth::{cut, fixture_name, unpack, Cut, Direction, Imported, Records};
 
 /// A number and what it counts.
 pub fn count(n: usize, one: &str, more: &str) -> String {
@@ -83,6 +83,62 @@ pub fn frames(imported: &Imported) -> String {
             Err(refusal) => format!("does not unpack ({}): {refusal}", refusal.number()),
         };
         let _ = writeln!(text, "{counter:>6}  {}  {way} {:>5}  {what}", utc(span.ms), span.wire.len());
+    }
+    text
+}
+
+/// 1970 in a trace: microseconds since the year 0.
+const EPOCH: u64 = 0x00dc_ddb3_0f2f_8000;
+
+fn number(bytes: &[u8]) -> u64 {
+    bytes.iter().fold(0, |n, &byte| n << 8 | u64::from(byte))
+}
+
+/// Which way a record's packet went, and what it is, as the import reads it.
+fn kind(datalink: u64, flags: u64, packet: &[u8]) -> (&'static str, String) {
+    let (way, name) = if datalink == 2001 {
+        match flags & 0xFFFF {
+            2 => ("tx", "command"),
+            3 => ("rx", "event"),
+            4 => ("tx", "ACL data"),
+            5 => ("rx", "ACL data"),
+            _ => ("--", "other"),
+        }
+    } else {
+        let way = if flags & 1 == 0 { "tx" } else { "rx" };
+        let name = match (flags & 2, datalink, packet.first()) {
+            (0, 1001, _) | (0, _, Some(2)) => "ACL data",
+            (0, ..) => "other",
+            _ if way == "tx" => "command",
+            _ => "event",
+        };
+        (way, name)
+    };
+    let acl = if datalink == 1002 { packet.get(1..) } else { Some(packet) };
+    match acl.and_then(|acl| acl.get(..2)) {
+        Some(field) if name == "ACL data" => {
+            let handle = u16::from(field[1] & 0x0F) << 8 | u16::from(field[0]);
+            let part = if field[1] >> 4 & 3 == 1 { "continues a PDU" } else { "begins a PDU" };
+            (way, format!("{name}, handle {handle}, {part}"))
+        }
+        _ => (way, name.to_string()),
+    }
+}
+
+/// The list of records, a line each.
+pub fn records(file: &[u8], found: &Records) -> String {
+    let datalink = number(&file[12..16]);
+    let mut text = format!("datalink {datalink}: {}\n", count(found.starts.len(), "record", "records"));
+    if let Some(cut) = cut(file, found.tail) {
+        let _ = writeln!(text, "The file was cut: it ends inside a record that starts at byte {}.", cut.offset);
+        let _ = writeln!(text, "  {}. Whatever came later is missing.", bytes_of(cut));
+    }
+    for (i, &start) in found.starts.iter().enumerate() {
+        let (head, rest) = file[start..].split_at(24);
+        let packet = &rest[..number(&head[4..8]) as usize];
+        let (way, what) = kind(datalink, number(&head[8..12]), packet);
+        let time = utc(number(&head[16..24]).saturating_sub(EPOCH) / 1000);
+        let _ = writeln!(text, "{:>6}  {start:>7}  {time}  {way} {:>5}  {what}", i + 1, packet.len());
     }
     text
 }

@@ -98,7 +98,14 @@ fn holds(dir: &Path, fixtures: &[Fixture]) {
 
 #[test]
 fn help_and_version() {
-    for args in [&["--help"][..], &["-h"], &["import", "--help"], &["frames", "--help"], &["import", "x", "-h"]] {
+    for args in [
+        &["--help"][..],
+        &["-h"],
+        &["import", "--help"],
+        &["frames", "--help"],
+        &["records", "--help"],
+        &["import", "x", "-h"],
+    ] {
         let output = run(args);
         assert_eq!(status(&output), 0);
         assert!(out(&output).contains("usage: lumbryth "), "{args:?}");
@@ -122,6 +129,12 @@ fn usage() {
     fails(&run(&["import", "a", "--out", "b", "--force"]), 2, &["import has no option '--force'"]);
     fails(&run(&["import", "a", "--tolerant=1"]), 2, &["--tolerant takes no value"]);
     fails(&run(&["frames", "a", "--out", "b"]), 2, &["frames has no option '--out'; see lumbryth frames --help"]);
+    fails(&run(&["records"]), 2, &["no trace is named; see lumbryth records --help"]);
+    fails(
+        &run(&["records", "a", "--tolerant"]),
+        2,
+        &["records has no option '--tolerant'; see lumbryth records --help"],
+    );
     for channel in ["32", "256", "-1", "+5", "", "x", "0x9", "99999999999999999999"] {
         let told = format!("--channel takes a number from 0 to 31, not '{channel}'");
         fails(&run(&["frames", "a", "--channel", channel]), 2, &[&told]);
@@ -207,6 +220,66 @@ fn frames_are_listed() {
 }
 
 #[test]
+fn records_are_listed() {
+    let output = words(&[&"records", &example("headset.btsnoop")]);
+    assert_eq!((status(&output), err(&output)), (0, String::new()));
+    let text = out(&output);
+    let lines: Vec<&str> = text.lines().collect();
+    assert_eq!(lines.len(), 55);
+    assert_eq!(lines[0], "datalink 1002: 54 records");
+    assert_eq!(lines[1], "     1       16  2024-05-14 09:30:00.003  tx     4  command");
+    assert_eq!(lines[2], "     2       44  2024-05-14 09:30:00.007  rx     7  event");
+    assert_eq!(lines[3], "     3       75  2024-05-14 09:30:00.013  tx    17  ACL data, handle 6, begins a PDU");
+    assert_eq!(lines[41], "    41     1833  2024-05-14 09:30:00.298  rx    59  ACL data, handle 6, continues a PDU");
+    let output = words(&[&"records", &example("cut.btsnoop")]);
+    assert_eq!(status(&output), 0);
+    let text = out(&output);
+    let lines: Vec<&str> = text.lines().collect();
+    assert_eq!(lines[0], "datalink 1002: 52 records");
+    assert_eq!(lines[1], "The file was cut: it ends inside a record that starts at byte 2453.");
+    assert_eq!(lines[2], "  30 bytes of it are there and 13 are missing. Whatever came later is missing.");
+    assert_eq!(lines.len(), 55);
+}
+
+#[test]
+fn records_of_each_datalink() {
+    let place = Place::new();
+    let record = |flags: u32, packet: &[u8]| {
+        let length = (packet.len() as u32).to_be_bytes();
+        [&length, &length, &flags.to_be_bytes(), &[0; 4][..], &[0x00, 0xDC, 0xDD, 0xB3, 0x0F, 0x2F, 0x80, 0x00], packet]
+            .concat()
+    };
+    let listed = |datalink: u32, records: &[Vec<u8>]| {
+        let file = [b"btsnoop\0\0\0\0\x01", &datalink.to_be_bytes()[..], &records.concat()].concat();
+        let output = words(&[&"records", &place.file("trace", &file)]);
+        assert_eq!(status(&output), 0);
+        let text = out(&output);
+        text.lines().skip(1).map(|line| line.split("00:00:00.000  ").nth(1).unwrap().to_string()).collect::<Vec<_>>()
+    };
+    assert_eq!(listed(1001, &[]), [""; 0]);
+    let acl = [0x40, 0x10, 0, 0];
+    let found = listed(1001, &[record(0, &acl), record(1, &[0x40]), record(2, &acl), record(3, &[])]);
+    assert_eq!(
+        found,
+        [
+            "tx     4  ACL data, handle 64, continues a PDU",
+            "rx     1  ACL data",
+            "tx     4  command",
+            "rx     0  event"
+        ]
+    );
+    let found = listed(1002, &[record(0, &[2, 0x40, 0x2F]), record(1, &[3, 0, 0]), record(0, &[]), record(3, &[4, 0])]);
+    assert_eq!(
+        found,
+        ["tx     3  ACL data, handle 3904, begins a PDU", "rx     3  other", "tx     0  other", "rx     2  event"]
+    );
+    let found =
+        listed(2001, &[record(4, &acl), record(0x1_0005, &[]), record(2, &acl), record(3, &[]), record(0, &acl)]);
+    let acl = "tx     4  ACL data, handle 64, continues a PDU";
+    assert_eq!(found, [acl, "rx     0  ACL data", "tx     4  command", "rx     0  event", "--     4  other"]);
+}
+
+#[test]
 fn a_cut_file() {
     let place = Place::new();
     let (trace, dir) = (example("cut.btsnoop"), place.join("out"));
@@ -285,6 +358,11 @@ fn every_cut() {
         } else {
             assert!(!told.contains("cut"), "cut at {n}: {told}");
         }
+        if n % 5 == 0 {
+            let listed = out(&words(&[&"records", &trace]));
+            assert!(listed.starts_with(&format!("datalink 1002: {record} record")), "cut at {n}: {listed}");
+            assert_eq!(listed.contains(&format!("ends inside a record that starts at byte {start}.")), inside);
+        }
         // Between the two pieces of a reply a frame is under way, wherever the cut is.
         if n == bounds[bounds.len() - 3] || (inside && record == bounds.len() - 3) {
             assert!(told.contains("1 frame was under way and is not among the fixtures"), "cut at {n}: {told}");
@@ -298,6 +376,9 @@ fn files_that_cannot_be_read() {
     let place = Place::new();
     let look = |path: &Path| words(&[&"frames", &path]);
     fails(&look(&place.join("none")), 1, &["none: there is no such file\n"]);
+    for path in [place.join("none"), place.0.clone()] {
+        assert_eq!(err(&look(&path)), err(&words(&[&"records", &path])));
+    }
     fails(&look(&place.0), 1, &[": this is a directory, not a file\n"]);
     fails(
         &look(Path::new("/dev/zero")),
@@ -317,14 +398,17 @@ fn files_that_cannot_be_read() {
         &["refused (3): this is not a btsnoop file: its first 16 bytes are not a btsnoop header of version 1\n"],
     );
     let other = place.file("other", b"btsnoop\0\0\0\0\x01\0\0\x03\xEB");
+    fails(&words(&[&"records", &other]), 1, &["refused (4): the trace has datalink 1003"]);
     fails(&look(&other), 1, &["refused (4): the trace has datalink 1003, and only 1001, 1002 and 2001 can be read\n"]);
     let bare = place.file("bare", b"btsnoop\0\0\0\0\x01\0\0\x03\xEA");
+    assert_eq!(out(&words(&[&"records", &bare])), "datalink 1002: 0 records\n");
     fails(&look(&bare), 1, &["refused (6): nothing in the trace unpacks as a frame\n"]);
     let long = place.join("long");
     fs::File::create(&long).unwrap().set_len(1_048_577).unwrap();
     fails(&look(&long), 1, &["long: refused (1): the file is longer than 1048576 bytes\n"]);
     fs::File::create(&long).unwrap().set_len(1 << 40).unwrap();
     fails(&look(&long), 1, &["long: refused (1)"]);
+    fails(&words(&[&"records", &long]), 1, &["long: refused (1): the file is longer than 1048576 bytes\n"]);
     fs::File::create(&long).unwrap().set_len(1_048_576).unwrap();
     fails(&look(&long), 1, &["long: refused (3)"]);
 }
@@ -435,7 +519,7 @@ fn a_failure_midway_leaves_nothing() {
 #[test]
 fn nobody_listens() {
     let trace = example("headset.btsnoop");
-    for command in ["frames", "import"] {
+    for command in ["frames", "records", "import"] {
         let (reader, writer) = pipe().unwrap();
         drop(reader);
         let mut program = Command::new(PROGRAM);

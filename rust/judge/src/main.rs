@@ -21,7 +21,7 @@ use std::{env, fs, process};
 
 use generate::Generated;
 use judged::{spans, Piece, Seen};
-use lumbryth::{import, unpack, Refusal, TailRule};
+use lumbryth::{import, records, unpack, Records, Refusal, TailRule};
 use rng::Rng;
 
 /// How many cuts of each trace are judged.
@@ -101,11 +101,21 @@ fn judge_spans(pieces: &[Piece], file: &[u8], tail: usize, dlcis: &[u8], tally: 
     Ok(())
 }
 
+/// The library's records are those that were made, and as many as tshark shows.
+fn judge_records(shown: usize, starts: &[usize], file: &[u8], tail: usize) -> Result<(), String> {
+    let found = records(file);
+    if shown != starts.len() || found != Ok(Records { starts: starts.to_vec(), tail }) {
+        return Err(format!("{shown} records there, {} made, here {found:?}", starts.len()));
+    }
+    Ok(())
+}
+
 /// The same of the first `n` bytes, held to what tshark found in the records that are left.
 fn judge_cut(seen: &Seen, generated: &Generated, n: usize) -> Result<(), String> {
     let ends: Vec<usize> = generated.starts[1..].iter().copied().chain([generated.file.len()]).collect();
     let left = ends.iter().filter(|&&end| end <= n).count();
     let tail = if left == 0 { 16 } else { ends[left - 1] };
+    judge_records(left, &generated.starts[..left], &generated.file[..n], tail)?;
     let pieces = seen.pieces.iter().filter(|piece| piece.record <= left).cloned().collect::<Vec<_>>();
     judge_spans(&pieces, &generated.file[..n], tail, &generated.dlcis, &mut Tally::default())
         .map_err(|words| format!("cut at {n}: {words}"))
@@ -167,6 +177,7 @@ fn run(traces: usize, seed: u64, dir: &Path) -> Result<Tally, String> {
             format!("trace {i}, datalink {datalink}, seed {seed}: {words}\nthe trace is kept: {}", path.display())
         };
         let seen = tshark::read(&path).map_err(kept)?;
+        judge_records(seen.records, &generated.starts, &generated.file, generated.file.len()).map_err(kept)?;
         judge_pdus(&seen, &generated.file, &mut tally).map_err(kept)?;
         let file = &generated.file;
         judge_spans(&seen.pieces, file, file.len(), &generated.dlcis, &mut tally).map_err(kept)?;

@@ -64,6 +64,14 @@ extern "C" {
         values: *mut u64,
         values_len: usize,
     ) -> u32;
+    fn lumbryth_records(
+        file: *const u8,
+        file_len: usize,
+        starts: *mut u64,
+        starts_len: usize,
+        values: *mut u64,
+        values_len: usize,
+    ) -> u32;
 }
 
 pub fn unpack(wire: &[u8], out: &mut [u8], values: &mut [u64]) -> u32 {
@@ -155,6 +163,20 @@ pub fn import(file: &[u8], work: &mut [u8], out: &mut [u8], channel: u32, tolera
             out.len(),
             channel,
             tolerant,
+            values.as_mut_ptr(),
+            values.len(),
+        )
+    }
+}
+
+pub fn records(file: &[u8], starts: &mut [u64], values: &mut [u64]) -> u32 {
+    // Safety: as for `unpack`; `starts` too is borrowed for the call alone.
+    unsafe {
+        lumbryth_records(
+            file.as_ptr(),
+            file.len(),
+            starts.as_mut_ptr(),
+            starts.len(),
             values.as_mut_ptr(),
             values.len(),
         )

@@ -120,6 +120,15 @@ pub struct Fixture {
     pub wire: Vec<u8>,
 }
 
+/// The records of a trace.
+#[derive(Debug, Clone, PartialEq, Eq, Hash)]
+pub struct Records {
+    /// Where each whole record starts: 24 bytes, then its packet.
+    pub starts: Vec<usize>,
+    /// The file's length or, if it was cut, where the record starts inside which it ends.
+    pub tail: usize,
+}
+
 /// A file that ends inside a record.
 #[derive(Debug, Clone, Copy, PartialEq, Eq, Hash)]
 pub struct Cut {
@@ -279,6 +288,30 @@ pub fn import(file: &[u8], channel: Option<u8>, tail: TailRule) -> Result<Import
         tail: values[3] as usize,
         spans: items::spans(&list),
     })
+}
+
+/// The records of a trace. A file that ends inside a record is not refused; [`Records::tail`] tells.
+///
+/// ```
+/// use lumbryth::{records, Records, Refusal};
+///
+/// let mut file = b"btsnoop\0\0\0\0\x01\0\0\x03\xEA".to_vec();
+/// file.extend([0; 24]);
+/// file.extend([0; 25]);
+/// assert_eq!(records(&file), Ok(Records { starts: vec![16, 40], tail: 64 }));
+/// assert_eq!(records(&file[..15]), Err(Refusal::NotBtsnoop));
+/// ```
+pub fn records(file: &[u8]) -> Result<Records, Refusal> {
+    // A record has at least 24 bytes, and a file that is too long is refused.
+    let mut starts = vec![0; file.len().min(FILE_MAX).saturating_sub(16) / 24];
+    let mut values = [0; VALUES];
+    match ffi::records(file, &mut starts, &mut values) {
+        0 => {
+            starts.truncate(values[0] as usize);
+            Ok(Records { starts: starts.into_iter().map(|start| start as usize).collect(), tail: values[1] as usize })
+        }
+        number => Err(Refusal::of(number, &values)),
+    }
 }
 
 /// How a file was cut, if it was, by the tail offset that was answered for it or the offset of

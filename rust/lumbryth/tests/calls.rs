@@ -1,8 +1,8 @@
 //! The calls by document 01's examples: each refusal with its number, values and words, and what is empty, long or full.
 
 use lumbryth::{
-    capture_order, fixture_name, import, is_command_name, pack, plan, unpack, Direction, Fixture, Refusal, Span,
-    TailRule,
+    capture_order, fixture_name, import, is_command_name, pack, plan, records, unpack, Direction, Fixture, Records,
+    Refusal, Span, TailRule,
 };
 
 /// Document 01's worked example.
@@ -123,4 +123,23 @@ fn lists() {
 fn commands() {
     assert!(is_command_name("GENERAL_SETTING_NTNY_PARAM"));
     assert!(!is_command_name("") && !is_command_name("NO_COMMAND") && !is_command_name([0xFF]));
+}
+
+#[test]
+fn the_records() {
+    let found = |starts: &[usize], tail| Ok(Records { starts: starts.to_vec(), tail });
+    assert_eq!(records(&EXAMPLE), found(&[16], 62));
+    for n in 16..62 {
+        assert_eq!(records(&EXAMPLE[..n]), found(&[], 16), "{n} bytes");
+    }
+    refused(records(&[0; 1_048_577]), Refusal::FileLong, 1, &[]);
+    refused(records(&EXAMPLE[..15]), Refusal::NotBtsnoop, 3, &[]);
+    let mut other = EXAMPLE;
+    other[15] = 0xEB;
+    refused(records(&other), Refusal::Datalink(1003), 4, &["1003"]);
+    // As many as there can be.
+    let full = [&EXAMPLE[..16], &[0; 24 * 43_690][..]].concat();
+    assert_eq!(full.len(), 1_048_576);
+    let starts: Vec<usize> = (0..43_690).map(|i| 16 + 24 * i).collect();
+    assert_eq!(records(&full), found(&starts, 1_048_576));
 }
