@@ -1,6 +1,8 @@
 //! `lumbryth`: fixtures from recorded Bluetooth traces, and a look inside them. A thin program over the proved library; what it
 //! adds is reading and writing files, and words.
 
+#![forbid(unsafe_code)]
+
 mod args;
 mod help;
 mod report;

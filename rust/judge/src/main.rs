@@ -7,6 +7,8 @@
 //! bytes, direction and time, in order, and how many are under way at the end. Cuts of the trace are held to what tshark
 //! found in the records that are left. Then faults are planted in what our side reads, and each of them has to show.
 
+#![forbid(unsafe_code)]
+
 mod generate;
 mod judged;
 mod reader;

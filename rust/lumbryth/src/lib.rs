@@ -27,7 +27,9 @@
 //! ```
 
 #![deny(missing_docs)]
+#![deny(unsafe_code)]
 
+#[allow(unsafe_code)]
 mod ffi;
 mod items;
 mod refusal;
