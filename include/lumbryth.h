@@ -194,9 +194,9 @@ uint32_t lumbryth_import_strict(const uint8_t *file, size_t file_len,
 
 /*
  * Finds the records of a trace: stores where each whole record starts at the front of
- * `starts`, as many as there is room for. A trace has at most (file_len - 16) / 24.
- * A record is 24 bytes and its packet, whose length stands in its bytes 4 to 7, highest
- * first.
+ * `starts`, as many as there is room for; places past those stay as they were, and all of
+ * them after a refusal. A trace has at most (file_len - 16) / 24 records. A record is 24
+ * bytes and its packet, whose length stands in its bytes 4 to 7, highest first.
  * Values: number of records, tail offset (as for an import).
  * Refusals: 1, 3, 4.
  */
