@@ -99,7 +99,7 @@ impl Link {
         self.cids[way(direction)]
     }
 
-    /// Sends all of a PDU, in order.
+    /// A PDU waits behind those that wait already.
     fn push(&mut self, direction: Direction, pdu: Vec<u8>) {
         self.waiting[way(direction)].push_back(pdu);
     }
