@@ -64,3 +64,32 @@ module _ (f : List ℕ) (t : Bool) (e : t ≡ isBtsnoop f) where
     pub header-other : s ≡ false → Other n ≡ headerOf f
     unfolding headerOf datalink
     header-other z = rw (sym e ∙ q, ← m, sym d ∙ z)
+
+-- ---- what a header that was read tells
+
+pub no-header : (f : List ℕ) → headerOf f ≡ NotBtsnoop → isBtsnoop f ≡ false
+unfolding headerOf
+no-header f e =
+    splitB (isBtsnoop f)
+    (λ a. splitB (isDatalink (datalink f))
+    (λ b. let q = rw (a, b) at e in let z : _≡_ {A = ℕ} 0 1 = cc in absurd (omega arith))
+    (λ b. let q = rw (a, b) at e in let z : _≡_ {A = ℕ} 0 1 = cc in absurd (omega arith)))
+    (λ a. a)
+
+pub other-link : (f : List ℕ) (n : ℕ) → headerOf f ≡ Other n → (isBtsnoop f ≡ true) × (isDatalink (datalink f) ≡ false) × (n ≡ datalink f)
+unfolding headerOf
+other-link f n e =
+    splitB (isBtsnoop f)
+    (λ a. splitB (isDatalink (datalink f))
+    (λ b. let q = rw (a, b) at e in let z : _≡_ {A = ℕ} 0 1 = cc in absurd (omega arith))
+    (λ b. let q = rw (a, b) at e in (a, b, (let z : n ≡ datalink f = cc in z))))
+    (λ a. let q = rw a at e in let z : _≡_ {A = ℕ} 0 1 = cc in absurd (omega arith))
+
+pub known-link : (f : List ℕ) (n : ℕ) → headerOf f ≡ Datalink n → (isBtsnoop f ≡ true) × (isDatalink (datalink f) ≡ true)
+unfolding headerOf
+known-link f n e =
+    splitB (isBtsnoop f)
+    (λ a. splitB (isDatalink (datalink f))
+    (λ b. (a, b))
+    (λ b. let q = rw (a, b) at e in let z : _≡_ {A = ℕ} 0 1 = cc in absurd (omega arith)))
+    (λ a. let q = rw a at e in let z : _≡_ {A = ℕ} 0 1 = cc in absurd (omega arith))

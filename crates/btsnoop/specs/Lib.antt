@@ -5,6 +5,9 @@ pub mod Packets
 pub mod PacketTable
 pub mod Parts
 pub mod Walk
+pub mod Reader
+pub mod Listing
+pub mod Listings
 pub mod Reading
 pub mod Adding
 pub mod PacketFrames

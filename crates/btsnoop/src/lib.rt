@@ -3,10 +3,13 @@ ghost use mathlib.Core.Path.{_≡_};
 ghost use mathlib.Core.Bool.{cond};
 ghost use Prim.Native.Nat.{_+_, _-_, _*_, _/_, _%_, _≤_, _<_};
 ghost use lib.Dec.{eqb};
-ghost use lib.ListN.{length};
+ghost use lib.ListN.{length, set};
 ghost use Rattle.btsnoop.specs.Header.{isBtsnoop, isDatalink};
 ghost use Rattle.btsnoop.specs.Headers.{headerOf};
 ghost use Rattle.btsnoop.specs.Walk.{NextIs};
+ghost use Rattle.btsnoop.specs.Reader.{stepOf, Starts, Moves};
+ghost use Rattle.btsnoop.specs.Listing.{Lists};
+ghost use Rattle.btsnoop.specs.Listings.{WalkedTo};
 ghost use Rattle.btsnoop.specs.Reading.{AclPre, AclIs, H4Is, MonitorIs, HciIs, RecordPre, RecordIs};
 ghost use Rattle.btsnoop.specs.Adding.{putPacket, AddPre, Added, ReadPre, ReadTo};
 use words::Field;
@@ -284,6 +287,139 @@ pub fn read_packets(file: &[u8], w: &mut [u8]) -> Packets
                 count = add_packet(file, w, at, end, datalink, count);
                 at = end;
             }
+        }
+    }
+}
+
+// A reader over the lent capture: the next record starts at an offset of it.
+pub struct Reader<'a> {
+    pub file: &'a [u8],
+    pub at: usize,
+}
+
+// What a reader finds at its offset.
+pub enum Step {
+    // a whole record: where it ends
+    Record(usize),
+    // a record that passes the end: where it starts
+    Cut(usize),
+    // the file's end
+    End,
+}
+
+// What stands at an offset.
+pub fn step_at(file: &[u8], at: usize) -> Step
+    ensures { λ r. ⌜ r ≡ stepOf (now (file .entry)) at ⌝ }
+{
+    if file.len() <= at {
+        return Step::End;
+    }
+    let x = next_record(file, at);
+    match x {
+        Next::Record(end) => Step::Record(end),
+        Next::End => Step::Cut(at),
+    }
+}
+
+// The reader of a capture, at its first record.
+pub fn start<'a>(file: &'a [u8]) -> Reader<'a>
+    ensures { λ r. ⌜ Starts (file .entry) r ⌝ }
+{
+    Reader { file, at: 16 }
+}
+
+// The header of a reader's capture.
+pub fn header_of<'a>(r: Reader<'a>) -> Header
+    ensures { λ h. ⌜ h ≡ headerOf (now (r .entry .file)) ⌝ }
+{
+    read_header(r.file)
+}
+
+// What a reader finds.
+pub fn next_step<'a>(r: Reader<'a>) -> Step
+    ensures { λ s. ⌜ s ≡ stepOf (now (r .entry .file)) (r .entry .at) ⌝ }
+{
+    step_at(r.file, r.at)
+}
+
+// The reader after a record that ends at an offset.
+pub fn moved<'a>(r: Reader<'a>, end: usize) -> Reader<'a>
+    ensures { λ q. ⌜ Moves (r .entry) end q ⌝ }
+{
+    Reader {
+        file: r.file,
+        at: end,
+    }
+}
+
+// What a reader of a capture finds at an offset, for callers that hold no reader.
+pub fn read_at(file: &[u8], at: usize) -> Step
+    ensures { λ s. ⌜ s ≡ stepOf (now (file .entry)) at ⌝ }
+{
+    next_step(Reader { file, at })
+}
+
+// What walking the records finds: how many there are, and the tail offset.
+pub struct Walked {
+    pub count: usize,
+    pub tail: usize,
+}
+
+// Stores an offset at a place that is there.
+fn put_start(starts: &mut [u64], i: usize, at: usize)
+    ensures { λ _. ⌜ now (starts .exit) ≡ set (now (starts .entry)) i at ⌝ }
+{
+    if i < starts.len() {
+        starts[i] = at as u64;
+    }
+}
+
+// Walks the records by a reader, and stores where each starts, as many as there is room for.
+fn walk_records(file: &[u8], starts: &mut [u64]) -> Walked
+    ensures { λ r. ⌜ WalkedTo (now (file .entry)) (now (starts .entry)) (now (starts .exit)) r ⌝ }
+{
+    let mut at = 16;
+    let mut count = 0;
+    loop {
+        let x = read_at(file, at);
+        match x {
+            Step::Record(end) => {
+                put_start(starts, count, at);
+                count += 1;
+                at = end;
+            }
+            Step::Cut(_) => {
+                return Walked { count, tail: at };
+            }
+            Step::End => {
+                return Walked { count, tail: at };
+            }
+        }
+    }
+}
+
+// The answer of a listing: how many records and the tail offset, or a refusal.
+pub enum Listed {
+    Records(usize, usize),
+    FileLong,
+    NotBtsnoop,
+    Datalink(u32),
+}
+
+// Stores where each whole record starts at the front of a list, as many as there is room for.
+pub fn list_records(file: &[u8], starts: &mut [u64]) -> Listed
+    ensures { λ r. ⌜ Lists (now (file .entry)) (now (starts .entry)) r (now (starts .exit)) ⌝ }
+{
+    if 1048576 < file.len() {
+        return Listed::FileLong;
+    }
+    let h = read_header(file);
+    match h {
+        Header::NotBtsnoop => Listed::NotBtsnoop,
+        Header::Other(n) => Listed::Datalink(n),
+        Header::Datalink(_) => {
+            let w = walk_records(file, starts);
+            Listed::Records(w.count, w.tail)
         }
     }
 }

@@ -4,6 +4,7 @@ ghost use mathlib.Core.Path.{_≡_};
 ghost use mathlib.Core.List.{[], _∷_};
 ghost use Prim.Native.Nat.{_≤_};
 ghost use lib.ListN.{set, take};
+ghost use Rattle.btsnoop.specs.Listing.{toldListed};
 ghost use Rattle.capture.specs.Calls.{toldImported, ruleOf};
 ghost use Rattle.fixtures.specs.Plan.{planOf};
 ghost use Rattle.fixtures.specs.Told.{toldPlanned};
@@ -17,6 +18,7 @@ ghost use Rattle.order.specs.Order.{captureOrder, toldOrdered};
 ghost use Rattle.streams.specs.Streams.{channelOf};
 ghost use Rattle.lumbryth.specs.Calls.{numberOf, valuesOf, stored, Calls, Shows, Tells};
 ghost use Rattle.lumbryth.specs.Imports.{bit, wayOf, channelNumber, ruleNumber, ImportCalls};
+ghost use Rattle.lumbryth.specs.RecordCalls.{RecordsCalls};
 
 // An answer's number, and its values: the first count of a, b and c.
 struct Shown {
@@ -335,4 +337,29 @@ pub extern "C" fn lumbryth_import_strict(
     ensures { λ r. ⌜ ImportCalls (now (file .entry)) (now (work .entry)) (now (out .entry)) channel 0 (now (values .entry)) r (now (work .exit)) (now (out .exit)) (now (values .exit)) ⌝ }
 {
     lumbryth_import(file, work, out, channel, 0, values)
+}
+
+// Tells an answer of a listing of records.
+fn tell_records(l: btsnoop::Listed, values: &mut [u64]) -> u32
+    ensures { λ r. ⌜ Tells (toldListed l) (now (values .entry)) r (now (values .exit)) ⌝ }
+{
+    match l {
+        btsnoop::Listed::Records(count, tail) => {
+            store(values, 2, count as u64, tail as u64, 0);
+            0
+        }
+        btsnoop::Listed::FileLong => 1,
+        btsnoop::Listed::NotBtsnoop => 3,
+        btsnoop::Listed::Datalink(n) => tell_one(4, values, n as u64),
+    }
+}
+
+// Stores where each whole record of a trace starts at the front of starts, as many as there is room for. Values: records,
+// tail offset.
+#[no_mangle]
+pub extern "C" fn lumbryth_records(file: &[u8], starts: &mut [u64], values: &mut [u64]) -> u32
+    ensures { λ r. ⌜ RecordsCalls (now (file .entry)) (now (starts .entry)) (now (values .entry)) r (now (starts .exit)) (now (values .exit)) ⌝ }
+{
+    let l = btsnoop::list_records(file, starts);
+    tell_records(l, values)
 }

@@ -3,7 +3,7 @@ use mathlib.Core.Path.{_≡_, refl, sym, ap, _∙_}
 use mathlib.Core.Logic.{_⊎_, inl, inr, ⊎-elim}
 use mathlib.Core.Bool.{Bool, true, false}
 use mathlib.Core.List.{List, [], _∷_, _++_, append-assoc}
-use Prim.Native.Nat.{ℕ, zero, suc, _+_, _-_, _*_, _<_, _≤_}
+use Prim.Native.Nat.{ℕ, zero, suc, _+_, _-_, _*_, _/_, _<_, _≤_}
 use native.Mathlib.Nat.{add-zero}
 use native.Mathlib.Omega.{arith}
 use lib.ListN.{length, take, drop, length-drop, drop-of-length-le}
@@ -14,8 +14,8 @@ use Rattle.laws.specs.Choice.{split≤, no-way}
 use Rattle.words.specs.Words.{word, putWord, length-put, word-put-same, word-put-other}
 use Rattle.order.specs.Counter.{leName}
 use Rattle.order.specs.Sort.{insert, isort, merge}
-use Rattle.order.specs.Steps.{nameAt, leAt, leftFirst, words, Kept, Copies, Merges, Sorts}
-use Rattle.order.proofs.Sorting.{isort-append, merge-met}
+use Rattle.order.specs.Steps.{nameAt, leAt, leftFirst, words, Kept, Apart, Copies, Rotates, Merges, Halves, Joins, Pairs, Sorts}
+use Rattle.order.proofs.Sorting.{isort-append, merge-met, merge-turned}
 use Rattle.order.proofs.Names.{name-trans, name-total}
 
 -- ---- the name at a place
@@ -80,33 +80,68 @@ kept-put : (lo hi top : ℕ) (w u : List ℕ) (i v : ℕ) → Kept lo hi top w u
 kept-put lo hi top w u i v k h =
     record { same = λ j p q. word-put-other u i v j (λ e. ⊎-elim (λ x. ⊎-elim (λ y. omega arith) (λ y. omega arith) q) (λ x. omega arith) h) ∙ k .same j p q }
 
+kept-wide : (lo hi lo′ hi′ top : ℕ) (w u : List ℕ) → Kept lo hi top w u → lo′ ≤ lo → hi ≤ hi′ → Kept lo′ hi′ top w u
+kept-wide lo hi lo′ hi′ top w u k f g = record { same = λ j p q. k .same j p (⊎-elim (λ x. inl (omega arith)) (λ x. inr (omega arith)) q) }
+
 words-kept : (lo hi top : ℕ) (w u : List ℕ) (i n : ℕ) → Kept lo hi top w u → i + n ≤ top → (i + n ≤ lo) ⊎ (hi ≤ i) → words u i n ≡ words w i n
 words-kept lo hi top w u i n k h g = words-same w u i n (λ j p q. k .same j (omega arith) (⊎-elim (λ x. inl (omega arith)) (λ x. inr (omega arith)) g))
 
 -- ---- copying
 
-pub record Copying (lo n top : ℕ) (w u : List ℕ) (i : ℕ) : Type 0 where
+pub record Copying (lo n to : ℕ) (w u : List ℕ) (i : ℕ) : Type 0 where
   pub within : i ≤ n
   pub long : length u ≡ length w
-  pub copied : words u top i ≡ words w lo i
-  pub kept : Kept 0 0 top w u
+  pub copied : words u to i ≡ words w lo i
+  pub kept : (top : ℕ) → Kept to (to + i) top w u
 
-pub copying-start : (lo n top : ℕ) (w : List ℕ) → Copying lo n top w w 0
-copying-start lo n top w = record { within = omega arith; long = refl; copied = refl; kept = kept-none 0 0 top w }
+pub copying-start : (lo n to : ℕ) (w : List ℕ) → Copying lo n to w w 0
+copying-start lo n to w = record { within = omega arith; long = refl; copied = refl; kept = λ top. kept-none to (to + 0) top w }
 
-module _ (lo n top : ℕ) (w u : List ℕ) (i : ℕ) (c : Copying lo n top w u i) (apart : lo + n ≤ top) where
-  pub copying-turn : (v : ℕ) (u′ : List ℕ) → 4 * (top + n) ≤ length w → i < n → v ≡ word u (lo + i) → u′ ≡ putWord u (top + i) v → Copying lo n top w u′ (i + 1)
-  copying-turn v u′ room h e q =
+module _ (lo n to : ℕ) (w u : List ℕ) (i : ℕ) (c : Copying lo n to w u i) where
+  source : i < n → Apart lo n to → word u (lo + i) ≡ word w (lo + i)
+  unfolding Apart
+  source h d = c .kept (suc (lo + i)) .same (lo + i) (omega arith) (⊎-elim (λ x. inr (omega arith)) (λ x. inl (omega arith)) d)
+
+  pub copying-turn : (v : ℕ) (u′ : List ℕ) → Apart lo n to → 4 * (to + n) ≤ length w → i < n → v ≡ word u (lo + i) → u′ ≡ putWord u (to + i) v → Copying lo n to w u′ (i + 1)
+  copying-turn v u′ d room h e q =
       record {
         within = omega arith;
-        long = rw (q, length-put u (top + i) v) (c .long);
-        copied =
-            rw (q, words-more u top i v (omega (arith, c .long)), c .copied, words-snoc w lo i, e, c .kept .same (lo + i) (omega arith) (inr (omega arith)));
-        kept = rw q (kept-put 0 0 top w u (top + i) v (c .kept) (inr (omega arith)));
+        long = rw (q, length-put u (to + i) v) (c .long);
+        copied = rw (q, words-more u to i v (omega (arith, c .long)), c .copied, words-snoc w lo i, e, source h d);
+        kept = λ top. rw q (kept-put to (to + (i + 1)) top w u (to + i) v (kept-wide to (to + i) to (to + (i + 1)) top w u (c .kept top) (omega arith) (omega arith)) (inl (omega arith, omega arith)));
       }
 
-  pub copying-end : n ≤ i → Copies lo n top w u
-  copying-end h = let e : i ≡ n = omega (arith, c .within) in record { copied = rw e at (c .copied); kept = c .kept }
+  pub copying-end : n ≤ i → Copies lo n to w u
+  copying-end h = let e : i ≡ n = omega (arith, c .within) in record { copied = rw e at (c .copied); kept = λ top. rw e at (c .kept top) }
+
+pub apart-up : (lo n to : ℕ) → lo + n ≤ to → Apart lo n to
+unfolding Apart
+apart-up lo n to h = inr h
+
+pub apart-down : (lo n to : ℕ) → to ≤ lo → Apart lo n to
+unfolding Apart
+apart-down lo n to h = inl h
+
+-- the first part aside, the second down, the first behind it
+pub rotates : (lo h m top : ℕ) (w w1 w2 u : List ℕ) → lo + h + m ≤ top → Copies lo h top w w1 → Copies (lo + h) m lo w1 w2 → Copies top h (lo + m) w2 u → Rotates lo h m top w u
+rotates lo h m top w w1 w2 u d a b c = record {
+  turned =
+      words-append u lo m h
+      ∙ rw (
+        words-kept (lo + m) (lo + m + h) (lo + m) w2 u lo m (c .kept (lo + m)) (omega arith) (inl (omega arith)),
+        c .copied,
+        words-kept lo (lo + m) (top + h) w1 w2 top h (b .kept (top + h)) (omega arith) (inr (omega arith)),
+        a .copied,
+        b .copied,
+        words-kept top (top + h) top w w1 (lo + h) m (a .kept top) (omega arith) (inl (omega arith)),
+      );
+  kept = record {
+    same = λ j p q.
+        c .kept top .same j p (⊎-elim (λ x. inl (omega arith)) (λ x. inr (omega arith)) q)
+        ∙ b .kept top .same j p (⊎-elim (λ x. inl (omega arith)) (λ x. inr (omega arith)) q)
+        ∙ a .kept top .same j p (inl (omega arith));
+  };
+}
 
 -- ---- merging
 
@@ -223,7 +258,7 @@ module _ (l : List ℕ) (lo h m top : ℕ) (w u : List ℕ) (i j : ℕ) (c : Mer
           kept = kept′;
         }
 
--- ---- sorting
+-- ---- the order of places
 
 at-trans : (l : List ℕ) (x y z : ℕ) → leAt l x y ≡ true → leAt l y z ≡ true → leAt l x z ≡ true
 unfolding leAt
@@ -233,11 +268,86 @@ at-total : (l : List ℕ) (x y : ℕ) → leAt l x y ≡ false → leAt l y x �
 unfolding leAt
 at-total l x y = name-total (nameAt l x) (nameAt l y)
 
+-- ---- joining
+
+module _ (l : List ℕ) (lo h m top : ℕ) (w : List ℕ) (d : Halves lo h m top w) where
+  merged-all : (p q : List ℕ) → words w lo h ≡ isort (leAt l) p → words w (lo + h) m ≡ isort (leAt l) q → merge (leAt l) (words w lo h) (words w (lo + h) m) ≡ isort (leAt l) (p ++ q)
+  merged-all p q f g = rw (f, g) (sym (isort-append (leAt l) (at-trans l) (at-total l) p q))
+
+  -- they meet in order
+  pub joins-met : (a end : ℕ) (b : Bool) → end ≡ lo + h + m → a ≡ word w (lo + h - 1) → b ≡ leftFirst l w a (lo + h) end → b ≡ true → Joins l lo h m top w w
+  joins-met a end b z e f g =
+      let k : h ≡ h - 1 + 1 = omega (arith, d .left) in
+      let i : lo + (h - 1) ≡ lo + h - 1 = omega (arith, d .left) in
+      let j : m ≡ suc (m - 1) = omega (arith, d .right) in
+      let x : words w lo h ≡ words w lo (h - 1) ++ (a ∷ []) = ap (words w lo) k ∙ words-snoc w lo (h - 1) ∙ rw (i, e) in
+      let y : words w (lo + h) m ≡ word w (lo + h) ∷ words w (suc (lo + h)) (m - 1) = ap (words w (lo + h)) j in
+      let t : leAt l a (word w (lo + h)) ≡ true = left-true l w a (lo + h) end b f g (omega (arith, d .right)) in
+      record {
+        joined = λ p q s r.
+            words-append w lo h m
+            ∙ rw (y, s) (sym (merge-met (leAt l) (at-trans l) (at-total l) p (words w lo (h - 1)) a (word w (lo + h)) (words w (suc (lo + h)) (m - 1)) (sym s ∙ x) t))
+            ∙ merged-all p q s r;
+        kept = kept-none lo (lo + h + m) top w;
+      }
+
+  pub joins-merged : (w1 u : List ℕ) → Copies lo h top w w1 → Merges l lo h m top w1 u → Joins l lo h m top w u
+  joins-merged w1 u c g = record {
+    joined = λ p q s r. g .merged ∙ rw (c .copied, words-kept top (top + h) top w w1 (lo + h) m (c .kept top) (omega (arith, d .apart)) (inl (omega (arith, d .apart)))) (merged-all p q s r);
+    kept = record { same = λ j p q. g .kept .same j p q ∙ c .kept top .same j p (inl (omega arith)) };
+  }
+
+  -- they are wholly the wrong way round
+  pub joins-turned : (x end : ℕ) (b : Bool) (u : List ℕ) → end ≡ lo + h + m → x ≡ word w lo → b ≡ leftFirst l w x (end - 1) end → b ≡ false → Rotates lo h m top w u → Joins l lo h m top w u
+  joins-turned x end b u z e f g c =
+      let k : m ≡ m - 1 + 1 = omega (arith, d .right) in
+      let i : lo + h + (m - 1) ≡ end - 1 = omega (arith, d .right) in
+      let j : h ≡ suc (h - 1) = omega (arith, d .left) in
+      let n : h + m ≡ m + h = omega arith in
+      let v : words w (lo + h) m ≡ words w (lo + h) (m - 1) ++ (word w (end - 1) ∷ []) = ap (words w (lo + h)) k ∙ words-snoc w (lo + h) (m - 1) ∙ rw i in
+      let y : words w lo h ≡ x ∷ words w (suc lo) (h - 1) = ap (words w lo) j ∙ rw e in
+      let t : leAt l x (word w (end - 1)) ≡ false = left-false l w x (end - 1) end b f g in
+      record {
+        joined = λ p q s r.
+            ap (words u lo) n
+            ∙ c .turned
+            ∙ rw (y, r) (sym (merge-turned (leAt l) (at-trans l) (at-total l) q (words w (lo + h) (m - 1)) x (word w (end - 1)) (words w (suc lo) (h - 1)) (sym r ∙ v) t))
+            ∙ merged-all p q s r;
+        kept = c .kept;
+      }
+
+-- ---- pairs
+
+module _ (l : List ℕ) (lo : ℕ) (w : List ℕ) (a : ℕ) (b : Bool) (e : a ≡ word w lo) (f : b ≡ leftFirst l w a (lo + 1) (lo + 2)) where
+  pub pairs-met : b ≡ true → Pairs l lo w w
+  unfolding isort insert
+  pairs-met g =
+      let i : lo + 1 ≡ suc lo = omega arith in
+      let t : leAt l (word w lo) (word w (suc lo)) ≡ true = rw (e, i) at (left-true l w a (lo + 1) (lo + 2) b f g (omega arith)) in
+      record { sorted = rw t; kept = λ top. kept-none lo (lo + 2) top w }
+
+  pub pairs-turned : (v : ℕ) (w1 u : List ℕ) → 4 * (lo + 2) ≤ length w → b ≡ false → v ≡ word w (lo + 1) → w1 ≡ putWord w lo v → u ≡ putWord w1 (lo + 1) a → Pairs l lo w u
+  unfolding isort insert
+  pairs-turned v w1 u room g q r s =
+      let i : lo + 1 ≡ suc lo = omega arith in
+      let t : leAt l (word w lo) (word w (suc lo)) ≡ false = rw (e, i) at (left-false l w a (lo + 1) (lo + 2) b f g) in
+      let x : word u lo ≡ v = rw (s, r) (word-put-other (putWord w lo v) (lo + 1) a lo (λ n. omega arith) ∙ word-put-same w lo v (omega arith)) in
+      let y : word u (suc lo) ≡ a = rw (s, r, i) (word-put-same (putWord w lo v) (suc lo) a (omega (arith, length-put w lo v))) in
+      record {
+        sorted = rw (t, x, y, e, q, i);
+        kept = λ top. rw (s, r) (kept-put lo (lo + 2) top w (putWord w lo v) (lo + 1) a (kept-put lo (lo + 2) top w w lo v (kept-none lo (lo + 2) top w) (inl (omega arith, omega arith))) (inl (omega arith, omega arith)));
+      }
+
+-- ---- sorting
+
 pub sorts-few : (l : List ℕ) (lo n top : ℕ) (w : List ℕ) → n < 2 → Sorts l lo n top w w
 unfolding isort insert
 sorts-few l lo zero top w h = record { sorted = refl; kept = kept-none lo (lo + 0) top w }
 sorts-few l lo (suc zero) top w h = record { sorted = refl; kept = kept-none lo (lo + 1) top w }
 sorts-few l lo (suc (suc n)) top w h = absurd (omega arith)
+
+pub sorts-pair : (l : List ℕ) (lo n top : ℕ) (w u : List ℕ) → n ≡ 2 → Pairs l lo w u → Sorts l lo n top w u
+sorts-pair l lo n top w u e p = rw e (record { sorted = p .sorted; kept = p .kept top })
 
 -- the two halves are sorted, one after the other
 module _ (l : List ℕ) (lo n h m top : ℕ) (w0 w1 w2 : List ℕ) (whole : n ≡ h + m) (apart : lo + n ≤ top) (s : Sorts l lo h top w0 w1) (t : Sorts l (lo + h) m top w1 w2) where
@@ -247,11 +357,6 @@ module _ (l : List ℕ) (lo n h m top : ℕ) (w0 w1 w2 : List ℕ) (whole : n �
   right-half : words w2 (lo + h) m ≡ isort (leAt l) (words w0 (lo + h) m)
   right-half = t .sorted ∙ ap (isort (leAt l)) (words-kept lo (lo + h) top w0 w1 (lo + h) m (s .kept) (omega arith) (inr (omega arith)))
 
-  all : merge (leAt l) (words w2 lo h) (words w2 (lo + h) m) ≡ isort (leAt l) (words w0 lo n)
-  all =
-      rw (left-half, right-half, whole, words-append w0 lo h m)
-      (sym (isort-append (leAt l) (at-trans l) (at-total l) (words w0 lo h) (words w0 (lo + h) m)))
-
   stays : Kept lo (lo + n) top w0 w2
   stays = record {
     same = λ j p q.
@@ -259,26 +364,12 @@ module _ (l : List ℕ) (lo n h m top : ℕ) (w0 w1 w2 : List ℕ) (whole : n �
         ∙ s .kept .same j p (⊎-elim (λ x. inl (omega arith)) (λ x. inr (omega arith)) q);
   }
 
-  -- they meet in order
-  pub sorts-met : (a : ℕ) (b : Bool) → 0 < h → 0 < m → a ≡ word w2 (lo + h - 1) → b ≡ leftFirst l w2 a (lo + h) (lo + n) → b ≡ true → Sorts l lo n top w0 w2
-  sorts-met a b p q e f g =
-      let k : h ≡ h - 1 + 1 = omega arith in
-      let i : lo + (h - 1) ≡ lo + h - 1 = omega arith in
-      let j : m ≡ suc (m - 1) = omega arith in
-      let x : words w2 lo h ≡ words w2 lo (h - 1) ++ (a ∷ []) = ap (words w2 lo) k ∙ words-snoc w2 lo (h - 1) ∙ rw (i, e) in
-      let y : words w2 (lo + h) m ≡ word w2 (lo + h) ∷ words w2 (suc (lo + h)) (m - 1) = ap (words w2 (lo + h)) j in
-      let z : words w2 lo h ++ words w2 (lo + h) m ≡ merge (leAt l) (words w2 lo h) (words w2 (lo + h) m) =
-      rw (y, left-half)
-      (sym (merge-met (leAt l) (at-trans l) (at-total l) (words w0 lo h) (words w2 lo (h - 1)) a (word w2 (lo + h)) (words w2 (suc (lo + h)) (m - 1)) (sym left-half ∙ x) (left-true l w2 a (lo + h) (lo + n) b f g (omega arith)))) in
-      record { sorted = ap (words w2 lo) whole ∙ words-append w2 lo h m ∙ z ∙ all; kept = stays }
-
-  pub sorts-halves : (w3 w4 : List ℕ) → Copies lo h top w2 w3 → Merges l lo h m top w3 w4 → Sorts l lo n top w0 w4
-  sorts-halves w3 w4 c g = record {
-    sorted = ap (words w4 lo) whole ∙ g .merged ∙ rw (c .copied, words-kept 0 0 top w2 w3 (lo + h) m (c .kept) (omega arith) (inr (omega arith))) all;
-    kept = record {
-      same = λ j p q.
-          g .kept .same j p (⊎-elim (λ x. inl (omega arith)) (λ x. inr (omega arith)) q)
-          ∙ c .kept .same j p (inr (omega arith))
-          ∙ stays .same j p q;
-    };
+  joined-all : (w3 : List ℕ) → Joins l lo h m top w2 w3 → Sorts l lo n top w0 w3
+  joined-all w3 g = record {
+    sorted = ap (words w3 lo) whole ∙ g .joined (words w0 lo h) (words w0 (lo + h) m) left-half right-half ∙ ap (isort (leAt l)) (sym (words-append w0 lo h m) ∙ ap (words w0 lo) (sym whole));
+    kept = record { same = λ j p q. g .kept .same j p (⊎-elim (λ x. inl (omega arith)) (λ x. inr (omega arith)) q) ∙ stays .same j p q };
   }
+
+pub sorts-halves : (l : List ℕ) (lo n top : ℕ) (w0 w1 w2 w3 : List ℕ) → lo + n ≤ top → Sorts l lo (n / 2) top w0 w1 → Sorts l (lo + n / 2) (n - n / 2) top w1 w2
+    → Joins l lo (n / 2) (n - n / 2) top w2 w3 → Sorts l lo n top w0 w3
+sorts-halves l lo n top w0 w1 w2 w3 d s t g = joined-all l lo n (n / 2) (n - n / 2) top w0 w1 w2 (omega arith) d s t w3 g

@@ -41,7 +41,8 @@ module _ {A : Type 0} (le : A → A → Bool) where
     isort-append [] b = refl
     isort-append (x ∷ a) b = ap (insert le x) (isort-append a b) ∙ merge-insert x (isort le a) (isort le b)
 
--- ---- a sorted list rises, so two of them that meet in order are merged as they stand
+-- ---- a sorted list rises, so two of them that meet in order are merged as they stand, and two that are wholly the wrong
+-- way round are merged by changing them round
 
 pub data Rising {A : Type 0} (le : A → A → Bool) : List A → Type 0 where
   rise-nil : Rising le []
@@ -81,6 +82,18 @@ module _ {A : Type 0} (le : A → A → Bool) (trans : (x y z : A) → le x y �
   -- the last of the first part, a, does not come after the first of the second, y
   pub merge-met : (l k : List A) (a y : A) (b : List A) → isort le l ≡ k ++ (a ∷ []) → le a y ≡ true → merge le (isort le l) (y ∷ b) ≡ isort le l ++ (y ∷ b)
   merge-met l k a y b e q = rw e (meet k a y b (rw e at (rise-isort l)) q)
+
+  turn : (x : A) (a k : List A) (z : A) → Rising le (k ++ (z ∷ [])) → le x z ≡ false → merge le (x ∷ a) (k ++ (z ∷ [])) ≡ (k ++ (z ∷ [])) ++ (x ∷ a)
+  unfolding merge
+  turn x a [] z r q = rw q
+  turn x a (y ∷ k) z r q =
+      splitB (le x y)
+      (λ e. no-way (trans x y z e (first-last y k z r)) q)
+      (λ e. rw (e, turn x a k z (rest y (k ++ (z ∷ [])) r) q))
+
+  -- the first of the first part, x, comes after the last of the second, z
+  pub merge-turned : (l k : List A) (x z : A) (a : List A) → isort le l ≡ k ++ (z ∷ []) → le x z ≡ false → merge le (x ∷ a) (isort le l) ≡ isort le l ++ (x ∷ a)
+  merge-turned l k x z a e q = rw e (turn x a k z (rw e at (rise-isort l)) q)
 
 -- ---- sorting by what f makes of the elements is sorting what f makes of them
 

@@ -2,8 +2,8 @@
 use mathlib.Core.Path.{_≡_}
 use mathlib.Core.Bool.{Bool, true, cond}
 use mathlib.Core.Logic.{_⊎_}
-use mathlib.Core.List.{List, [], _∷_, map}
-use Prim.Native.Nat.{ℕ, zero, suc, _+_, _<_, _≤_}
+use mathlib.Core.List.{List, [], _∷_, _++_, map}
+use Prim.Native.Nat.{ℕ, zero, suc, _+_, _*_, _<_, _≤_}
 use lib.Dec.{leb}
 use lib.ListN.{length, take, drop}
 use Rattle.laws.specs.Numbers.{le32}
@@ -41,10 +41,19 @@ words w i (suc n) = word w i ∷ words w (suc i) n
 pub record Kept (lo hi top : ℕ) (w u : List ℕ) : Type 0 where
   pub same : (j : ℕ) → j < top → (j < lo) ⊎ (hi ≤ j) → word u j ≡ word w j
 
--- n words from lo on again from top on
-pub record Copies (lo n top : ℕ) (w u : List ℕ) : Type 0 where
-  pub copied : words u top n ≡ words w lo n
-  pub kept : Kept 0 0 top w u
+-- n words from lo on can be copied to the words from to on, the first first
+unfoldable pub Apart : ℕ → ℕ → ℕ → Type 0
+Apart lo n to = (to ≤ lo) ⊎ (lo + n ≤ to)
+
+-- n words from lo on as they were, from to on
+pub record Copies (lo n to : ℕ) (w u : List ℕ) : Type 0 where
+  pub copied : words u to n ≡ words w lo n
+  pub kept : (top : ℕ) → Kept to (to + n) top w u
+
+-- h words from lo on and m words behind them changed round
+pub record Rotates (lo h m top : ℕ) (w u : List ℕ) : Type 0 where
+  pub turned : words u lo (m + h) ≡ words w (lo + h) m ++ words w lo h
+  pub kept : Kept lo (lo + h + m) top w u
 
 -- whether the place a is next, before the word number k of those that end before the word number end
 unfoldable pub leftFirst : List ℕ → List ℕ → ℕ → ℕ → ℕ → Bool
@@ -54,6 +63,23 @@ leftFirst l w a k end = cond (leb end k) true (leAt l a (word w k))
 pub record Merges (l : List ℕ) (lo h m top : ℕ) (w u : List ℕ) : Type 0 where
   pub merged : words u lo (h + m) ≡ merge (leAt l) (words w top h) (words w (lo + h) m)
   pub kept : Kept lo (lo + h + m) top w u
+
+-- h words from lo on and m words behind them, at least one of each, and room for h words from top on
+pub record Halves (lo h m top : ℕ) (w : List ℕ) : Type 0 where
+  pub left : 0 < h
+  pub right : 0 < m
+  pub apart : lo + h + m ≤ top
+  pub room : 4 * (top + h) ≤ length w
+
+-- h words from lo on and m words behind them, sorted each, are sorted together
+pub record Joins (l : List ℕ) (lo h m top : ℕ) (w u : List ℕ) : Type 0 where
+  pub joined : (p q : List ℕ) → words w lo h ≡ isort (leAt l) p → words w (lo + h) m ≡ isort (leAt l) q → words u lo (h + m) ≡ isort (leAt l) (p ++ q)
+  pub kept : Kept lo (lo + h + m) top w u
+
+-- two words from lo on sorted
+pub record Pairs (l : List ℕ) (lo : ℕ) (w u : List ℕ) : Type 0 where
+  pub sorted : words u lo 2 ≡ isort (leAt l) (words w lo 2)
+  pub kept : (top : ℕ) → Kept lo (lo + 2) top w u
 
 -- n words from lo on sorted
 pub record Sorts (l : List ℕ) (lo n top : ℕ) (w u : List ℕ) : Type 0 where

@@ -4,7 +4,7 @@ ghost use Prim.Native.Nat.{_+_, _*_, _/_, _≤_};
 ghost use lib.ListN.{length, take, drop};
 ghost use Rattle.laws.specs.Keys.{eqK};
 ghost use Rattle.order.specs.Counter.{mark, toHyphen, digits, number, signed, within, counter, rank, leBytes, leName};
-ghost use Rattle.order.specs.Steps.{After, Comparing, nameAt, leftFirst, Copies, Merges, Sorts, Lent, namesAt, Placed, Fills};
+ghost use Rattle.order.specs.Steps.{After, Comparing, nameAt, leftFirst, Apart, Copies, Rotates, Merges, Halves, Joins, Pairs, Sorts, Lent, namesAt, Placed, Fills};
 ghost use Rattle.order.specs.Sort.{isort};
 ghost use Rattle.order.specs.Order.{captureOrder, toldOrdered};
 ghost use Rattle.items.specs.Items.{nameList};
@@ -210,17 +210,27 @@ fn is_left(names: &[u8], out: &[u8], a: u32, k: usize, end: usize) -> bool
     name_le(name_of(names, a), name_of(names, b))
 }
 
-// Copies n words from lo on to the words from top on.
-fn copy_words(out: &mut [u8], lo: usize, n: usize, top: usize)
-    requires { ⌜ (lo + n ≤ top) × (4 * (top + n) ≤ length (now out)) ⌝ }
-    ensures { λ _. ⌜ Copies lo n top (now (out .entry)) (now (out .exit)) ⌝ }
+// Copies the n words from lo on to the words from to on. They may overlap if they go down.
+fn copy_words(out: &mut [u8], lo: usize, n: usize, to: usize)
+    requires { ⌜ Apart lo n to × (4 * (lo + n) ≤ length (now out)) × (4 * (to + n) ≤ length (now out)) ⌝ }
+    ensures { λ _. ⌜ Copies lo n to (now (out .entry)) (now (out .exit)) ⌝ }
 {
     let mut i = 0;
     while i < n {
         let a = get32(out, lo + i);
-        put32(out, top + i, a);
+        put32(out, to + i, a);
         i += 1;
     }
+}
+
+// Changes the h words from lo on and the m words behind them round. The words from top on are free.
+fn rotate_words(out: &mut [u8], lo: usize, h: usize, m: usize, top: usize)
+    requires { ⌜ (lo + h + m ≤ top) × (4 * (top + h) ≤ length (now out)) ⌝ }
+    ensures { λ _. ⌜ Rotates lo h m top (now (out .entry)) (now (out .exit)) ⌝ }
+{
+    copy_words(out, lo, h, top);
+    copy_words(out, lo + h, m, lo);
+    copy_words(out, top, h, lo + m);
 }
 
 // Merges the h words from top on and the m words behind h from lo on, to the words from lo on.
@@ -243,8 +253,42 @@ fn merge_words(names: &[u8], out: &mut [u8], lo: usize, h: usize, m: usize, top:
     }
 }
 
-// Sorts the n words from lo on by the names at their places. The words from top on are free. Halves that meet in order
-// stay as they are, so a list that is in order takes n comparisons.
+// Joins two sorted halves, the h words from lo on and the m words behind them. The words from top on are free. Halves that
+// meet in order stay as they are, and halves that are wholly the wrong way round change places, so a list that is in order
+// takes n comparisons and a reversed one at most 2 n.
+fn join_halves(names: &[u8], out: &mut [u8], lo: usize, h: usize, m: usize, top: usize)
+    requires { ⌜ Halves lo h m top (now out) ⌝ }
+    ensures { λ _. ⌜ Joins (now (names .entry)) lo h m top (now (out .entry)) (now (out .exit)) ⌝ }
+{
+    let end = lo + h + m;
+    let a = get32(out, lo + h - 1);
+    if is_left(names, out, a, lo + h, end) {
+        return;
+    }
+    let x = get32(out, lo);
+    if is_left(names, out, x, end - 1, end) {
+        copy_words(out, lo, h, top);
+        merge_words(names, out, lo, h, m, top);
+        return;
+    }
+    rotate_words(out, lo, h, m, top);
+}
+
+// Sorts two words.
+fn sort_pair(names: &[u8], out: &mut [u8], lo: usize)
+    requires { ⌜ 4 * (lo + 2) ≤ length (now out) ⌝ }
+    ensures { λ _. ⌜ Pairs (now (names .entry)) lo (now (out .entry)) (now (out .exit)) ⌝ }
+{
+    let a = get32(out, lo);
+    if is_left(names, out, a, lo + 1, lo + 2) {
+        return;
+    }
+    let b = get32(out, lo + 1);
+    put32(out, lo, b);
+    put32(out, lo + 1, a);
+}
+
+// Sorts the n words from lo on by the names at their places. The words from top on are free.
 fn sort(names: &[u8], out: &mut [u8], lo: usize, n: usize, top: usize)
     requires { ⌜ (lo + n ≤ top) × (4 * (top + n / 2) ≤ length (now out)) ⌝ }
     ensures { λ _. ⌜ Sorts (now (names .entry)) lo n top (now (out .entry)) (now (out .exit)) ⌝ }
@@ -252,16 +296,15 @@ fn sort(names: &[u8], out: &mut [u8], lo: usize, n: usize, top: usize)
     if n < 2 {
         return;
     }
+    if n == 2 {
+        sort_pair(names, out, lo);
+        return;
+    }
     let h = n / 2;
     let m = n - h;
     sort(names, out, lo, h, top);
     sort(names, out, lo + h, m, top);
-    let a = get32(out, lo + h - 1);
-    if is_left(names, out, a, lo + h, lo + n) {
-        return;
-    }
-    copy_words(out, lo, h, top);
-    merge_words(names, out, lo, h, m, top);
+    join_halves(names, out, lo, h, m, top);
 }
 
 // ---- the list written

@@ -5,10 +5,10 @@ use Rattle.order.proofs.copy_words.Statement.{statement}
 use Rattle.order.proofs.copy_words.Tie as tie
 
 abbrev Inv-loop : tie.InvT-loop
-Inv-loop out₀ lo n top i₀ out i = Copying lo n top out₀ out i
+Inv-loop out₀ lo n to i₀ out i = Copying lo n to out₀ out i
 
 abbrev μ-loop : tie.MeasureT-loop
-μ-loop out₀ lo n top i₀ out i = n - i
+μ-loop out₀ lo n to i₀ out i = n - i
 
 loop-holds : tie.Need-loop-holds Inv-loop μ-loop
 loop-holds c = search copying-start
