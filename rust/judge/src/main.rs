@@ -167,34 +167,48 @@ fn plant(seen: &Seen, generated: &Generated) -> Result<usize, String> {
     Ok(faults.len())
 }
 
+/// Everything about one trace, which stands at `path`.
+fn judge(path: &Path, made: &Generated, rng: &mut Rng, tally: &mut Tally) -> Result<(), String> {
+    let file = &made.file;
+    let seen = tshark::read(path)?;
+    judge_records(seen.records, &made.starts, file, file.len())?;
+    judge_pdus(&seen, file, tally)?;
+    judge_spans(&seen.pieces, file, file.len(), &made.dlcis, tally)?;
+    if import(file, None, TailRule::Strict) != import(file, None, TailRule::Tolerant) {
+        return Err("the strict rule finds something else than the tolerant".to_string());
+    }
+    for _ in 0..CUTS {
+        judge_cut(&seen, made, rng.within(16, file.len()))?;
+    }
+    tally.pieces += seen.pieces.len();
+    tally.cuts += CUTS;
+    tally.faults += plant(&seen, made)?;
+    tally.traces += 1;
+    Ok(())
+}
+
+/// The trace that is shipped as an example.
+fn shipped(path: &Path) -> Result<Generated, String> {
+    let file = fs::read(path).map_err(|error| format!("{}: {error}", path.display()))?;
+    let found = records(&file).map_err(|refusal| refusal.to_string())?;
+    Ok(Generated { file, starts: found.starts, dlcis: vec![18] })
+}
+
 fn run(traces: usize, seed: u64, dir: &Path) -> Result<Tally, String> {
     let mut rng = Rng::new(seed);
     let mut tally = Tally::default();
     for i in 0..traces {
         let datalink = [1001, 1002, 2001][i % 3];
-        let generated = generate::trace(&mut rng, datalink);
+        let made = generate::trace(&mut rng, datalink);
         let path = dir.join(format!("{i}.btsnoop"));
-        fs::write(&path, &generated.file).map_err(|error| format!("{}: {error}", path.display()))?;
-        let kept = |words| {
+        fs::write(&path, &made.file).map_err(|error| format!("{}: {error}", path.display()))?;
+        judge(&path, &made, &mut rng, &mut tally).map_err(|words| {
             format!("trace {i}, datalink {datalink}, seed {seed}: {words}\nthe trace is kept: {}", path.display())
-        };
-        let seen = tshark::read(&path).map_err(kept)?;
-        judge_records(seen.records, &generated.starts, &generated.file, generated.file.len()).map_err(kept)?;
-        judge_pdus(&seen, &generated.file, &mut tally).map_err(kept)?;
-        let file = &generated.file;
-        judge_spans(&seen.pieces, file, file.len(), &generated.dlcis, &mut tally).map_err(kept)?;
-        if import(file, None, TailRule::Strict) != import(file, None, TailRule::Tolerant) {
-            return Err(kept("the strict rule finds something else than the tolerant".to_string()));
-        }
-        for _ in 0..CUTS {
-            judge_cut(&seen, &generated, rng.within(16, file.len())).map_err(kept)?;
-        }
-        tally.pieces += seen.pieces.len();
-        tally.cuts += CUTS;
-        tally.faults += plant(&seen, &generated).map_err(kept)?;
-        tally.traces += 1;
+        })?;
         fs::remove_file(&path).map_err(|error| error.to_string())?;
     }
+    let example = Path::new(env!("CARGO_MANIFEST_DIR")).join("../../examples/headset.btsnoop");
+    judge(&example, &shipped(&example)?, &mut rng, &mut tally).map_err(|words| format!("the example: {words}"))?;
     Ok(tally)
 }
 
@@ -210,7 +224,7 @@ fn main() -> ExitCode {
         Ok(tally) => {
             let _ = fs::remove_dir(&dir);
             println!(
-                "tshark and the library agree on {} traces: {} records, {} PDUs ({} of them in fragments), {} pieces on {} \
+                "tshark and the library agree on {} traces, one of them the example: {} records, {} PDUs ({} of them in fragments), {} pieces on {} \
                  DLCIs, {} spans, {} unfinished; and on {} cuts of them; {} planted faults, each seen",
                 tally.traces,
                 tally.records,
