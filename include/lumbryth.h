@@ -1,0 +1,210 @@
+/*
+ * Lumbryth: the MDR frames that a headset and a phone exchanged, from a recorded
+ * Bluetooth trace (a btsnoop file).
+ *
+ * Link with target/staticlib/liblumbryth.a, which `rt staticlib lumbryth` makes
+ * (x86-64 Linux). `examples/import.c` shows an import from reading the file to
+ * printing the frames.
+ *
+ *
+ * How every call works
+ *
+ * - A slice is a pointer and a length: so many bytes, or so many uint64_t, that
+ *   can be read there, and written if the pointer is not const. For a length of 0
+ *   nothing is read or written, but pass a pointer that is not NULL.
+ * - The caller owns all memory. Nothing is allocated, freed or kept after the call
+ *   returns, and there is no hidden state: any number of threads may call at once,
+ *   each with its own buffers.
+ * - What is lent to be written (`out`, `work`, `starts`, `values`) overlaps nothing
+ *   else that is lent to the same call. What is lent to be read may overlap.
+ * - A call returns 0, or the number of its refusal (below). Only
+ *   lumbryth_is_command_name returns a yes or no instead.
+ * - At the front of `values` it stores what it answers or, after a refusal, what
+ *   the refusal carries: as many as `values_len` has room for. LUMBRYTH_VALUES
+ *   places are room for all. Places past those stay as they were.
+ * - What it writes goes to the front of `out`; the bytes of `out` behind that stay
+ *   as they were, and after a refusal all of them do.
+ * - An output that is too short is refusal 7 (LUMBRYTH_OUT_SHORT), which carries the
+ *   length needed. So a call with `out_len` 0 asks for the length. 7 is checked
+ *   last: what is refused for another reason is refused so with any output.
+ *
+ *
+ * Lists
+ *
+ * A list is items one after another, without anything between them or around them:
+ *
+ *   4 bytes   length of the body, lowest byte first
+ *   2 bytes   kind, lowest byte first
+ *   so many   body
+ *
+ *   kind                    body
+ *   1 LUMBRYTH_SPAN_RX      8 bytes milliseconds, lowest first; then the wire bytes
+ *   2 LUMBRYTH_SPAN_TX      the same
+ *   3 LUMBRYTH_NAME         a name, without a zero at its end
+ *   4 LUMBRYTH_WIRE         the wire bytes of a fixture
+ *
+ * Milliseconds count from 1970-01-01 00:00 UTC. A list has at most LUMBRYTH_LIST_MAX
+ * bytes.
+ */
+#ifndef LUMBRYTH_H
+#define LUMBRYTH_H
+
+#include <stddef.h>
+#include <stdint.h>
+
+#ifdef __cplusplus
+extern "C" {
+#endif
+
+/* The kinds of items. LUMBRYTH_SPAN_RX and LUMBRYTH_SPAN_TX are also the two ways of
+ * a frame: Rx is from the headset, Tx to it. */
+#define LUMBRYTH_SPAN_RX 1
+#define LUMBRYTH_SPAN_TX 2
+#define LUMBRYTH_NAME 3
+#define LUMBRYTH_WIRE 4
+
+/* How many bytes stand before an item's body, and before a span's wire bytes. */
+#define LUMBRYTH_ITEM_HEADER 6
+#define LUMBRYTH_SPAN_HEADER 14
+
+/* Limits. */
+#define LUMBRYTH_FILE_MAX 1048576    /* the longest trace that is taken */
+#define LUMBRYTH_WORK_FACTOR 8       /* bytes of work for each byte of the trace */
+#define LUMBRYTH_PAYLOAD_MAX 32760   /* the longest payload that is packed */
+#define LUMBRYTH_LIST_MAX 16777216   /* the longest list that is read */
+#define LUMBRYTH_NAME_MAX 118        /* the longest name that is given */
+#define LUMBRYTH_VALUES 5            /* the most values that a call stores */
+
+/* A channel that stands for: any. So does every other number over 255. */
+#define LUMBRYTH_ANY_CHANNEL 256
+
+/*
+ * Refusals. What one carries is at the front of `values`.
+ */
+#define LUMBRYTH_OK 0
+
+/* Of a trace, in the order in which they are checked. */
+#define LUMBRYTH_FILE_LONG 1     /* the file has over LUMBRYTH_FILE_MAX bytes */
+#define LUMBRYTH_WORK_SHORT 2    /* work has under 8 times the file's length */
+#define LUMBRYTH_NOT_BTSNOOP 3   /* under 16 bytes, or no btsnoop file of version 1 */
+#define LUMBRYTH_DATALINK 4      /* a datalink other than 1001, 1002, 2001. Carries: it */
+#define LUMBRYTH_TRUNCATED 5     /* strict only: a record passes the end. Carries: its start */
+#define LUMBRYTH_NO_STREAM 6     /* no DLCI that was asked for has a span that unpacks */
+
+/* Of any call that writes to `out`. */
+#define LUMBRYTH_OUT_SHORT 7     /* the output is too short. Carries: the length needed */
+
+/* Of a frame: checked in the order 10, 11, 12, 13 or 14, 15, 17, 16. */
+#define LUMBRYTH_TOO_SHORT 10        /* under 9 bytes */
+#define LUMBRYTH_NO_START 11         /* the first byte is not 3E */
+#define LUMBRYTH_NO_END 12           /* the last byte is not 3C */
+#define LUMBRYTH_TRAILING_SENTRY 13  /* an escape, 3D, with nothing after it */
+#define LUMBRYTH_BAD_ESCAPEE 14      /* 3D and then not 2C, 2D or 2E. Carries: that byte */
+#define LUMBRYTH_BODY_TOO_SHORT 15   /* under 7 bytes once the escapes are undone */
+#define LUMBRYTH_LENGTH_MISMATCH 16  /* wrong length field. Carries: declared, actual */
+#define LUMBRYTH_BAD_CHECKSUM 17     /* wrong sum. Carries: declared, computed */
+
+/* Of packing. */
+#define LUMBRYTH_PAYLOAD_LONG 18     /* the payload has over LUMBRYTH_PAYLOAD_MAX bytes */
+
+/* Of lists. An item is wrong that passes the end or has a wrong kind; a span also if
+ * its body has under 8 bytes. A list over LUMBRYTH_LIST_MAX bytes is wrong at 0. */
+#define LUMBRYTH_SPANS_ILL 19        /* a list of spans. Carries: where its first wrong item starts */
+#define LUMBRYTH_NAMES_ILL 20        /* a list of names. Carries: the same */
+
+/*
+ * Reads one frame, from its 3E through its 3C, and writes its payload to `out`.
+ * Values: type, sequence number, payload length.
+ * Refusals: 10 to 17, then 7. The payload is shorter than the wire.
+ */
+uint32_t lumbryth_unpack(const uint8_t *wire, size_t wire_len,
+    uint8_t *out, size_t out_len, uint64_t *values, size_t values_len);
+
+/*
+ * Writes a frame to `out`: 3E, then type, sequence number, length, payload and sum,
+ * escaped, then 3C.
+ * Values: length of the frame.
+ * Refusals: 18, 7. The frame has at most 16 + 2 * payload_len bytes.
+ */
+uint32_t lumbryth_pack(uint8_t type, uint8_t seq, const uint8_t *payload, size_t payload_len,
+    uint8_t *out, size_t out_len, uint64_t *values, size_t values_len);
+
+/*
+ * Writes the file name of a frame to `out`, without a zero at its end. `ms` is its
+ * time, `counter` its number in the trace, `way` LUMBRYTH_SPAN_RX or LUMBRYTH_SPAN_TX.
+ * Values: length of the name, at most LUMBRYTH_NAME_MAX.
+ * Refusals: those of lumbryth_unpack.
+ */
+uint32_t lumbryth_fixture_name(uint64_t ms, uint32_t counter, uint8_t way,
+    const uint8_t *wire, size_t wire_len,
+    uint8_t *out, size_t out_len, uint64_t *values, size_t values_len);
+
+/*
+ * Returns 1 if one of the two tables of commands has the name, else 0.
+ */
+uint32_t lumbryth_is_command_name(const uint8_t *name, size_t name_len);
+
+/*
+ * Makes fixtures of a list of spans, as an import writes it: for each span that
+ * unpacks, and whose command is not in the list of names `excluded`, a name item and
+ * then a wire item. Spans are counted from 1; those left out are counted too.
+ * Values: fixtures, bytes written.
+ * Refusals: 19, 20, 7.
+ */
+uint32_t lumbryth_plan(const uint8_t *spans, size_t spans_len,
+    const uint8_t *excluded, size_t excluded_len,
+    uint8_t *out, size_t out_len, uint64_t *values, size_t values_len);
+
+/*
+ * Writes a list of names in the order in which their frames crossed the link: names
+ * without a counter first, then by counter, then by bytes.
+ * Values: length of the list, which is that of `names`.
+ * Refusals: 20, 7.
+ */
+uint32_t lumbryth_capture_order(const uint8_t *names, size_t names_len,
+    uint8_t *out, size_t out_len, uint64_t *values, size_t values_len);
+
+/*
+ * Imports a trace: writes a list of spans to `out`, those of one DLCI, in the order
+ * in which they were complete. It is the first DLCI seen that has a span which
+ * unpacks; with a `channel` from 0 to 255, one of that channel.
+ *
+ * `tolerant` 0 is the strict rule, which refuses a file that ends inside a record;
+ * any other number reads what comes before that record.
+ *
+ * `work` is for the call's own use and needs LUMBRYTH_WORK_FACTOR times `file_len`
+ * bytes. What it holds before does not matter, and what it holds after means nothing
+ * (after refusals 1 and 2 it is as it was).
+ *
+ * Values: DLCI, frames (every span in the list, also those that do not unpack),
+ * unfinished (frames that had begun and not ended), tail offset, bytes written.
+ * The tail offset is where reading stopped: the file's length, or where the record
+ * starts inside which the file ends. If it is less than `file_len`, the file was cut.
+ *
+ * Refusals: 1 to 7, in this order.
+ */
+uint32_t lumbryth_import(const uint8_t *file, size_t file_len,
+    uint8_t *work, size_t work_len, uint8_t *out, size_t out_len,
+    uint32_t channel, uint32_t tolerant, uint64_t *values, size_t values_len);
+
+/* The same by the strict rule. */
+uint32_t lumbryth_import_strict(const uint8_t *file, size_t file_len,
+    uint8_t *work, size_t work_len, uint8_t *out, size_t out_len,
+    uint32_t channel, uint64_t *values, size_t values_len);
+
+/*
+ * Finds the records of a trace: stores where each whole record starts at the front of
+ * `starts`, as many as there is room for; places past those stay as they were, and all of
+ * them after a refusal. A trace has at most (file_len - 16) / 24 records. A record is 24
+ * bytes and its packet, whose length stands in its bytes 4 to 7, highest first.
+ * Values: number of records, tail offset (as for an import).
+ * Refusals: 1, 3, 4.
+ */
+uint32_t lumbryth_records(const uint8_t *file, size_t file_len,
+    uint64_t *starts, size_t starts_len, uint64_t *values, size_t values_len);
+
+#ifdef __cplusplus
+}
+#endif
+
+#endif

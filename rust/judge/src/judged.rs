@@ -1,0 +1,57 @@
+//! What is judged: records, PDUs, pieces of information, and the spans that they give.
+
+use std::collections::BTreeMap;
+
+use lumbryth::{Direction, Span};
+
+/// A whole L2CAP PDU, at the record that completes it.
+#[derive(Debug, Clone, PartialEq)]
+pub struct Pdu {
+    pub record: usize,
+    pub direction: Direction,
+    pub handle: u16,
+    pub ms: u64,
+    pub bytes: Vec<u8>,
+}
+
+/// Information of a UIH frame.
+#[derive(Debug, Clone, PartialEq)]
+pub struct Piece {
+    pub record: usize,
+    pub direction: Direction,
+    pub handle: u16,
+    pub cid: u16,
+    pub dlci: u8,
+    pub ms: u64,
+    pub information: Vec<u8>,
+}
+
+/// What a reader sees in a trace.
+#[derive(Debug, Default)]
+pub struct Seen {
+    pub records: usize,
+    pub pdus: Vec<Pdu>,
+    /// How many of the PDUs came in more than one fragment.
+    pub joined: usize,
+    pub pieces: Vec<Piece>,
+}
+
+/// The spans that the pieces of a DLCI give, from 3E through 3C, and how many are under way at
+/// the end.
+pub fn spans(pieces: &[Piece], dlci: u8) -> (Vec<Span>, usize) {
+    let mut spans = Vec::new();
+    let mut buffers: BTreeMap<(u16, u16, Direction), Vec<u8>> = BTreeMap::new();
+    for piece in pieces.iter().filter(|piece| piece.dlci == dlci) {
+        let buffer = buffers.entry((piece.handle, piece.cid, piece.direction)).or_default();
+        for &byte in &piece.information {
+            if buffer.is_empty() && byte != 0x3E {
+                continue;
+            }
+            buffer.push(byte);
+            if byte == 0x3C {
+                spans.push(Span { direction: piece.direction, ms: piece.ms, wire: std::mem::take(buffer) });
+            }
+        }
+    }
+    (spans, buffers.values().filter(|buffer| !buffer.is_empty()).count())
+}

@@ -1,0 +1,247 @@
+//! The outside judge: holds the import against tshark, on traces made at random.
+//!
+//!     judge [TRACES [SEED]]
+//!
+//! For each trace tshark says which PDUs it put together, and which information it found on which DLCI. The PDUs are held to
+//! those of a plain reader here; the information, scanned for frames, to what the library imports for each DLCI: every span's
+//! bytes, direction and time, in order, and how many are under way at the end. Cuts of the trace are held to what tshark
+//! found in the records that are left. Then faults are planted in what our side reads, and each of them has to show.
+
+#![forbid(unsafe_code)]
+
+mod generate;
+mod judged;
+mod reader;
+mod rng;
+#[path = "../../../examples/trace/mod.rs"]
+mod trace;
+mod tshark;
+
+use std::path::Path;
+use std::process::ExitCode;
+use std::{env, fs, process};
+
+use generate::Generated;
+use judged::{spans, Piece, Seen};
+use lumbryth::{import, records, unpack, Records, Refusal, TailRule};
+use rng::Rng;
+
+/// How many cuts of each trace are judged.
+const CUTS: usize = 40;
+
+/// How much was judged.
+#[derive(Default)]
+struct Tally {
+    traces: usize,
+    records: usize,
+    pdus: usize,
+    joined: usize,
+    pieces: usize,
+    spans: usize,
+    unfinished: usize,
+    dlcis: usize,
+    cuts: usize,
+    faults: usize,
+}
+
+/// Holds the PDUs that a plain reader finds in a file to those of tshark. The difference in words, if there is one.
+fn judge_pdus(seen: &Seen, file: &[u8], tally: &mut Tally) -> Result<(), String> {
+    let ours = reader::read(file);
+    if ours.records != seen.records {
+        return Err(format!("{} records here, {} there", ours.records, seen.records));
+    }
+    for (here, there) in ours.pdus.iter().zip(&seen.pdus) {
+        if here != there {
+            return Err(format!("PDU here:  {here:?}\nPDU there: {there:?}"));
+        }
+    }
+    if ours.pdus.len() != seen.pdus.len() {
+        return Err(format!("{} PDUs here, {} there", ours.pdus.len(), seen.pdus.len()));
+    }
+    tally.records += seen.records;
+    tally.pdus += seen.pdus.len();
+    tally.joined += ours.joined;
+    Ok(())
+}
+
+/// Holds what the library imports for each DLCI, and without a channel, to what tshark found on it. A file that was cut
+/// ends at the tail.
+fn judge_spans(pieces: &[Piece], file: &[u8], tail: usize, dlcis: &[u8], tally: &mut Tally) -> Result<(), String> {
+    if let Some(piece) = pieces.iter().find(|piece| !dlcis.contains(&piece.dlci)) {
+        return Err(format!("record {}: DLCI {} is not in use", piece.record, piece.dlci));
+    }
+    // The DLCIs on which something unpacks; of those the first seen is taken where no channel is given.
+    let carries = |dlci: u8| spans(pieces, dlci).0.iter().any(|span| unpack(&span.wire).is_ok());
+    let first = pieces.iter().map(|piece| piece.dlci).find(|&dlci| carries(dlci));
+    let wanted = dlcis.iter().map(|&dlci| (Some(dlci / 2), Some(dlci).filter(|&dlci| carries(dlci))));
+    for (channel, dlci) in wanted.chain([(None, first)]) {
+        let imported = import(file, channel, TailRule::Tolerant);
+        let Some(dlci) = dlci else {
+            if imported != Err(Refusal::NoStream) {
+                return Err(format!("channel {channel:?}: nothing there unpacks; here {imported:?}"));
+            }
+            continue;
+        };
+        let imported = imported.map_err(|refusal| format!("DLCI {dlci}: refused ({}): {refusal}", refusal.number()))?;
+        let (there, under_way) = spans(pieces, dlci);
+        for (i, (here, there)) in imported.spans.iter().zip(&there).enumerate() {
+            if here != there {
+                return Err(format!("DLCI {dlci}, span {}\nhere:  {here:?}\nthere: {there:?}", i + 1));
+            }
+        }
+        let here = (imported.dlci, imported.frames, imported.spans.len(), imported.unfinished, imported.tail);
+        let there = (dlci, there.len(), there.len(), under_way, tail);
+        if here != there {
+            return Err(format!("DLCI, frames, spans, unfinished, tail: {here:?} here, {there:?} there"));
+        }
+        if channel.is_some() {
+            tally.spans += imported.frames;
+            tally.unfinished += under_way;
+            tally.dlcis += 1;
+        }
+    }
+    Ok(())
+}
+
+/// The library's records are those that were made, and as many as tshark shows.
+fn judge_records(shown: usize, starts: &[usize], file: &[u8], tail: usize) -> Result<(), String> {
+    let found = records(file);
+    if shown != starts.len() || found != Ok(Records { starts: starts.to_vec(), tail }) {
+        return Err(format!("{shown} records there, {} made, here {found:?}", starts.len()));
+    }
+    Ok(())
+}
+
+/// The same of the first `n` bytes, held to what tshark found in the records that are left.
+fn judge_cut(seen: &Seen, generated: &Generated, n: usize) -> Result<(), String> {
+    let ends: Vec<usize> = generated.starts[1..].iter().copied().chain([generated.file.len()]).collect();
+    let left = ends.iter().filter(|&&end| end <= n).count();
+    let tail = if left == 0 { 16 } else { ends[left - 1] };
+    judge_records(left, &generated.starts[..left], &generated.file[..n], tail)?;
+    let pieces = seen.pieces.iter().filter(|piece| piece.record <= left).cloned().collect::<Vec<_>>();
+    judge_spans(&pieces, &generated.file[..n], tail, &generated.dlcis, &mut Tally::default())
+        .map_err(|words| format!("cut at {n}: {words}"))
+}
+
+/// Where the last record starts and ends that completes a piece which ends a span, with the span's last byte in it.
+fn closing(seen: &Seen, generated: &Generated) -> Option<(usize, usize)> {
+    let bounds = |i: usize| {
+        let record = seen.pieces[i].record;
+        let end = generated.starts.get(record).copied().unwrap_or(generated.file.len());
+        (generated.starts[record - 1], end)
+    };
+    let closes = |&i: &usize| {
+        let dlci = seen.pieces[i].dlci;
+        let more = spans(&seen.pieces[..=i], dlci).0.len() > spans(&seen.pieces[..i], dlci).0.len();
+        let (start, end) = bounds(i);
+        // The record's header, at most 5 bytes before the data, the 3C and the FCS.
+        more && seen.pieces[i].information.last() == Some(&0x3C) && end - start >= 24 + 5 + 2
+    };
+    (0..seen.pieces.len()).rev().find(closes).map(bounds)
+}
+
+/// Plants faults in copies of a trace that only our side reads: how many, or which of them went unseen.
+fn plant(seen: &Seen, generated: &Generated) -> Result<usize, String> {
+    let Some((start, end)) = closing(seen, generated) else { return Ok(0) };
+    let file = &generated.file;
+    let changed = |at: usize, bits: u8| {
+        let mut copy = file.clone();
+        copy[at] ^= bits;
+        copy
+    };
+    let faults = [
+        // The last byte is the FCS; information comes before it.
+        ("a byte of information", changed(end - 2, 0x01)),
+        ("a time", changed(start + 21, 0x01)),
+        ("a direction", changed(start + 11, 0x01)),
+        ("a record that is lost", [&file[..start], &file[end..]].concat()),
+    ];
+    for (name, copy) in &faults {
+        let tally = &mut Tally::default();
+        if judge_pdus(seen, copy, tally).is_ok()
+            || judge_spans(&seen.pieces, copy, copy.len(), &generated.dlcis, tally).is_ok()
+        {
+            return Err(format!("a planted fault went unseen: {name}"));
+        }
+    }
+    Ok(faults.len())
+}
+
+/// Everything about one trace, which stands at `path`.
+fn judge(path: &Path, made: &Generated, rng: &mut Rng, tally: &mut Tally) -> Result<(), String> {
+    let file = &made.file;
+    let seen = tshark::read(path)?;
+    judge_records(seen.records, &made.starts, file, file.len())?;
+    judge_pdus(&seen, file, tally)?;
+    judge_spans(&seen.pieces, file, file.len(), &made.dlcis, tally)?;
+    if import(file, None, TailRule::Strict) != import(file, None, TailRule::Tolerant) {
+        return Err("the strict rule finds something else than the tolerant".to_string());
+    }
+    for _ in 0..CUTS {
+        judge_cut(&seen, made, rng.within(16, file.len()))?;
+    }
+    tally.pieces += seen.pieces.len();
+    tally.cuts += CUTS;
+    tally.faults += plant(&seen, made)?;
+    tally.traces += 1;
+    Ok(())
+}
+
+/// The trace that is shipped as an example.
+fn shipped(path: &Path) -> Result<Generated, String> {
+    let file = fs::read(path).map_err(|error| format!("{}: {error}", path.display()))?;
+    let found = records(&file).map_err(|refusal| refusal.to_string())?;
+    Ok(Generated { file, starts: found.starts, dlcis: vec![18] })
+}
+
+fn run(traces: usize, seed: u64, dir: &Path) -> Result<Tally, String> {
+    let mut rng = Rng::new(seed);
+    let mut tally = Tally::default();
+    for i in 0..traces {
+        let datalink = [1001, 1002, 2001][i % 3];
+        let made = generate::trace(&mut rng, datalink);
+        let path = dir.join(format!("{i}.btsnoop"));
+        fs::write(&path, &made.file).map_err(|error| format!("{}: {error}", path.display()))?;
+        judge(&path, &made, &mut rng, &mut tally).map_err(|words| {
+            format!("trace {i}, datalink {datalink}, seed {seed}: {words}\nthe trace is kept: {}", path.display())
+        })?;
+        fs::remove_file(&path).map_err(|error| error.to_string())?;
+    }
+    let example = Path::new(env!("CARGO_MANIFEST_DIR")).join("../../examples/headset.btsnoop");
+    judge(&example, &shipped(&example)?, &mut rng, &mut tally).map_err(|words| format!("the example: {words}"))?;
+    Ok(tally)
+}
+
+fn main() -> ExitCode {
+    let number = |i, otherwise| env::args().nth(i).map_or(Ok(otherwise), |arg| arg.parse::<u64>());
+    let (Ok(traces), Ok(seed)) = (number(1, 48), number(2, 1)) else {
+        eprintln!("usage: judge [TRACES [SEED]]");
+        return ExitCode::from(2);
+    };
+    let dir = env::temp_dir().join(format!("lumbryth-judge-{}", process::id()));
+    let done = fs::create_dir(&dir).map_err(|error| error.to_string()).and_then(|()| run(traces as usize, seed, &dir));
+    match done {
+        Ok(tally) => {
+            let _ = fs::remove_dir(&dir);
+            println!(
+                "tshark and the library agree on {} traces, one of them the example: {} records, {} PDUs ({} of them in fragments), {} pieces on {} \
+                 DLCIs, {} spans, {} unfinished; and on {} cuts of them; {} planted faults, each seen",
+                tally.traces,
+                tally.records,
+                tally.pdus,
+                tally.joined,
+                tally.pieces,
+                tally.dlcis,
+                tally.spans,
+                tally.unfinished,
+                tally.cuts,
+                tally.faults
+            );
+            ExitCode::SUCCESS
+        }
+        Err(words) => {
+            eprintln!("judge: {words}");
+            ExitCode::FAILURE
+        }
+    }
+}

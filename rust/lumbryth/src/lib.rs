@@ -1,0 +1,337 @@
+//! The MDR frames that a headset and a phone exchanged, from a recorded Bluetooth trace (a
+//! btsnoop file): every frame whole, in order, with direction and time.
+//!
+//! The work is done by a library whose calls are proved to do what their definitions say, and
+//! this crate makes them safe to call from Rust: it lends the memory that they need, and turns
+//! their numbers into enums and structs. It has no dependencies. The library has to be built
+//! first, by `rt staticlib lumbryth`; the build says so if it is missing.
+//!
+//! ```
+//! use lumbryth::{import, plan, Direction, TailRule};
+//!
+//! // A trace with one record, which carries one frame from the headset.
+//! let mut trace = b"btsnoop\0\0\0\0\x01\0\0\x03\xEA".to_vec();
+//! trace.extend([0, 0, 0, 22, 0, 0, 0, 22, 0, 0, 0, 1, 0, 0, 0, 0]);
+//! trace.extend([0x00, 0xDC, 0xDD, 0xB3, 0x0F, 0x2F, 0x80, 0x00]);
+//! trace.extend([0x02, 0x40, 0x20, 0x11, 0x00, 0x0D, 0x00, 0x41, 0x00, 0x49, 0xEF, 0x13]);
+//! trace.extend([0x3E, 0x01, 0x00, 0x00, 0x00, 0x00, 0x00, 0x01, 0x3C, 0x00]);
+//!
+//! let imported = import(&trace, None, TailRule::Strict)?;
+//! assert_eq!((imported.dlci, imported.frames, imported.unfinished), (18, 1, 0));
+//! assert_eq!(imported.spans[0].direction, Direction::Rx);
+//!
+//! let fixtures = plan(&imported.spans, &[] as &[&str])?;
+//! assert_eq!(fixtures[0].name, "mdr-packet-0-000001-rx.type-ACK-01.seq-00.cmd-NO_COMMAND-00.bin");
+//! assert_eq!(fixtures[0].wire, imported.spans[0].wire);
+//! # Ok::<(), lumbryth::Refusal>(())
+//! ```
+
+#![deny(missing_docs)]
+#![deny(unsafe_code)]
+
+#[allow(unsafe_code)]
+mod ffi;
+mod items;
+mod refusal;
+
+pub use refusal::Refusal;
+
+/// The longest trace that is taken, in bytes.
+pub const FILE_MAX: usize = 1_048_576;
+/// The longest payload that is packed, in bytes.
+pub const PAYLOAD_MAX: usize = 32_760;
+/// The longest list of spans or of names, in bytes: 14 and its wire for a span, 6 and its bytes for a name.
+pub const LIST_MAX: usize = 16_777_216;
+
+/// A channel number that stands for any.
+const ANY_CHANNEL: u32 = 256;
+/// The most values that a call stores.
+const VALUES: usize = 5;
+
+/// Which way a frame went.
+#[derive(Debug, Clone, Copy, PartialEq, Eq, PartialOrd, Ord, Hash)]
+pub enum Direction {
+    /// From the headset.
+    Rx,
+    /// To the headset.
+    Tx,
+}
+
+impl Direction {
+    fn number(self) -> u8 {
+        match self {
+            Direction::Rx => 1,
+            Direction::Tx => 2,
+        }
+    }
+}
+
+/// What an import does with a file that ends inside a record.
+#[derive(Debug, Clone, Copy, PartialEq, Eq, Hash)]
+pub enum TailRule {
+    /// It refuses, with [`Refusal::Truncated`].
+    Strict,
+    /// It reads what comes before that record; [`Imported::tail`] says where it starts.
+    Tolerant,
+}
+
+/// What a frame holds.
+#[derive(Debug, Clone, PartialEq, Eq, Hash)]
+pub struct Frame {
+    /// The type, as its byte.
+    pub kind: u8,
+    /// The sequence number.
+    pub seq: u8,
+    /// The payload; its first byte is the command.
+    pub payload: Vec<u8>,
+}
+
+/// A stretch of wire bytes from 3E through 3C, as it was found in a trace. It may not unpack.
+#[derive(Debug, Clone, PartialEq, Eq, Hash)]
+pub struct Span {
+    /// Which way it went.
+    pub direction: Direction,
+    /// When it was complete, in milliseconds since 1970-01-01 00:00 UTC.
+    pub ms: u64,
+    /// Its bytes.
+    pub wire: Vec<u8>,
+}
+
+/// What an import found.
+#[derive(Debug, Clone, PartialEq, Eq, Hash)]
+pub struct Imported {
+    /// The DLCI of the spans. Its RFCOMM channel is half of it.
+    pub dlci: u8,
+    /// How many spans there are, also of those that do not unpack.
+    pub frames: usize,
+    /// How many frames had begun and not ended when the reading stopped.
+    pub unfinished: usize,
+    /// Where the reading stopped: the file's length or, if it was cut, where the record starts
+    /// inside which it ends.
+    pub tail: usize,
+    /// The spans, in the order in which they were complete.
+    pub spans: Vec<Span>,
+}
+
+/// A file to write: a frame with its name.
+#[derive(Debug, Clone, PartialEq, Eq, Hash)]
+pub struct Fixture {
+    /// The file's name: time, counter, direction, type, sequence number and command.
+    pub name: String,
+    /// The file's bytes: the frame as it was on the wire.
+    pub wire: Vec<u8>,
+}
+
+/// The records of a trace.
+#[derive(Debug, Clone, PartialEq, Eq, Hash)]
+pub struct Records {
+    /// Where each whole record starts: 24 bytes, then its packet.
+    pub starts: Vec<usize>,
+    /// The file's length or, if it was cut, where the record starts inside which it ends.
+    pub tail: usize,
+}
+
+/// A file that ends inside a record.
+#[derive(Debug, Clone, Copy, PartialEq, Eq, Hash)]
+pub struct Cut {
+    /// Where the record starts.
+    pub offset: usize,
+    /// How many of its bytes are there.
+    pub present: usize,
+    /// How many are missing, by the length that the record gives; none if that is missing too.
+    pub missing: Option<u64>,
+}
+
+/// Runs a call with an output of `first` bytes and, if that is too short, once more with what it
+/// says it needs. Gives the output and the values.
+fn with_output(
+    first: usize,
+    mut call: impl FnMut(&mut [u8], &mut [u64]) -> u32,
+) -> Result<(Vec<u8>, [u64; VALUES]), Refusal> {
+    let mut values = [0; VALUES];
+    let mut out = vec![0; first];
+    let mut number = call(&mut out, &mut values);
+    if number == 7 {
+        out = vec![0; values[0] as usize];
+        number = call(&mut out, &mut values);
+    }
+    if number == 0 {
+        Ok((out, values))
+    } else {
+        Err(Refusal::of(number, &values))
+    }
+}
+
+/// Reads one frame, from its 3E through its 3C.
+///
+/// ```
+/// let frame = lumbryth::unpack(&[0x3E, 0x0C, 0x01, 0x00, 0x00, 0x00, 0x01, 0x22, 0x30, 0x3C])?;
+/// assert_eq!((frame.kind, frame.seq, frame.payload), (0x0C, 1, vec![0x22]));
+///
+/// let refusal = lumbryth::unpack(&[0x3E, 0x3D, 0x00, 0, 0, 0, 0, 0, 0x3C]).unwrap_err();
+/// assert_eq!(refusal, lumbryth::Refusal::BadEscapee(0));
+/// # Ok::<(), lumbryth::Refusal>(())
+/// ```
+pub fn unpack(wire: &[u8]) -> Result<Frame, Refusal> {
+    let (mut payload, values) = with_output(wire.len(), |out, values| ffi::unpack(wire, out, values))?;
+    payload.truncate(values[2] as usize);
+    Ok(Frame { kind: values[0] as u8, seq: values[1] as u8, payload })
+}
+
+/// Writes a frame: 3E, then type, sequence number, length, payload and checksum, escaped, then
+/// 3C. A payload of over [`PAYLOAD_MAX`] bytes is refused.
+///
+/// ```
+/// let wire = lumbryth::pack(0x0C, 1, &[0x3E])?;
+/// assert_eq!(wire, [0x3E, 0x0C, 0x01, 0x00, 0x00, 0x00, 0x01, 0x3D, 0x2E, 0x4C, 0x3C]);
+/// assert_eq!(lumbryth::unpack(&wire)?.payload, [0x3E]);
+///
+/// assert_eq!(lumbryth::pack(0x0C, 1, &[0; 32_761]), Err(lumbryth::Refusal::PayloadLong));
+/// # Ok::<(), lumbryth::Refusal>(())
+/// ```
+pub fn pack(kind: u8, seq: u8, payload: &[u8]) -> Result<Vec<u8>, Refusal> {
+    let room = 16 + 2 * payload.len().min(PAYLOAD_MAX);
+    let (mut wire, values) = with_output(room, |out, values| ffi::pack(kind, seq, payload, out, values))?;
+    wire.truncate(values[0] as usize);
+    Ok(wire)
+}
+
+/// The file name of a frame, of the time, number and direction given. Refuses as [`unpack`] does.
+///
+/// ```
+/// use lumbryth::{fixture_name, Direction};
+///
+/// let wire = lumbryth::pack(0x0C, 0, &[0x22, 0x00])?;
+/// let name = fixture_name(1_700_000_000_123, 7, Direction::Tx, &wire)?;
+/// assert_eq!(name, "mdr-packet-1700000000123-000007-tx.type-DATA_MDR-0c.seq-00.cmd-POWER_GET_STATUS-22.bin");
+/// # Ok::<(), lumbryth::Refusal>(())
+/// ```
+pub fn fixture_name(ms: u64, counter: u32, direction: Direction, wire: &[u8]) -> Result<String, Refusal> {
+    let way = direction.number();
+    let (mut name, values) = with_output(118, |out, values| ffi::fixture_name(ms, counter, way, wire, out, values))?;
+    name.truncate(values[0] as usize);
+    Ok(String::from_utf8_lossy(&name).into_owned())
+}
+
+/// Whether one of the two tables of commands has the name.
+///
+/// ```
+/// assert!(lumbryth::is_command_name("POWER_GET_STATUS"));
+/// assert!(!lumbryth::is_command_name("power_get_status"));
+/// ```
+pub fn is_command_name(name: impl AsRef<[u8]>) -> bool {
+    ffi::is_command_name(name.as_ref()) != 0
+}
+
+/// The fixtures of spans: one for each that unpacks and whose command is not excluded, in the
+/// order of the spans. Spans are counted from 1, and those left out are counted too, so that a
+/// gap in the names tells of them.
+///
+/// ```
+/// use lumbryth::{pack, plan, Direction, Span};
+///
+/// let span = |payload: &[u8]| pack(0x0C, 0, payload).map(|wire| Span { direction: Direction::Tx, ms: 5, wire });
+/// let spans = [span(&[0x22])?, span(&[0x66])?];
+/// let fixtures = plan(&spans, &["POWER_GET_STATUS"])?;
+/// assert_eq!(fixtures.len(), 1);
+/// assert_eq!(fixtures[0].name, "mdr-packet-5-000002-tx.type-DATA_MDR-0c.seq-00.cmd-NCASM_GET_PARAM-66.bin");
+/// # Ok::<(), lumbryth::Refusal>(())
+/// ```
+pub fn plan<N: AsRef<[u8]>>(spans: &[Span], excluded: &[N]) -> Result<Vec<Fixture>, Refusal> {
+    let (count, spans, excluded) = (spans.len(), items::of_spans(spans), items::of_names(excluded));
+    // A span of 14 and n bytes gives at most a name of 6 and 118 and a wire of 6 and n.
+    let room = spans.len().min(LIST_MAX) + count.min(LIST_MAX / 14) * 116;
+    let (mut list, values) = with_output(room, |out, values| ffi::plan(&spans, &excluded, out, values))?;
+    list.truncate(values[1] as usize);
+    Ok(items::fixtures(&list))
+}
+
+/// Names in the order in which their frames crossed the link: those without a counter first,
+/// then by counter, then by bytes.
+///
+/// ```
+/// let names = ["mdr-packet-9-000010-rx.bin", "mdr-packet-9-000009-tx.bin", "notes.txt"];
+/// let ordered = lumbryth::capture_order(&names)?;
+/// assert_eq!(ordered, [&b"notes.txt"[..], b"mdr-packet-9-000009-tx.bin", b"mdr-packet-9-000010-rx.bin"]);
+/// # Ok::<(), lumbryth::Refusal>(())
+/// ```
+pub fn capture_order<N: AsRef<[u8]>>(names: &[N]) -> Result<Vec<Vec<u8>>, Refusal> {
+    let names = items::of_names(names);
+    let (list, _) = with_output(names.len(), |out, values| ffi::capture_order(&names, out, values))?;
+    Ok(items::names(&list))
+}
+
+/// Imports a trace: the spans of one DLCI. It is the first DLCI seen that has a span which
+/// unpacks; with a channel, one of that channel.
+///
+/// ```
+/// use lumbryth::{import, Refusal, TailRule};
+///
+/// let header = b"btsnoop\0\0\0\0\x01\0\0\x03\xEA";
+/// assert_eq!(import(header, None, TailRule::Strict), Err(Refusal::NoStream));
+///
+/// let cut = [&header[..], &[0]].concat();
+/// assert_eq!(import(&cut, None, TailRule::Strict), Err(Refusal::Truncated { offset: 16 }));
+/// assert_eq!(import(&cut, None, TailRule::Tolerant), Err(Refusal::NoStream));
+/// ```
+pub fn import(file: &[u8], channel: Option<u8>, tail: TailRule) -> Result<Imported, Refusal> {
+    let channel = channel.map_or(ANY_CHANNEL, u32::from);
+    let tolerant = u32::from(tail == TailRule::Tolerant);
+    // A file that is too long is refused before any memory is looked at.
+    let size = if file.len() <= FILE_MAX { file.len() } else { 0 };
+    let mut work = vec![0; 8 * size];
+    let (mut list, values) =
+        with_output(2 * size, |out, values| ffi::import(file, &mut work, out, channel, tolerant, values))?;
+    list.truncate(values[4] as usize);
+    Ok(Imported {
+        dlci: values[0] as u8,
+        frames: values[1] as usize,
+        unfinished: values[2] as usize,
+        tail: values[3] as usize,
+        spans: items::spans(&list),
+    })
+}
+
+/// The records of a trace. A file that ends inside a record is not refused; [`Records::tail`] tells.
+///
+/// ```
+/// use lumbryth::{records, Records, Refusal};
+///
+/// let mut file = b"btsnoop\0\0\0\0\x01\0\0\x03\xEA".to_vec();
+/// file.extend([0; 24]);
+/// file.extend([0; 25]);
+/// assert_eq!(records(&file), Ok(Records { starts: vec![16, 40], tail: 64 }));
+/// assert_eq!(records(&file[..15]), Err(Refusal::NotBtsnoop));
+/// ```
+pub fn records(file: &[u8]) -> Result<Records, Refusal> {
+    // A record has at least 24 bytes, and a file that is too long is refused.
+    let mut starts = vec![0; file.len().min(FILE_MAX).saturating_sub(16) / 24];
+    let mut values = [0; VALUES];
+    match ffi::records(file, &mut starts, &mut values) {
+        0 => {
+            starts.truncate(values[0] as usize);
+            Ok(Records { starts: starts.into_iter().map(|start| start as usize).collect(), tail: values[1] as usize })
+        }
+        number => Err(Refusal::of(number, &values)),
+    }
+}
+
+/// How a file was cut, if it was, by the tail offset that was answered for it or the offset of
+/// [`Refusal::Truncated`].
+///
+/// ```
+/// use lumbryth::{cut, Cut};
+///
+/// let mut file = b"btsnoop\0\0\0\0\x01\0\0\x03\xEA".to_vec();
+/// assert_eq!(cut(&file, 16), None);
+/// file.extend([0, 0, 0, 9, 0, 0, 0, 9]);
+/// assert_eq!(cut(&file, 16), Some(Cut { offset: 16, present: 8, missing: Some(25) }));
+/// file.pop();
+/// assert_eq!(cut(&file, 16), Some(Cut { offset: 16, present: 7, missing: None }));
+/// ```
+pub fn cut(file: &[u8], tail: usize) -> Option<Cut> {
+    let record = file.get(tail..).filter(|record| !record.is_empty())?;
+    let included = record.get(4..8).map(|b| u32::from_be_bytes([b[0], b[1], b[2], b[3]]));
+    let missing = included.map(|n| (24 + u64::from(n)).saturating_sub(record.len() as u64));
+    Some(Cut { offset: tail, present: record.len(), missing })
+}

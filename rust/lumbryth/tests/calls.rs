@@ -1,0 +1,145 @@
+//! The calls by document 01's examples: each refusal with its number, values and words, and what is empty, long or full.
+
+use lumbryth::{
+    capture_order, fixture_name, import, is_command_name, pack, plan, records, unpack, Direction, Fixture, Records,
+    Refusal, Span, TailRule,
+};
+
+/// Document 01's worked example.
+const EXAMPLE: [u8; 62] = [
+    0x62, 0x74, 0x73, 0x6E, 0x6F, 0x6F, 0x70, 0x00, 0x00, 0x00, 0x00, 0x01, 0x00, 0x00, 0x03, 0xEA, 0x00, 0x00, 0x00,
+    0x16, 0x00, 0x00, 0x00, 0x16, 0x00, 0x00, 0x00, 0x01, 0x00, 0x00, 0x00, 0x00, 0x00, 0xDC, 0xDD, 0xB3, 0x0F, 0x2F,
+    0x80, 0x00, 0x02, 0x40, 0x20, 0x11, 0x00, 0x0D, 0x00, 0x41, 0x00, 0x49, 0xEF, 0x13, 0x3E, 0x01, 0x00, 0x00, 0x00,
+    0x00, 0x00, 0x01, 0x3C, 0x00,
+];
+
+/// A refusal has its number, and its words say the numbers that it carries.
+#[track_caller]
+fn refused<T: std::fmt::Debug>(answer: Result<T, Refusal>, refusal: Refusal, number: u32, said: &[&str]) {
+    assert_eq!(answer.unwrap_err(), refusal);
+    assert_eq!(refusal.number(), number);
+    for part in said {
+        assert!(refusal.to_string().contains(part), "{part} is not in: {refusal}");
+    }
+}
+
+#[test]
+fn frames_refused() {
+    refused(unpack(&[]), Refusal::TooShort, 10, &["9 bytes"]);
+    refused(unpack(&[0; 9]), Refusal::NoStart, 11, &["3E"]);
+    refused(unpack(&[0x3E, 0, 0, 0, 0, 0, 0, 0, 0]), Refusal::NoEnd, 12, &["3C"]);
+    refused(unpack(&[0x3E, 0, 0, 0, 0, 0, 0, 0x3D, 0x3C]), Refusal::TrailingSentry, 13, &["3D"]);
+    refused(unpack(&[0x3E, 0x3D, 0, 0, 0, 0, 0, 0, 0x3C]), Refusal::BadEscapee(0), 14, &["by 00"]);
+    refused(unpack(&[0x3E, 0x3D, 0x2C, 0, 0, 0, 0, 0, 0x3C]), Refusal::BodyTooShort, 15, &["7 bytes"]);
+    let refusal = Refusal::LengthMismatch { declared: 1, actual: 0 };
+    refused(unpack(&[0x3E, 1, 0, 0, 0, 0, 1, 2, 0x3C]), refusal, 16, &["has 1 bytes", "has 0"]);
+    let refusal = Refusal::BadChecksum { declared: 2, computed: 1 };
+    refused(unpack(&[0x3E, 1, 0, 0, 0, 0, 0, 2, 0x3C]), refusal, 17, &["is 02", "give 01"]);
+    refused(fixture_name(0, 1, Direction::Rx, &[]), Refusal::TooShort, 10, &[]);
+    refused(pack(0, 0, &[0; 32_761]), Refusal::PayloadLong, 18, &["32760"]);
+}
+
+#[test]
+fn frames_there_and_back() {
+    for n in [0, 1, 2, 300, 32_759, 32_760] {
+        for byte in [0x00, 0x3C, 0x3D, 0x3E] {
+            let wire = pack(byte, 0x3E, &vec![byte; n]).unwrap();
+            let frame = unpack(&wire).unwrap();
+            assert_eq!((frame.kind, frame.seq, frame.payload), (byte, 0x3E, vec![byte; n]));
+        }
+    }
+}
+
+#[test]
+fn traces_refused() {
+    use TailRule::{Strict, Tolerant};
+    refused(import(&[0; 1_048_577], None, Strict), Refusal::FileLong, 1, &["1048576"]);
+    refused(import(&[], None, Strict), Refusal::NotBtsnoop, 3, &["btsnoop"]);
+    refused(import(&EXAMPLE[..15], None, Tolerant), Refusal::NotBtsnoop, 3, &[]);
+    let mut other = EXAMPLE;
+    other[15] = 0xEB;
+    refused(import(&other, None, Strict), Refusal::Datalink(1003), 4, &["1003"]);
+    refused(import(&EXAMPLE[..17], None, Strict), Refusal::Truncated { offset: 16 }, 5, &["byte 16"]);
+    refused(import(&EXAMPLE[..17], None, Tolerant), Refusal::NoStream, 6, &[]);
+    refused(import(&EXAMPLE[..16], None, Strict), Refusal::NoStream, 6, &[]);
+    refused(import(&EXAMPLE, Some(8), Strict), Refusal::NoStream, 6, &[]);
+    assert_eq!(Refusal::WorkShort.number(), 2);
+    assert_eq!(Refusal::OutShort { needed: 23 }.number(), 7);
+    assert!(Refusal::OutShort { needed: 23 }.to_string().contains("23 bytes"));
+}
+
+#[test]
+fn the_example() {
+    let longer = [&EXAMPLE[..], &[0]].concat();
+    for (file, rule) in
+        [(&EXAMPLE[..], TailRule::Strict), (&EXAMPLE[..], TailRule::Tolerant), (&longer, TailRule::Tolerant)]
+    {
+        for channel in [None, Some(9)] {
+            let imported = import(file, channel, rule).unwrap();
+            let span = Span { direction: Direction::Rx, ms: 0, wire: EXAMPLE[52..61].to_vec() };
+            assert_eq!((imported.dlci, imported.frames, imported.unfinished, imported.tail), (18, 1, 0, 62));
+            assert_eq!(imported.spans, [span]);
+        }
+    }
+}
+
+/// Spans of two bytes take eight times their bytes in a list.
+#[test]
+fn many_short_spans() {
+    let information: Vec<u8> = [0x3E, 0x3C].repeat(500).into_iter().chain(pack(1, 0, &[]).unwrap()).collect();
+    let n = information.len() as u16;
+    let mut file = EXAMPLE[..16].to_vec();
+    let acl = [(n + 9).to_le_bytes(), (n + 5).to_le_bytes()].concat();
+    let packet =
+        [&[2, 0x40, 0x20], &acl[..], &[0x41, 0, 0x49, 0xEF], &(n << 1).to_le_bytes(), &information, &[0]].concat();
+    let length = (packet.len() as u32).to_be_bytes();
+    file.extend([&length, &length, &EXAMPLE[24..40], &packet].concat());
+    let imported = import(&file, None, TailRule::Strict).unwrap();
+    assert_eq!((imported.frames, imported.spans.len()), (501, 501));
+    assert!(imported.spans[..500].iter().all(|span| span.wire == [0x3E, 0x3C]));
+    assert_eq!(plan(&imported.spans, &[] as &[&str]).unwrap().len(), 1);
+}
+
+#[test]
+fn lists() {
+    let none: [&str; 0] = [];
+    assert_eq!(plan(&[], &none), Ok(Vec::<Fixture>::new()));
+    assert_eq!(capture_order(&none), Ok(Vec::new()));
+    assert_eq!(capture_order(&["b", "", "a", "a"]).unwrap(), [&b""[..], b"a", b"a", b"b"]);
+    assert_eq!(capture_order(&[[0xFF], [0xFE]]).unwrap(), [[0xFE], [0xFF]]);
+    // A list may have 16,777,216 bytes: 14 of them before the wire of a span, 6 before a name.
+    let span = |n| Span { direction: Direction::Tx, ms: 0, wire: vec![0; n] };
+    assert_eq!(plan(&[span(16_777_202)], &none), Ok(Vec::new()));
+    refused(plan(&[span(16_777_203)], &none), Refusal::SpansIll { offset: 0 }, 19, &["16777216"]);
+    refused(plan(&[], &[vec![0; 16_777_211]]), Refusal::NamesIll { offset: 0 }, 20, &["16777216"]);
+    refused(capture_order(&[vec![0; 16_777_211]]), Refusal::NamesIll { offset: 0 }, 20, &[]);
+    // The longest name there is.
+    let wire = pack(0x0E, 0, &[0x5A]).unwrap();
+    let name = fixture_name(u64::MAX, u32::MAX, Direction::Rx, &wire).unwrap();
+    assert_eq!(name.len(), 118, "{name}");
+}
+
+#[test]
+fn commands() {
+    assert!(is_command_name("GENERAL_SETTING_NTNY_PARAM"));
+    assert!(!is_command_name("") && !is_command_name("NO_COMMAND") && !is_command_name([0xFF]));
+}
+
+#[test]
+fn the_records() {
+    let found = |starts: &[usize], tail| Ok(Records { starts: starts.to_vec(), tail });
+    assert_eq!(records(&EXAMPLE), found(&[16], 62));
+    for n in 16..62 {
+        assert_eq!(records(&EXAMPLE[..n]), found(&[], 16), "{n} bytes");
+    }
+    refused(records(&[0; 1_048_577]), Refusal::FileLong, 1, &[]);
+    refused(records(&EXAMPLE[..15]), Refusal::NotBtsnoop, 3, &[]);
+    let mut other = EXAMPLE;
+    other[15] = 0xEB;
+    refused(records(&other), Refusal::Datalink(1003), 4, &["1003"]);
+    // As many as there can be.
+    let full = [&EXAMPLE[..16], &[0; 24 * 43_690][..]].concat();
+    assert_eq!(full.len(), 1_048_576);
+    let starts: Vec<usize> = (0..43_690).map(|i| 16 + 24 * i).collect();
+    assert_eq!(records(&full), found(&starts, 1_048_576));
+}
