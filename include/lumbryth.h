@@ -193,6 +193,31 @@ uint32_t lumbryth_import_strict(const uint8_t *file, size_t file_len,
     uint32_t channel, uint64_t *values, size_t values_len);
 
 /*
+ * A stretch and direction that holds bytes at the end of a trace: twice the handle, and
+ * one more if they came from the headset; CID and DLCI; the sessions and links of the
+ * handle that were counted before it; and how many bytes are held.
+ */
+struct lumbryth_stretch {
+    uint32_t way;
+    uint32_t cid;
+    uint32_t dlci;
+    uint32_t sessions;
+    uint32_t links;
+    uint32_t held;
+};
+
+/*
+ * Imports as lumbryth_import does, and puts the stretches that hold bytes at the end,
+ * as many as `unfinished` says, to the first places of `stretches`. The list needs
+ * file_len / 24 places, rounded down, else the call refuses with 2. After refusals 1 and
+ * 2 the list is as it was; what it holds otherwise is not part of what is proved.
+ */
+uint32_t lumbryth_import_stretches(const uint8_t *file, size_t file_len,
+    uint8_t *work, size_t work_len, struct lumbryth_stretch *stretches, size_t stretches_len,
+    uint8_t *out, size_t out_len,
+    uint32_t channel, uint32_t tolerant, uint64_t *values, size_t values_len);
+
+/*
  * Finds the records of a trace: stores where each whole record starts at the front of
  * `starts`, as many as there is room for; places past those stay as they were, and all of
  * them after a refusal. A trace has at most (file_len - 16) / 24 records. A record is 24

@@ -3,6 +3,8 @@
 //!
 //! `include/lumbryth.h` has the same declarations, with what each call does.
 
+use crate::Stretch;
+
 extern "C" {
     fn lumbryth_unpack(
         wire: *const u8,
@@ -57,6 +59,20 @@ extern "C" {
         file_len: usize,
         work: *mut u8,
         work_len: usize,
+        out: *mut u8,
+        out_len: usize,
+        channel: u32,
+        tolerant: u32,
+        values: *mut u64,
+        values_len: usize,
+    ) -> u32;
+    fn lumbryth_import_stretches(
+        file: *const u8,
+        file_len: usize,
+        work: *mut u8,
+        work_len: usize,
+        stretches: *mut Stretch,
+        stretches_len: usize,
         out: *mut u8,
         out_len: usize,
         channel: u32,
@@ -159,6 +175,34 @@ pub fn import(file: &[u8], work: &mut [u8], out: &mut [u8], channel: u32, tolera
             file.len(),
             work.as_mut_ptr(),
             work.len(),
+            out.as_mut_ptr(),
+            out.len(),
+            channel,
+            tolerant,
+            values.as_mut_ptr(),
+            values.len(),
+        )
+    }
+}
+
+pub fn import_stretches(
+    file: &[u8],
+    work: &mut [u8],
+    stretches: &mut [Stretch],
+    out: &mut [u8],
+    channel: u32,
+    tolerant: u32,
+    values: &mut [u64],
+) -> u32 {
+    // Safety: as for `import`; `Stretch` is laid out as in C, and any numbers make one.
+    unsafe {
+        lumbryth_import_stretches(
+            file.as_ptr(),
+            file.len(),
+            work.as_mut_ptr(),
+            work.len(),
+            stretches.as_mut_ptr(),
+            stretches.len(),
             out.as_mut_ptr(),
             out.len(),
             channel,

@@ -113,6 +113,24 @@ pub struct Imported {
     pub spans: Vec<Span>,
 }
 
+/// A stretch and direction that holds bytes at the end of a trace: a frame under way.
+#[derive(Debug, Clone, Copy, PartialEq, Eq, Hash, Default)]
+#[repr(C)]
+pub struct Stretch {
+    /// Twice the handle, and one more if the bytes came from the headset.
+    pub way: u32,
+    /// The CID.
+    pub cid: u32,
+    /// The DLCI.
+    pub dlci: u32,
+    /// How many sessions of the handle had been asked for.
+    pub sessions: u32,
+    /// How often the link of the DLCI had been opened.
+    pub links: u32,
+    /// How many bytes are held.
+    pub held: u32,
+}
+
 /// A file to write: a frame with its name.
 #[derive(Debug, Clone, PartialEq, Eq, Hash)]
 pub struct Fixture {
@@ -275,21 +293,66 @@ pub fn capture_order<N: AsRef<[u8]>>(names: &[N]) -> Result<Vec<Vec<u8>>, Refusa
 /// assert_eq!(import(&cut, None, TailRule::Tolerant), Err(Refusal::NoStream));
 /// ```
 pub fn import(file: &[u8], channel: Option<u8>, tail: TailRule) -> Result<Imported, Refusal> {
-    let channel = channel.map_or(ANY_CHANNEL, u32::from);
-    let tolerant = u32::from(tail == TailRule::Tolerant);
-    // A file that is too long is refused before any memory is looked at.
-    let size = if file.len() <= FILE_MAX { file.len() } else { 0 };
+    let (channel, tolerant) = numbers(channel, tail);
+    let size = lent(file);
     let mut work = vec![0; 8 * size];
-    let (mut list, values) =
+    let (list, values) =
         with_output(2 * size, |out, values| ffi::import(file, &mut work, out, channel, tolerant, values))?;
+    Ok(imported(list, &values))
+}
+
+/// Imports as [`import`] does, and tells the stretches that hold bytes at the end, as many as
+/// [`Imported::unfinished`] says. What is proved of the import is proved of this one too; which
+/// stretches are told is only tested.
+///
+/// ```
+/// use lumbryth::{import_stretches, Refusal, TailRule};
+///
+/// let header = b"btsnoop\0\0\0\0\x01\0\0\x03\xEA";
+/// assert_eq!(import_stretches(header, None, TailRule::Strict), Err(Refusal::NoStream));
+/// ```
+pub fn import_stretches(
+    file: &[u8],
+    channel: Option<u8>,
+    tail: TailRule,
+) -> Result<(Imported, Vec<Stretch>), Refusal> {
+    let (channel, tolerant) = numbers(channel, tail);
+    let size = lent(file);
+    let mut work = vec![0; 8 * size];
+    let mut stretches = vec![Stretch::default(); size / 24];
+    let (list, values) = with_output(2 * size, |out, values| {
+        ffi::import_stretches(file, &mut work, &mut stretches, out, channel, tolerant, values)
+    })?;
+    let imported = imported(list, &values);
+    stretches.truncate(imported.unfinished);
+    Ok((imported, stretches))
+}
+
+/// Channel and tail rule by number.
+fn numbers(channel: Option<u8>, tail: TailRule) -> (u32, u32) {
+    (channel.map_or(ANY_CHANNEL, u32::from), u32::from(tail == TailRule::Tolerant))
+}
+
+/// For how many bytes of a file memory is lent: a file that is too long is refused before any of
+/// it is looked at.
+fn lent(file: &[u8]) -> usize {
+    if file.len() <= FILE_MAX {
+        file.len()
+    } else {
+        0
+    }
+}
+
+/// What an import answered.
+fn imported(mut list: Vec<u8>, values: &[u64; VALUES]) -> Imported {
     list.truncate(values[4] as usize);
-    Ok(Imported {
+    Imported {
         dlci: values[0] as u8,
         frames: values[1] as usize,
         unfinished: values[2] as usize,
         tail: values[3] as usize,
         spans: items::spans(&list),
-    })
+    }
 }
 
 /// The records of a trace. A file that ends inside a record is not refused; [`Records::tail`] tells.
