@@ -311,11 +311,7 @@ pub fn import(file: &[u8], channel: Option<u8>, tail: TailRule) -> Result<Import
 /// let header = b"btsnoop\0\0\0\0\x01\0\0\x03\xEA";
 /// assert_eq!(import_stretches(header, None, TailRule::Strict), Err(Refusal::NoStream));
 /// ```
-pub fn import_stretches(
-    file: &[u8],
-    channel: Option<u8>,
-    tail: TailRule,
-) -> Result<(Imported, Vec<Stretch>), Refusal> {
+pub fn import_stretches(file: &[u8], channel: Option<u8>, tail: TailRule) -> Result<(Imported, Vec<Stretch>), Refusal> {
     let (channel, tolerant) = numbers(channel, tail);
     let size = lent(file);
     let mut work = vec![0; 8 * size];

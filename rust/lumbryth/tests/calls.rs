@@ -1,8 +1,8 @@
 //! The calls by document 01's examples: each refusal with its number, values and words, and what is empty, long or full.
 
 use lumbryth::{
-    capture_order, fixture_name, import, is_command_name, pack, plan, records, unpack, Direction, Fixture, Records,
-    Refusal, Span, TailRule,
+    capture_order, fixture_name, import, import_stretches, is_command_name, pack, plan, records, unpack, Direction,
+    Fixture, Records, Refusal, Span, TailRule,
 };
 
 /// Document 01's worked example.
@@ -142,4 +142,20 @@ fn the_records() {
     assert_eq!(full.len(), 1_048_576);
     let starts: Vec<usize> = (0..43_690).map(|i| 16 + 24 * i).collect();
     assert_eq!(records(&full), found(&starts, 1_048_576));
+}
+
+/// The entry with stretches imports the same, and tells what is under way: one reply of the cut trace, none of the whole.
+#[test]
+fn stretches_under_way() {
+    let traces: [(&[u8], usize); 2] = [
+        (include_bytes!("../../../examples/headset.btsnoop"), 0),
+        (include_bytes!("../../../examples/cut.btsnoop"), 1),
+    ];
+    for (trace, open) in traces {
+        let (imported, stretches) = import_stretches(trace, None, TailRule::Tolerant).unwrap();
+        assert_eq!(import(trace, None, TailRule::Tolerant), Ok(imported.clone()));
+        assert_eq!((imported.unfinished, stretches.len()), (open, open));
+        assert!(stretches.iter().all(|stretch| stretch.dlci == u32::from(imported.dlci) && stretch.held > 0));
+    }
+    refused(import_stretches(&[0; 16], None, TailRule::Strict), Refusal::NotBtsnoop, 3, &[]);
 }
