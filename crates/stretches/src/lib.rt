@@ -110,7 +110,7 @@ fn same_key(w: &[u8], rows: usize, i: usize, j: usize) -> bool
 
 // One more than the piece of the same key before piece i, found by the links of pieces; 0 if there is none. A link leads to
 // an earlier piece, so the walk ends where one does not.
-fn before(w: &[u8], p: Plan, i: usize) -> usize
+fn earlier(w: &[u8], p: Plan, i: usize) -> usize
     requires { ⌜ i ≤ 1048576 ⌝ }
 {
     let mut at = i;
@@ -128,18 +128,24 @@ fn before(w: &[u8], p: Plan, i: usize) -> usize
     0
 }
 
+// Leaves nothing held after the piece of the same key before piece i.
+fn drop_earlier(w: &mut [u8], p: Plan, i: usize)
+    requires { ⌜ i ≤ 1048576 ⌝ }
+{
+    let k = earlier(w, p, i);
+    if 0 < k {
+        put_word(w, p.held, k - 1, 0);
+    }
+}
+
 // Leaves nothing held after a piece that another piece of its key follows.
 fn drop_followed(w: &mut [u8], p: Plan)
     requires { ⌜ p .n ≤ 1048576 ⌝ }
 {
     let n = p.n;
-    let held = p.held;
     let mut i = 0;
     while i < n {
-        let k = before(w, p, i);
-        if 0 < k {
-            put_word(w, held, k - 1, 0);
-        }
+        drop_earlier(w, p, i);
         i += 1;
     }
 }

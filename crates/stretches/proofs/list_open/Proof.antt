@@ -8,6 +8,7 @@ use Rattle.stretches.proofs.list_open.Tie as tie
 use Rattle.stretches.proofs.list_open.Reads as reads
 use Rattle.stretches.proofs.list_open.Lts as lts
 use Rattle.stretches.proofs.add_open.Reads as add-open-reads
+use Rattle.stretches.proofs.drop_followed.Reads as drop-followed-reads
 
 abbrev Inv-loop : tie.InvT-loop
 Inv-loop w₀ p most n i₀ k₀ w i k = (k ≤ i) × (k ≤ most) × (n ≤ 1048576) × (length w ≡ length w₀)
@@ -15,31 +16,35 @@ Inv-loop w₀ p most n i₀ k₀ w i k = (k ≤ i) × (k ≤ most) × (n ≤ 104
 abbrev μ-loop : tie.MeasureT-loop
 μ-loop w₀ p most n i₀ k₀ w i k = n - i
 
--- src/lib.rt:194:5
+-- src/lib.rt:210:5
+drop-followed-requires : tie.Need-drop-followed-requires Inv-loop μ-loop
+drop-followed-requires c κs = search needs
+
+-- src/lib.rt:214:5
 loop-holds : tie.Need-loop-holds Inv-loop μ-loop
 loop-holds c = search needs
 
--- src/lib.rt:195:9
+-- src/lib.rt:215:9
 add-open-requires : tie.Need-add-open-requires Inv-loop μ-loop
 add-open-requires c κs = search needs
 
--- src/lib.rt:196:9
+-- src/lib.rt:216:9
 add-i : tie.Need-add-i Inv-loop μ-loop
 add-i c = search needs
 
--- src/lib.rt:194:5
+-- src/lib.rt:214:5
 loop-less : tie.Need-loop-less Inv-loop μ-loop
 loop-less c = search needs
 
--- src/lib.rt:194:5
+-- src/lib.rt:214:5
 loop-again : tie.Need-loop-again Inv-loop μ-loop
 loop-again c = search needs
 
--- src/lib.rt:187:1
+-- src/lib.rt:206:1
 same-length : tie.Need-same-length Inv-loop μ-loop
 same-length c = search needs
 
--- src/lib.rt:187:1
+-- src/lib.rt:206:1
 returns : tie.Need-returns Inv-loop μ-loop
 returns c = search needs
 
@@ -49,6 +54,7 @@ list-open-spec =
     (tie.spec
     Inv-loop
     μ-loop
+    drop-followed-requires
     loop-holds
     add-open-requires
     add-i
