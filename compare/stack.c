@@ -1,6 +1,6 @@
 /* How much stack each call takes: it runs on a thread that first fills the free part of its stack with one byte, and what has
    changed is counted.
-   cc -O1 -o target/stack compare/stack.c target/staticlib/liblumbryth.a -lpthread && target/stack TRACE */
+   cc -O1 -I include -o target/stack compare/stack.c target/staticlib/liblumbryth.a -lpthread && target/stack TRACE */
 #define _GNU_SOURCE
 #include <pthread.h>
 #include <stdint.h>
@@ -8,11 +8,8 @@
 #include <stdlib.h>
 #include <string.h>
 
-uint32_t lumbryth_import(const uint8_t *, size_t, uint8_t *, size_t, uint8_t *, size_t, uint32_t, uint32_t, uint64_t *, size_t);
-uint32_t lumbryth_plan(const uint8_t *, size_t, const uint8_t *, size_t, uint8_t *, size_t, uint64_t *, size_t);
-uint32_t lumbryth_capture_order(const uint8_t *, size_t, uint8_t *, size_t, uint64_t *, size_t);
-uint32_t lumbryth_pack(uint8_t, uint8_t, const uint8_t *, size_t, uint8_t *, size_t, uint64_t *, size_t);
-uint32_t lumbryth_unpack(const uint8_t *, size_t, uint8_t *, size_t, uint64_t *, size_t);
+#include "lumbryth.h"
+
 
 enum { FILE_MOST = 1 << 20, OUT = 1 << 24, STACK = 1 << 20, FILL = 0xA5 };
 
