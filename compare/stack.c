@@ -10,7 +10,6 @@
 
 #include "lumbryth.h"
 
-
 enum { FILE_MOST = 1 << 20, OUT = 1 << 24, STACK = 1 << 20, FILL = 0xA5 };
 
 static uint8_t *file, *work, *spans, *plan, *names;
