@@ -87,9 +87,6 @@ module _ (f : List ℕ) (lo end rx : ℕ) (pre : AclPre f lo end rx) where
   pub acl-short : (r : Field) (v n : ℕ) → r ≡ fieldOf (between f lo end) 2 → r ≡ Value v → n ≡ v → end - lo < 4 + n → AclIs f lo end rx Skipped
   acl-short r v n e q m h = short (omega (arith, field-value (between f lo end) 2 v r e q .1))
 
-  pub acl-room : (r : Field) (v n : ℕ) → r ≡ fieldOf (between f lo end) 2 → r ≡ Value v → n ≡ v → 4 + n ≤ end - lo → 4 + le16 (between f lo end) 2 ≤ end - lo
-  acl-room r v n e q m h = omega (arith, field-value (between f lo end) 2 v r e q .1)
-
   module _ (r s : Field) (handle v n key start place len : ℕ) (er : r ≡ fieldOf (between f lo end) 0) (qr : r ≡ Value handle) (es : s ≡ fieldOf (between f lo end) 2) (qs : s ≡ Value v) (en : n ≡ v)
       (h : 4 + n ≤ end - lo) (ek : key ≡ 2 * (handle % 4096) + rx) (et : start ≡ cond (eqb (handle / 4096 % 4) 1) 0 1) (ep : place ≡ lo + 4) (el : len ≡ n) where
     begins : eqb start 1 ≡ not (eqb (handle / 4096 % 4) 1)

@@ -138,9 +138,6 @@ module _ (f w₀ : List ℕ) (row b n₀ : ℕ) (p : NotePre f w₀ row b n₀) 
         inside = rw (front-word (4 * b) w w₀ (row + 4) (omega (arith, p .below)) (v .front)) more;
       }
 
-      pub noting-room : 4 * (b + 4 * n) + 16 ≤ length w
-      noting-room = omega (arith, p .room, v .size, v .few)
-
       pub noting-turn :
           (r : Step) → StepIs (pduAt f w row .payload) at (pduAt f w row .link) (pduAt f w row .rx) r → (u : List ℕ) (m : ℕ) → Noted w b n (r .said) u m →
           Noting f w₀ row b n₀ u m (r .next)

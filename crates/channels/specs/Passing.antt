@@ -85,10 +85,6 @@ pub record ReadChannels (f w : List ℕ) (made : ℕ) (u : List ℕ) (r : ℕ) :
 pub reassembled-own : (f w : List ℕ) (made : ℕ) (ps : List Pdu) → Reassembled f w made ps → Reassembled f w made (pdusFrom f w (2 * (length f / 4)) 0 made)
 reassembled-own f w made ps r = rw (r .list) r
 
--- and what it leaves, of the same PDUs
-pub read-signalled : (f w : List ℕ) (made : ℕ) (ps : List Pdu) (u : List ℕ) (rows : ℕ) → Reassembled f w made ps → ReadChannels f w made u rows → Signalled f u made ps rows
-read-signalled f w made ps u rows r c = rw (r .list) at (c .signalled)
-
 -- ---- what a write behind the tables leaves
 
 pub tells-front : (ss : List Signal) (u w : List ℕ) (b n : ℕ) → Front (4 * (b + 4 * n)) u w → Tells ss w b n → Tells ss u b n
@@ -125,10 +121,3 @@ signalled-front f u w made ps rows fr above l s =
 -- r is right for every PDU with this first word of its row, 2 * link + direction, and this CID, if the rows tell of the signals
 pub record Judged (w : List ℕ) (b n side cid : ℕ) (r : Bool) : Type 0 where
   pub right : (ss : List Signal) (p : Pdu) → Tells ss w b n → p .link ≡ side / 2 → p .rx ≡ side % 2 → p .cid ≡ cid → cid < 65536 → r ≡ isTried ss p
-
-module _ (f w : List ℕ) (made : ℕ) (ps : List Pdu) (rows : ℕ) (s : Signalled f w made ps rows) where
-  pub signalled-tried :
-      (j : ℕ) → j < made → (r : Bool) → Judged w (3 * (length f / 4)) rows (word w (2 * (length f / 4) + 7 * j)) (word w (2 * (length f / 4) + 7 * j + 1)) r →
-      r ≡ isTried (signals ps) (pduAt f w (2 * (length f / 4) + 7 * j))
-  signalled-tried j h r g =
-      g .right (signals ps) (pduAt f w (2 * (length f / 4) + 7 * j)) (s .tells) (link-at f w (2 * (length f / 4) + 7 * j)) (rx-at f w (2 * (length f / 4) + 7 * j)) (cid-at f w (2 * (length f / 4) + 7 * j)) (s .pdus .placed j h .cid)

@@ -6,10 +6,6 @@ use native.Mathlib.Omega.{arith}
 use lib.ListN.{length}
 use Rattle.items.specs.Items.{item, itemHead, Span, spanItem, spanList, nameItem, nameList, wireItem}
 
-pub item-split : (kind : ℕ) (body : List ℕ) → item kind body ≡ itemHead kind (length body) ++ body
-unfolding item itemHead
-item-split kind body = refl
-
 pub length-head : (kind size : ℕ) → length (itemHead kind size) ≡ 6
 unfolding itemHead
 length-head kind size = refl
@@ -26,10 +22,6 @@ pub length-name : (n : List ℕ) → length (nameItem n) ≡ 6 + length n
 unfolding nameItem
 length-name n = length-item 3 n
 
-pub length-wire : (w : List ℕ) → length (wireItem w) ≡ 6 + length w
-unfolding wireItem
-length-wire w = length-item 4 w
-
 pub spans-none : spanList [] ≡ []
 unfolding spanList
 spans-none = refl
@@ -42,11 +34,3 @@ pub spans-append : (a b : List Span) → spanList (a ++ b) ≡ spanList a ++ spa
 unfolding spanList
 spans-append [] b = refl
 spans-append (s ∷ a) b = rw (spans-append a b, append-assoc)
-
-pub names-none : nameList [] ≡ []
-unfolding nameList
-names-none = refl
-
-pub names-more : (n : List ℕ) (ns : List (List ℕ)) → nameList (n ∷ ns) ≡ nameItem n ++ nameList ns
-unfolding nameList
-names-more n ns = refl

@@ -40,10 +40,6 @@ unfolding pdusFrom
 length-pdus f w b i zero = refl
 length-pdus f w b i (suc m) = ap suc (length-pdus f w b (suc i) m)
 
--- the count of PDUs is the list's length
-pub made-length : (f w : List ℕ) (made : ℕ) (ps : List Pdu) → Reassembled f w made ps → made ≡ length ps
-made-length f w made ps r = sym (length-pdus f w (2 * (length f / 4)) 0 made) ∙ ap length (r .list)
-
 pub pays-next : (w : List ℕ) (b i : ℕ) → paysOf w b (i + 1) ≡ paysOf w b i + word w (b + 7 * i + 4)
 unfolding paysOf
 pays-next w b i = rw add-one
@@ -64,17 +60,9 @@ module _ (f w : List ℕ) (at : ℕ) where
   unfolding pduAt
   rx-at = refl
 
-  pub rx-le : pduAt f w at .rx ≤ 1
-  unfolding pduAt
-  rx-le = omega arith
-
   pub cid-at : pduAt f w at .cid ≡ word w (at + 1)
   unfolding pduAt
   cid-at = refl
-
-  pub time-at : pduAt f w at .time ≡ long w (at + 5)
-  unfolding pduAt
-  time-at = refl
 
   pub payload-work : word w (at + 2) ≡ 1 → pduAt f w at .payload ≡ take (word w (at + 4)) (drop (word w (at + 3)) w)
   unfolding pduAt
@@ -115,12 +103,6 @@ module _ (f w : List ℕ) (at : ℕ) (p : Lent f w at) where
     go : (t : Bool) → word w (at + 3) + word w (at + 4) ≤ cond t (length w) (length f) → length (take (word w (at + 4)) (drop (word w (at + 3)) (cond t w f))) ≡ word w (at + 4)
     go true q = length-take-le (word w (at + 4)) (drop (word w (at + 3)) w) (simp length-drop (omega arith))
     go false q = length-take-le (word w (at + 4)) (drop (word w (at + 3)) f) (simp length-drop (omega arith))
-
--- each payload is at most what all have together
-pub payload-few : (f w : List ℕ) (made : ℕ) (ps : List Pdu) → Reassembled f w made ps → (j : ℕ) → j < made → 16 + 32 * made + length (pduAt f w (2 * (length f / 4) + 7 * j) .payload) ≤ length f
-payload-few f w made ps r j h =
-    rw (payload-length f w (2 * (length f / 4) + 7 * j) (reassembled-lent f w made ps r j h))
-    (omega (arith, r .few, pays-next w (2 * (length f / 4)) j, pays-mono w (2 * (length f / 4)) (j + 1) made (omega arith)))
 
 -- ---- the frame
 

@@ -15,8 +15,8 @@ ghost use Rattle.l2cap.specs.Links.{Next, Filled, LinkRoom, Unlinked, Li
 ghost use Rattle.l2cap.specs.Steps.{pieceOf, since, brought, Walk, Paste, Gather, Need, indexOf, openAt, grown, nextAt, Small, Look, SetOpen, Arrive, putPdu, PutPdu, Finish, Finished, Step, Stepped, Run};
 use table::Index;
 use table::Row;
-use table::buckets;
 use table::bucket;
+use table::buckets;
 use table::enter;
 use table::link;
 use table::seek;

@@ -110,9 +110,6 @@ framed-length : (head p : List ℕ) (sum : ℕ) → length (framed head p sum) �
 unfolding framed
 framed-length head p sum = simp length-append (omega arith)
 
-pub start-room : (head d : List ℕ) (r : ℕ) (d′ : List ℕ) → 1 + length (escape head) ≤ length d → Writes d 0 (0x3E ∷ []) r d′ → r + length (escape head) ≤ length d′
-start-room head d r d′ h v = omega (arith, v .next, writes-long d 0 (0x3E ∷ []) r d′ v)
-
 pub starts : (head d : List ℕ) (r : ℕ) (d′ : List ℕ) (q : ℕ) (d″ : List ℕ) → Writes d 0 (0x3E ∷ []) r d′ → Writes d′ r (escape head) q d″ → Writes d 0 (0x3E ∷ escape head) q d″
 starts head d r d′ q d″ v w = writes-then d 0 (0x3E ∷ []) r d′ (escape head) q d″ v w
 

@@ -147,9 +147,6 @@ module _ (s : List ℕ) (at len : ℕ) (t : Bool) (v : Bare 0x3D 0x3D s t) where
       let k : at + len - at ≡ len = omega arith in
       w .writes ∙ rw (k, ahead-bare s at (v .none y))
 
-pub payload-filled : (s : List ℕ) (at len : ℕ) (d : List ℕ) (r : ℕ) (e : List ℕ) → Filled s at d 0 len r e → e ≡ sets d 0 (take len (ahead s at))
-payload-filled s at len d r e v = v .writes
-
 pub first-none : (s : List ℕ) (at len : ℕ) → len ≡ 0 → 0 ≡ getD (take len (ahead s at)) 0 0
 first-none s at len e = rw e
 

@@ -107,9 +107,6 @@ module _ (b : List ℕ) (pre : UihPre b) where
   unfolding infoStart
   start-least = splitB (shortLength b) (λ e. rw e (omega arith)) (λ e. rw e (omega arith))
 
-  start-one : length b ≤ 3 → length b ≤ infoStart b + infoLength b
-  start-one h = omega (arith, start-least)
-
   pub uih-short : length b < 4 → FrameIs b Other
   uih-short h = uih-none (omega (arith, start-least))
 
