@@ -5,13 +5,13 @@ use mathlib.Core.List.{List, [], _∷_, _++_, append-assoc}
 use mathlib.Core.Logic.{inl, inr}
 use Prim.Native.Nat.{ℕ, suc, _+_, _-_, _*_, _/_, _%_, _<_, _≤_}
 use native.Mathlib.Omega.{arith}
-use lib.ListN.{length, getD, set, take, drop, length-drop}
-use lib.Seq.{sets, drop-drop, length-take-le, sets-eq, take-append-le, drop-append-le, drop-at, getD-set-other}
+use lib.ListN.{length, take, drop, length-drop}
+use lib.Seq.{sets, drop-drop, length-take-le, sets-eq, take-append-le, drop-append-le, drop-at}
 use lib.Dec.{eqb}
 use Rattle.laws.specs.Choice.{split≤}
 use Rattle.laws.specs.Numbers.{le16}
 use Rattle.laws.specs.Stores.{Writes, writes-long}
-use Rattle.words.specs.Words.{word, long, word-of-bytes}
+use Rattle.words.specs.Words.{word, long}
 use Rattle.words.specs.Front.{Front, front-refl, front-then, front-part, front-sets, part-take}
 use Rattle.table.specs.Table.{Agree}
 use Rattle.btsnoop.specs.PacketTable.{packetAt}

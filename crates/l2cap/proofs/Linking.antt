@@ -1,16 +1,15 @@
 -- The packets are linked, from the last to the first.
 use mathlib.Core.Path.{_≡_, refl, sym, ap, _∙_}
 use mathlib.Core.List.{List}
-use Prim.Native.Nat.{ℕ, zero, suc, _+_, _-_, _*_, _%_, _<_, _≤_}
+use Prim.Native.Nat.{ℕ, suc, _+_, _-_, _*_, _%_, _<_, _≤_}
 use native.Mathlib.Omega.{arith}
 use lib.ListN.{length}
-use lib.Dec.{eqb}
 use borrow.Author.Tests.{eq-eqb, ne-eqb}
 use Rattle.laws.specs.Choice.{split≡}
 use Rattle.words.specs.Words.{word, putWord, length-put, word-put-same, word-put-other}
 use Rattle.words.specs.Front.{Front, front-refl, front-put, front-then, front-word}
 use Rattle.table.specs.Chain.{Bucket, putLink, LinkPre, length-link, link-other}
-use Rattle.l2cap.specs.Links.{soonest, soonest-agree, Linked, Filled, LinkRoom, Unlinked, LinkedTo}
+use Rattle.l2cap.specs.Links.{soonest, soonest-agree, Filled, LinkRoom, Unlinked, LinkedTo}
 
 less : (k i : ℕ) → k < i + 1 → (k ≡ i → ⊥) → k < i
 less k i l q = split≡ k i (λ e. absurd (q e)) (λ e. omega arith)

@@ -10,8 +10,7 @@ use borrow.Author.Tests.{eq-eqb, ne-eqb}
 use Rattle.laws.specs.Choice.{split≡}
 use Rattle.laws.specs.Lists.{All}
 use Rattle.laws.specs.Keys.{eqK}
-use Rattle.words.specs.Words.{word}
-use Rattle.words.specs.Front.{Front, front-refl, front-then, front-less, front-word}
+use Rattle.words.specs.Front.{Front, front-refl, front-then, front-word}
 use Rattle.table.specs.Table.{lookup, sumOf}
 use Rattle.table.specs.Chain.{chained-none, headed-none, bucketsOf, buckets-some, buckets-fit}
 use Rattle.table.specs.Index.{bucketAt}

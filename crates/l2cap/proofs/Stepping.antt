@@ -15,7 +15,7 @@ use Rattle.words.specs.Words.{word}
 use Rattle.words.specs.Front.{Front, front-then, front-word, front-less, front-refl}
 use Rattle.table.specs.Chain.{bucketsOf, buckets-some, buckets-fit}
 use Rattle.table.specs.Table.{some as row, lookup, upd, second, sumOf, Stored, Agree, lookup-agree, long-agree, sum-agree, second-le}
-use Rattle.table.specs.Index.{Indexed, Stands, Entered, stands-less, indexed-agree}
+use Rattle.table.specs.Index.{Stands, Entered, stands-less, indexed-agree}
 use Rattle.btsnoop.specs.PacketTable.{packetAt, dataOf}
 use Rattle.btsnoop.specs.PacketFrames.{data-next, data-front}
 use Rattle.l2cap.specs.Pdus.{joined, isComplete, stillOpen, completed}

@@ -1,7 +1,7 @@
 -- The packets are walked again: what they bring to a key, a byte of it, and the bytes joined.
 use mathlib.Core.Path.{_≡_, refl, sym, ap, _∙_}
 use mathlib.Core.List.{List, [], _∷_, _++_, append-assoc, append-nil}
-use Prim.Native.Nat.{ℕ, zero, suc, _+_, _-_, _*_, _/_, _<_, _≤_, min}
+use Prim.Native.Nat.{ℕ, zero, suc, _+_, _-_, _*_, _<_, _≤_, min}
 use native.Mathlib.Omega.{arith}
 use lib.ListN.{length, getD, set, take, drop, length-take, length-drop, List·getD-append}
 use lib.Seq.{sets, getD-set-other, length-take-le, take-all, take-nil, take-take, getD-append-add, getD-take, getD-drop}
