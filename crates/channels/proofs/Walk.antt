@@ -11,7 +11,7 @@ use Rattle.laws.specs.Choice.{split≤}
 use Rattle.words.specs.Words.{word}
 use Rattle.words.specs.Front.{Front, front-refl, front-then, front-less, front-word}
 use Rattle.table.specs.Table.{lookup, Agree}
-use Rattle.table.specs.Chain.{bucketsOf, buckets-some, buckets-fit, Cleared}
+use Rattle.table.specs.Chain.{bucketsOf, buckets-some, buckets-fit, Filled}
 use Rattle.table.specs.Index.{Indexed, Stands, SeekPre, EnterPre, stands-less, stands-same, indexed-none}
 use Rattle.table.specs.declared.Index.{Index}
 use Rattle.items.specs.Items.{rxOf}
@@ -321,7 +321,7 @@ module _ (f w : List ℕ) (made : ℕ) (p : Reassembled f w made (pdusFrom f w (
   unfolding channelIndex
   clear-room = rw (ex, eq) (omega (arith, p .few, p .room, buckets-fit (length f / 4 - length f / 4 / 2) (omega (arith, p .few))))
 
-  module _ (u : List ℕ) (c : Cleared w (x .heads) (x .m) u) where
+  module _ (u : List ℕ) (c : Filled w (x .heads) (x .m) 0 u) where
     clear-front : Front (12 * (length f / 4)) u w
     unfolding channelIndex
     clear-front = front-less (12 * (length f / 4)) (4 * (7 * (length f / 4) + length f / 4 / 2)) u w (omega arith) (rw (ex, eq) at (c .front))
@@ -333,7 +333,7 @@ module _ (f w : List ℕ) (made : ℕ) (p : Reassembled f w made (pdusFrom f w (
     clear-noted = record {
       quarter = eq;
       pdus = rw (clear-pdus .list) clear-pdus;
-      indexed = rw ex at (indexed-none u x (c .zeros));
+      indexed = rw ex at (indexed-none u x (c .is));
     }
 
     pub clear-read : (v : List ℕ) (r : ℕ) → ReadChannels f u made v r → ReadChannels f w made v r

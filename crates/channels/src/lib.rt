@@ -21,8 +21,8 @@ use l2cap::payload;
 use table::Index;
 use table::Row;
 use table::buckets;
-use table::clear;
 use table::enter;
+use table::fill;
 use table::seek;
 use words::Field;
 use words::field16;
@@ -370,7 +370,7 @@ pub fn read_channels(file: &[u8], w: &mut [u8], made: usize) -> usize
 {
     let q = file.len() / 4;
     let x = index_of(q);
-    clear(w, x.heads, x.m);
+    fill(w, x.heads, x.m, 0);
     note_pdus(file, w, made, q)
 }
 

@@ -8,46 +8,11 @@ use borrow.Author.Tests.{eq-eqb, ne-eqb}
 use Rattle.laws.specs.Choice.{split≡}
 use Rattle.words.specs.Words.{word, putWord, length-put, word-put-same, word-put-other}
 use Rattle.words.specs.Front.{Front, front-refl, front-put, front-then, front-word}
-use Rattle.table.specs.Chain.{Bucket, putLink, LinkPre, length-link, link-other}
-use Rattle.l2cap.specs.Links.{soonest, soonest-agree, Filled, LinkRoom, Unlinked, LinkedTo}
+use Rattle.table.specs.Chain.{Bucket, Filled, putLink, LinkPre, length-link, link-other}
+use Rattle.l2cap.specs.Links.{soonest, soonest-agree, LinkRoom, Unlinked, LinkedTo}
 
 less : (k i : ℕ) → k < i + 1 → (k ≡ i → ⊥) → k < i
 less k i l q = split≡ k i (λ e. absurd (q e)) (λ e. omega arith)
-
--- ---- words set to a number
-
-pub record Filling (w : List ℕ) (at m x : ℕ) (u : List ℕ) (i : ℕ) : Type 0 where
-  pub within : i ≤ m
-  pub filled : Filled w at i x u
-
-pub fill-start : (w : List ℕ) (at m x : ℕ) → Filling w at m x w 0
-fill-start w at m x = record {
-  within = omega arith;
-  filled = record { is = λ h l. absurd (omega arith); front = front-refl (4 * at) w; beyond = λ j l. refl; size = refl };
-}
-
-module _ (w : List ℕ) (at m x : ℕ) (u : List ℕ) (i : ℕ) (v : Filling w at m x u i) where
-  c : Filled w at i x u
-  c = v .filled
-
-  pub fill-put : 4 * (at + m) ≤ length w → i < m → 4 * (at + i) + 4 ≤ length u
-  fill-put room l = omega (arith, c .size)
-
-  pub fill-turn : 4 * (at + m) ≤ length w → i < m → (y : List ℕ) → y ≡ putWord u (at + i) x → Filling w at m x y (i + 1)
-  fill-turn room l y e = rw e (record {
-    within = omega arith;
-    filled = record {
-      is = λ h k. split≡ h i
-          (λ q. rw q (word-put-same u (at + i) x (omega (arith, c .size))))
-          (λ q. word-put-other u (at + i) x (at + h) (λ z. q (omega arith)) ∙ c .is h (less h i k q));
-      front = front-then (4 * at) _ u w (front-put (4 * at) u (at + i) x (omega arith)) (c .front);
-      beyond = λ j h. word-put-other u (at + i) x j (λ z. omega arith) ∙ c .beyond j (omega arith);
-      size = length-put u (at + i) x ∙ c .size;
-    };
-  })
-
-  pub fill-end : m ≤ i → Filled w at m x u
-  fill-end h = let z : i ≡ m = omega (arith, v .within) in rw z at c
 
 -- ---- the packets put into their buckets
 

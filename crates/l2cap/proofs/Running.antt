@@ -12,7 +12,7 @@ use Rattle.laws.specs.Lists.{All}
 use Rattle.laws.specs.Keys.{eqK}
 use Rattle.words.specs.Front.{Front, front-refl, front-then, front-word}
 use Rattle.table.specs.Table.{lookup, sumOf}
-use Rattle.table.specs.Chain.{chained-none, headed-none, bucketsOf, buckets-some, buckets-fit}
+use Rattle.table.specs.Chain.{chained-none, headed-none, bucketsOf, buckets-some, buckets-fit, Filled}
 use Rattle.table.specs.Index.{bucketAt}
 use Rattle.btsnoop.specs.Packets.{Packet}
 use Rattle.btsnoop.specs.PacketTable.{packetAt, packetsFrom, dataOf, Tabled}
@@ -21,7 +21,7 @@ use Rattle.l2cap.specs.Pdus.{Pdu, packetKey, reassembly, pdus}
 use Rattle.l2cap.specs.PduTable.{pdusFrom, paysOf, Reassembled}
 use Rattle.l2cap.specs.PduFrames.{inside-top}
 use Rattle.l2cap.specs.Rekeyed.{runBy, rekey, run-by}
-use Rattle.l2cap.specs.Links.{Linked, linked-less, linked-agree, Filled, LinkRoom, LinkedTo}
+use Rattle.l2cap.specs.Links.{Linked, linked-less, linked-agree, LinkRoom, LinkedTo}
 use Rattle.l2cap.specs.Steps.{numberOf, indexOf, asOpen, openAt, heldOf, mapOf, Ready, Step, Stepped, Run}
 use Rattle.l2cap.specs.declared.Tables.{Tables}
 use Rattle.l2cap.proofs.Opens.{never}

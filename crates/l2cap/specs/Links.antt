@@ -79,13 +79,6 @@ pub record Next (w : List ℕ) (q i : ℕ) : Type 0 where
   pub room : 4 * (7 * q + i) + 4 ≤ length w
   pub some : 0 < word w (7 * q + i)
 
--- m words from at on are x, and those behind them stay
-pub record Filled (w : List ℕ) (at m x : ℕ) (u : List ℕ) : Type 0 where
-  pub is : (h : ℕ) → h < m → word u (at + h) ≡ x
-  pub front : Front (4 * at) u w
-  pub beyond : (j : ℕ) → at + m ≤ j → word u j ≡ word w j
-  pub size : length u ≡ length w
-
 -- room to link the packets: m buckets whose words stand from word 6 * q on
 pub record LinkRoom (w : List ℕ) (q m count : ℕ) : Type 0 where
   pub low : 6 * count ≤ q

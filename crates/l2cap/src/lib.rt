@@ -11,13 +11,14 @@ ghost use Rattle.btsnoop.specs.PacketTable.{packetAt, packetsFrom, Tabled};
 ghost use Rattle.l2cap.specs.Pdus.{pdus};
 ghost use Rattle.l2cap.specs.PduTable.{pduAt, Reassembled};
 ghost use Rattle.l2cap.specs.PduFrames.{Lent};
-ghost use Rattle.l2cap.specs.Links.{Next, Filled, LinkRoom, Unlinked, LinkedTo};
+ghost use Rattle.l2cap.specs.Links.{Next, LinkRoom, Unlinked, LinkedTo};
 ghost use Rattle.l2cap.specs.Steps.{pieceOf, since, brought, Walk, Paste, Gather, Need, indexOf, openAt, grown, nextAt, Small, Look, SetOpen, Arrive, putPdu, PutPdu, Finish, Finished, Step, Stepped, Run};
 use table::Index;
 use table::Row;
 use table::bucket;
 use table::buckets;
 use table::enter;
+use table::fill;
 use table::link;
 use table::seek;
 use words::copy_to;
@@ -326,18 +327,6 @@ fn bucket_of(w: &[u8], i: usize, m: usize) -> usize
     ensures { λ r. ⌜ Bucket (word (now (w .entry)) (6 * i)) m r ⌝ }
 {
     bucket(wide64(get32(w, 6 * i)), m as u64) as usize
-}
-
-// Sets m words from word at on.
-fn fill(w: &mut [u8], at: usize, m: usize, x: u32)
-    requires { ⌜ 4 * (at + m) ≤ length (now w) ⌝ }
-    ensures { λ _. ⌜ Filled (now (w .entry)) at m x (now (w .exit)) ⌝ }
-{
-    let mut i = 0;
-    while i < m {
-        put32(w, at + i, x);
-        i += 1;
-    }
 }
 
 // Links the packets of each of m buckets that are empty: from the last to the first.

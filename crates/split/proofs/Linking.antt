@@ -7,7 +7,7 @@ use lib.ListN.{length}
 use Rattle.laws.specs.Keys.{Key}
 use Rattle.words.specs.Words.{word}
 use Rattle.words.specs.Front.{Front, front-refl, front-then, front-less, front-word}
-use Rattle.table.specs.Chain.{newest, Chained, Headed, Bucket, Cleared, putLink, LinkPre, chained-none, chained-agree, headed-none, headed-link, chained-link, length-link, front-link}
+use Rattle.table.specs.Chain.{newest, Chained, Headed, Bucket, Filled, putLink, LinkPre, chained-none, chained-agree, headed-none, headed-link, chained-link, length-link, front-link}
 use Rattle.split.specs.Rows.{rowOf, tailAt, keyOf, keyAt, mix, Linked}
 use Rattle.split.specs.Walks.{Row, LinkRoom, Unlinked, LinkedTo}
 use Rattle.split.specs.declared.Plan.{Plan}
@@ -38,13 +38,13 @@ pub record Linking (w₀ : List ℕ) (p : Plan) (heads m : ℕ) (w : List ℕ) (
   pub older : Chained (bucketIn w₀ p m) w (p .chain) i
 
 module _ (w₀ : List ℕ) (p : Plan) (heads m : ℕ) (g : LinkRoom w₀ p heads m) where
-  pub unlinked : (w : List ℕ) → Cleared w₀ heads m w → Unlinked w p heads m
+  pub unlinked : (w : List ℕ) → Filled w₀ heads m 0 w → Unlinked w p heads m
   unlinked w c = record {
     room = record { rows = g .rows; chain = g .chain; over = g .over; words = omega (arith, g .words, c .size); room = omega (arith, g .room, c .size); some = g .some; many = g .many };
-    zeros = c .zeros;
+    zeros = c .is;
   }
 
-  pub linked-all : (w : List ℕ) → Cleared w₀ heads m w → (u : List ℕ) → LinkedTo w p u → LinkedTo w₀ p u
+  pub linked-all : (w : List ℕ) → Filled w₀ heads m 0 w → (u : List ℕ) → LinkedTo w p u → LinkedTo w₀ p u
   linked-all w c u l = record { linked = l .linked; front = front-then (4 * p .chain) u w w₀ (l .front) (front-less (4 * p .chain) (4 * heads) w w₀ (omega (arith, g .chain, g .over)) (c .front)) }
 
 pub linking-start : (w : List ℕ) (p : Plan) (heads m : ℕ) → Unlinked w p heads m → Linking w p heads m w 0
@@ -52,7 +52,7 @@ linking-start w p heads m g = record {
   within = omega arith;
   long = refl;
   front = front-refl (4 * p .chain) w;
-  newer = headed-none (bucketIn w p m) w heads m w (record { zeros = g .zeros; front = front-refl (4 * heads) w; size = refl });
+  newer = headed-none (bucketIn w p m) w heads m (g .zeros);
   older = chained-none (bucketIn w p m) w (p .chain);
 }
 

@@ -22,7 +22,7 @@ use spans::count_part;
 use spans::has_end;
 use spans::write_part;
 use table::bucket;
-use table::clear;
+use table::fill;
 use table::link;
 use words::copy_to;
 use words::get32;
@@ -156,7 +156,7 @@ pub fn link_pieces(w: &mut [u8], p: Plan, heads: usize, m: usize)
     requires { ⌜ LinkRoom (now w) p heads m ⌝ }
     ensures { λ _. ⌜ LinkedTo (now (w .entry)) p (now (w .exit)) ⌝ }
 {
-    clear(w, heads, m);
+    fill(w, heads, m, 0);
     link_rows(w, p, heads, m);
 }
 

@@ -5,7 +5,7 @@ ghost use Prim.Native.Nat.{_+_, _*_, _≤_, _<_};
 ghost use lib.ListN.{length};
 ghost use Rattle.table.specs.Table.{findIn, putRow, StoredAt};
 ghost use Rattle.table.specs.Index.{mixOf, Indexed, SeekPre, EnterPre, Entered};
-ghost use Rattle.table.specs.Chain.{Bucket, bucketsOf, Cleared, putLink, LinkPre};
+ghost use Rattle.table.specs.Chain.{Bucket, bucketsOf, Filled, putLink, LinkPre};
 use words::get32;
 use words::get64;
 use words::put32;
@@ -83,14 +83,14 @@ pub fn buckets(room: usize) -> usize
     4096
 }
 
-// Empties m buckets, whose words stand from word at on.
-pub fn clear(w: &mut [u8], at: usize, m: usize)
+// Sets m words from word at on: with 0 they are buckets that are empty.
+pub fn fill(w: &mut [u8], at: usize, m: usize, x: u32)
     requires { ⌜ 4 * (at + m) ≤ length (now w) ⌝ }
-    ensures { λ _. ⌜ Cleared (now (w .entry)) at m (now (w .exit)) ⌝ }
+    ensures { λ _. ⌜ Filled (now (w .entry)) at m x (now (w .exit)) ⌝ }
 {
     let mut i = 0;
     while i < m {
-        put32(w, at + i, 0);
+        put32(w, at + i, x);
         i += 1;
     }
 }

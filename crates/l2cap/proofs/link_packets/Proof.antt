@@ -5,7 +5,7 @@ use Rattle.l2cap.proofs.link_packets.Statement.{statement}
 use Rattle.l2cap.proofs.link_packets.Tie as tie
 use Rattle.l2cap.proofs.link_packets.Reads as reads
 use Rattle.l2cap.proofs.link_packets.Lts as lts
-use Rattle.l2cap.proofs.fill.Reads as fill-reads
+use Rattle.table.proofs.fill.Reads as fill-reads
 use Rattle.l2cap.proofs.link_rows.Reads as link-rows-reads
 use Rattle.l2cap.proofs.narrow.Reads as narrow-reads
 

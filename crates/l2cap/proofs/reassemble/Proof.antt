@@ -7,7 +7,7 @@ use Rattle.l2cap.proofs.reassemble.Tie as tie
 use Rattle.l2cap.proofs.reassemble.Reads as reads
 use Rattle.l2cap.proofs.reassemble.Lts as lts
 use Rattle.table.proofs.buckets.Reads as buckets-reads
-use Rattle.l2cap.proofs.fill.Reads as fill-reads
+use Rattle.table.proofs.fill.Reads as fill-reads
 use Rattle.l2cap.proofs.link_packets.Reads as link-packets-reads
 use Rattle.l2cap.proofs.run.Reads as run-reads
 

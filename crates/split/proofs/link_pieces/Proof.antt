@@ -6,11 +6,11 @@ use Rattle.split.proofs.link_pieces.Tie as tie
 use Rattle.split.proofs.link_pieces.Reads as reads
 use Rattle.split.proofs.link_pieces.Lts as lts
 use Rattle.split.proofs.link_rows.Reads as link-rows-reads
-use Rattle.table.proofs.clear.Reads as clear-reads
+use Rattle.table.proofs.fill.Reads as fill-reads
 
 -- src/lib.rt:159:5
-clear-requires : tie.Need-clear-requires
-clear-requires c κs = search needs
+fill-requires : tie.Need-fill-requires
+fill-requires c κs = search needs
 
 -- src/lib.rt:160:5
 link-rows-requires : tie.Need-link-rows-requires
@@ -25,4 +25,4 @@ returns : tie.Need-returns
 returns c = search linked-all
 
 pub link-pieces-spec : {M : Type 1} → statement M
-link-pieces-spec = tie.close (tie.spec clear-requires link-rows-requires same-length returns)
+link-pieces-spec = tie.close (tie.spec fill-requires link-rows-requires same-length returns)
