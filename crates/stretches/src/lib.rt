@@ -1,6 +1,6 @@
 // Import with a lent list of the stretches that are open at the end, each with its counts.
 ghost use mathlib.Core.Path.{_≡_};
-ghost use Prim.Native.Nat.{_+_, _≤_};
+ghost use Prim.Native.Nat.{_+_, _≤_, _<_};
 ghost use lib.ListN.{length};
 ghost use Rattle.stretches.specs.Filled.{stretchAt, filled};
 ghost use Rattle.stretches.specs.Places.{ImportsIn};
@@ -64,6 +64,10 @@ pub fn fill(work: &[u8], stretches: &mut [Stretch], count: usize)
 }
 
 // ---- the stretches that are open at the end, listed in work
+//
+// The pieces of the DLCI are walked from the last to the first. The first that is met of a key is its last, and says how many
+// bytes the key holds. Keys that were met are in chains: the head of each bucket's from word q on, and from word 2 * q on a
+// word for each piece, one more than the piece met before it in its bucket. What is listed stands below them.
 
 // The word number i from word base of w on, or 0 where it is not there.
 fn word_of(w: &[u8], base: usize, i: usize) -> u32 {
@@ -81,6 +85,18 @@ fn word_of(w: &[u8], base: usize, i: usize) -> u32 {
 fn put_word(w: &mut [u8], i: usize, v: u32) {
     if i < w.len() / 4 {
         put32(w, i, v);
+    }
+}
+
+// Stores 0 in m words from word at on.
+fn clear(w: &mut [u8], at: usize, m: usize)
+    requires { ⌜ at ≤ 1048576 ⌝ }
+    requires { ⌜ m ≤ 1048576 ⌝ }
+{
+    let mut i = 0;
+    while i < m {
+        put_word(w, at + i, 0);
+        i += 1;
     }
 }
 
@@ -103,35 +119,66 @@ fn same_key(w: &[u8], rows: usize, i: usize, j: usize) -> bool
     word_of(w, rows, a + 3) == word_of(w, rows, b + 3)
 }
 
-// Whether a piece after piece i has its key.
-fn is_followed(w: &[u8], rows: usize, n: usize, i: usize) -> bool
+// A number under m from three words.
+fn mixed(a: u32, b: u32, c: u32, m: usize) -> usize
+    requires { ⌜ 0 < m ⌝ }
+    ensures { λ r. ⌜ r < m ⌝ }
+{
+    let x = (a as usize) % 1048573 * 65599 + b as usize;
+    let y = x % 1048573 * 65599 + c as usize;
+    y % m
+}
+
+// The bucket of a piece's key, of m.
+fn bucket_of(w: &[u8], rows: usize, i: usize, m: usize) -> usize
+    requires { ⌜ i ≤ 1048576 ⌝ }
+    requires { ⌜ 0 < m ⌝ }
+    ensures { λ r. ⌜ r < m ⌝ }
+{
+    let a = 8 * i;
+    let way = word_of(w, rows, a + 1);
+    let cid = word_of(w, rows, a + 2);
+    let counts = word_of(w, rows, a + 3);
+    mixed(way, cid, counts, m)
+}
+
+// Whether a piece with the key of piece i is in a chain of at most n.
+fn is_met(w: &[u8], rows: usize, chain: usize, n: usize, i: usize, first: u32) -> bool
     requires { ⌜ n ≤ 1048576 ⌝ }
     requires { ⌜ i ≤ 1048576 ⌝ }
 {
-    let mut j = i + 1;
-    while j < n {
-        if same_key(w, rows, j, i) {
+    let mut j = first as usize;
+    let mut left = n;
+    while 0 < left {
+        left -= 1;
+        if j == 0 {
+            return false;
+        }
+        if n < j {
+            return false;
+        }
+        if same_key(w, rows, j - 1, i) {
             return true;
         }
-        j += 1;
+        j = word_of(w, chain, j - 1) as usize;
     }
     false
 }
 
-// Whether piece i is of the DLCI and the last of its key, and bytes are held after it.
-fn is_open(w: &[u8], p: Plan, i: usize) -> bool
+// Whether piece i is the first that is met of its key; if so it is put into its chain.
+fn meet(w: &mut [u8], p: Plan, q: usize, i: usize) -> bool
     requires { ⌜ p .n ≤ 1048576 ⌝ }
+    requires { ⌜ 0 < q ⌝ }
+    requires { ⌜ q ≤ 1048576 ⌝ }
     requires { ⌜ i ≤ 1048576 ⌝ }
 {
-    if word_of(w, p.rows, 8 * i) != p.dlci {
+    let head = q + bucket_of(w, p.rows, i, q);
+    let first = word_of(w, 0, head);
+    if is_met(w, p.rows, 2 * q, p.n, i, first) {
         return false;
     }
-    if word_of(w, p.held, i) == 0 {
-        return false;
-    }
-    if is_followed(w, p.rows, p.n, i) {
-        return false;
-    }
+    put_word(w, head, (i + 1) as u32);
+    put_word(w, 2 * q + i, first);
     true
 }
 
@@ -164,36 +211,55 @@ fn put_stretch(w: &mut [u8], k: usize, s: Stretch)
     put_word(w, to + 5, s.held);
 }
 
-// Lists the stretch of piece i behind the k that are listed, if it is open and there is a place; returns how many are listed.
-fn add_open(w: &mut [u8], p: Plan, i: usize, k: usize, most: usize) -> usize
-    requires { ⌜ p .n ≤ 1048576 ⌝ }
+// Lists the stretch of piece i behind the k that are listed, if it holds bytes; returns how many are listed.
+fn add_held(w: &mut [u8], p: Plan, i: usize, k: usize) -> usize
     requires { ⌜ i ≤ 1048576 ⌝ }
-    requires { ⌜ k ≤ i ⌝ }
+    requires { ⌜ k ≤ 1048576 ⌝ }
+    ensures { λ r. ⌜ r ≤ k + 1 ⌝ }
+{
+    let s = stretch_of(w, p, i);
+    if s.held == 0 {
+        return k;
+    }
+    put_stretch(w, k, s);
+    k + 1
+}
+
+// The same if piece i is of the DLCI and the last of its key, and there is a place.
+fn add_open(w: &mut [u8], p: Plan, q: usize, i: usize, k: usize, most: usize) -> usize
+    requires { ⌜ p .n ≤ 1048576 ⌝ }
+    requires { ⌜ 0 < q ⌝ }
+    requires { ⌜ q ≤ 1048576 ⌝ }
+    requires { ⌜ i ≤ 1048576 ⌝ }
+    requires { ⌜ k ≤ 1048576 ⌝ }
     requires { ⌜ k ≤ most ⌝ }
     ensures { λ r. ⌜ (r ≤ k + 1) × (r ≤ most) ⌝ }
 {
     if k == most {
         return k;
     }
-    if is_open(w, p, i) {
-        let s = stretch_of(w, p, i);
-        put_stretch(w, k, s);
-        return k + 1;
+    if word_of(w, p.rows, 8 * i) != p.dlci {
+        return k;
+    }
+    if meet(w, p, q, i) {
+        return add_held(w, p, i, k);
     }
     k
 }
 
 // Puts the stretches that are open at the end to the start of work, at most so many, and returns how many.
-fn list_open(w: &mut [u8], p: Plan, most: usize) -> usize
+fn list_open(w: &mut [u8], p: Plan, q: usize, most: usize) -> usize
     requires { ⌜ p .n ≤ 1048576 ⌝ }
+    requires { ⌜ 0 < q ⌝ }
+    requires { ⌜ q ≤ 1048576 ⌝ }
     ensures { λ r. ⌜ r ≤ most ⌝ }
 {
-    let n = p.n;
-    let mut i = 0;
+    clear(w, q, q);
+    let mut i = p.n;
     let mut k = 0;
-    while i < n {
-        k = add_open(w, p, i, k, most);
-        i += 1;
+    while 0 < i {
+        i -= 1;
+        k = add_open(w, p, q, i, k, most);
     }
     k
 }
@@ -204,6 +270,9 @@ fn list_found(w: &mut [u8], q: usize, found: Found, most: usize) -> usize
     ensures { λ r. ⌜ r ≤ most ⌝ }
 {
     let n = found.pieces;
+    if q == 0 {
+        return 0;
+    }
     if q < n {
         return 0;
     }
@@ -212,7 +281,7 @@ fn list_found(w: &mut [u8], q: usize, found: Found, most: usize) -> usize
         return 0;
     };
     let p = plan(q, n, dlci as u32);
-    list_open(w, p, most)
+    list_open(w, p, q, most)
 }
 
 // ---- import
