@@ -141,7 +141,7 @@ module _ (f w : List ℕ) (count : ℕ) (pre : Tabled f w count) (q : ℕ) (e : 
         linked = linked-agree v x q count (λ j h. front-word (4 * (6 * q)) v x j (omega arith) (c .front)) (λ j h. c .beyond j (omega (arith, many))) (l .linked);
         indexed = record {
           chained = chained-none (bucketAt v (indexOf q)) v (5 * q);
-          headed = rw me at (headed-none (bucketAt v (indexOf q)) x (6 * q) m v (record { zeros = c .is; front = c .front; size = c .size }));
+          headed = rw me at (headed-none (bucketAt v (indexOf q)) v (6 * q) m (c .is));
         };
       }
 
