@@ -11,7 +11,7 @@ use borrow.Author.Tests.{le-leb, lt-leb, eq-eqb, ne-eqb, eqb-true, eqb-false}
 use Rattle.laws.specs.Choice.{splitB, split≡, no-way}
 use Rattle.laws.specs.Answers.{Answer, accepted, refused, Outcome, refuses, Meets, meets-refused, meets-as}
 use Rattle.btsnoop.specs.Header.{isBtsnoop, datalink, isDatalink}
-use Rattle.btsnoop.specs.Headers.{headerOf, begins-long}
+use Rattle.btsnoop.specs.Headers.{headerOf, begins-long, no-header, other-link, known-link}
 use Rattle.btsnoop.specs.Records.{tailOffset}
 use Rattle.btsnoop.specs.PacketTable.{Read}
 use Rattle.btsnoop.specs.Adding.{ReadPre, ReadTo}
@@ -141,33 +141,6 @@ pub record Sized (f w : List ℕ) : Type 0 where
 
 pub record HeadMeets (f : List ℕ) (channel : Channel) (tail : Tail) (out : List ℕ) (r : Imported) (out′ : List ℕ) : Type 0 where
   pub meets : Meets (given (outcome f (channelOf channel) (ruleOf tail))) out (toldImported r) out′
-
-no-header : (f : List ℕ) → headerOf f ≡ NoHeader → isBtsnoop f ≡ false
-unfolding headerOf
-no-header f e =
-    splitB (isBtsnoop f)
-    (λ a. splitB (isDatalink (datalink f))
-    (λ b. let q = rw (a, b) at e in let z : _≡_ {A = ℕ} 0 1 = cc in absurd (omega arith))
-    (λ b. let q = rw (a, b) at e in let z : _≡_ {A = ℕ} 0 1 = cc in absurd (omega arith)))
-    (λ a. a)
-
-other-link : (f : List ℕ) (n : ℕ) → headerOf f ≡ Other n → (isBtsnoop f ≡ true) × (isDatalink (datalink f) ≡ false) × (n ≡ datalink f)
-unfolding headerOf
-other-link f n e =
-    splitB (isBtsnoop f)
-    (λ a. splitB (isDatalink (datalink f))
-    (λ b. let q = rw (a, b) at e in let z : _≡_ {A = ℕ} 0 1 = cc in absurd (omega arith))
-    (λ b. let q = rw (a, b) at e in (a, b, (let z : n ≡ datalink f = cc in z))))
-    (λ a. let q = rw a at e in let z : _≡_ {A = ℕ} 0 1 = cc in absurd (omega arith))
-
-known-link : (f : List ℕ) (n : ℕ) → headerOf f ≡ Known n → (isBtsnoop f ≡ true) × (isDatalink (datalink f) ≡ true)
-unfolding headerOf
-known-link f n e =
-    splitB (isBtsnoop f)
-    (λ a. splitB (isDatalink (datalink f))
-    (λ b. (a, b))
-    (λ b. let q = rw (a, b) at e in let z : _≡_ {A = ℕ} 0 1 = cc in absurd (omega arith)))
-    (λ a. let q = rw a at e in let z : _≡_ {A = ℕ} 0 1 = cc in absurd (omega arith))
 
 module _ (f w : List ℕ) (size : Sized f w) (h : Header) (eh : h ≡ headerOf f) (channel : Channel) (tail : Tail) (out : List ℕ) where
   pub head-none : h ≡ NoHeader → HeadMeets f channel tail out NotBtsnoop out
