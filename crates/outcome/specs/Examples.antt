@@ -1,16 +1,16 @@
--- The worked example, and its cut by one byte, by computation.
+-- The worked example, its cut by one byte, and each refusal but the first, by computation.
 use Prim.Native.Nat.{ℕ, _+_, _-_, _*_, _/_, _%_}
 use mathlib.Core.Path.{_≡_, refl}
 use mathlib.Core.List.{List, [], _∷_, _++_}
 use mathlib.Core.Option.{Option, none, some}
 use lib.ListN.{length, take, drop}
-use Rattle.laws.specs.Answers.{isGiven}
+use Rattle.laws.specs.Answers.{refused, refuses, answer, isGiven}
 use Rattle.laws.specs.Chop.{chop, chopFrom}
 use Rattle.laws.specs.Keys.{eqK}
 use Rattle.laws.specs.Keyed.{run, after}
 use Rattle.laws.specs.Count.{count, nub, mem}
 use Rattle.laws.specs.Numbers.{le16, le32, le64, be32, be64}
-use Rattle.items.specs.Items.{Span, item, spanList}
+use Rattle.items.specs.Items.{Span, item, spanItem, spanList}
 use Rattle.mdr.specs.Frame.{judged as judgedFrame, unpackOf, unpacksOf}
 use Rattle.mdr.specs.Sum.{checksumOf}
 use Rattle.btsnoop.specs.Header.{isBtsnoop, datalink, isDatalink}
@@ -23,7 +23,7 @@ use Rattle.rfcomm.specs.Frames.{isSabm, isUih, shortLength, infoLength, infoSta
 use Rattle.rfcomm.specs.Pieces.{uihKind, frameKind, kindOf, judged, counted, pieceOf, brought, pieces}
 use Rattle.spans.specs.Scan.{seek, spansN, restN, spansOf, restOf, capped}
 use Rattle.spans.specs.Spans.{spans, unfinished, onDlci}
-use Rattle.outcome.specs.Import.{Tail, strict, tolerant, onChannel, first, hasFrame, chosen, Found, found, missing, listed, filePieces, read, endsWell, outcome, given, fits, workSuffices, imported}
+use Rattle.outcome.specs.Import.{Tail, strict, tolerant, onChannel, first, hasFrame, chosen, Found, found, missing, listed, filePieces, read, endsWell, outcome, given, fits, workSuffices, placesSuffice, imported, importedIn}
 
 abbrev pub sample : List ℕ
 sample =
@@ -42,3 +42,20 @@ pub example :
     (outcome (take 61 sample) none tolerant ≡ missing 6 [])
 unfolding outcome isBtsnoop datalink isDatalink endsWell read tailOffset records recordsIn chop chopFrom isWhole recordSize be32 be64 le16 eqK filePieces packets packetOf milliseconds fragment hciPacket monitorPacket pdus run after joined isComplete stillOpen pduOf completed commandSize isCommand commands body signalOf signalsIn pduSignals signals any names named asksFor admits admittedAfter admitted isTried asksRfcomm asksSession isSabm isUih shortLength infoLength infoStart creditOf frameOf uihKind frameKind kindOf judged counted pieceOf brought pieces seek spansN restN spansOf restOf capped spans unfinished onDlci count nub mem onChannel first hasFrame chosen listed unpacksOf unpackOf judgedFrame isGiven checksumOf
 example = (refl, refl, refl)
+
+-- the header of another datalink, 1000
+abbrev other : List ℕ
+other = take 14 sample ++ (0x03 ∷ 0xE8 ∷ [])
+
+-- 2: work, or places for stretches; 3; 4; 5; 6: no record, or another channel; 7
+pub refusals :
+    (imported sample 495 none strict ≡ refuses 2 []) ×
+    (importedIn sample 496 1 none strict ≡ refuses 2 []) ×
+    (imported (take 15 sample) 120 none strict ≡ refuses 3 []) ×
+    (imported other 128 none strict ≡ refuses 4 (1000 ∷ [])) ×
+    (imported (take 61 sample) 488 none strict ≡ refuses 5 (16 ∷ [])) ×
+    (imported (take 16 sample) 128 none strict ≡ refuses 6 []) ×
+    (imported sample 496 (some 8) strict ≡ refuses 6 []) ×
+    (answer (imported sample 496 (some 9) strict) 22 ≡ refused 7 (23 ∷ []))
+unfolding outcome isBtsnoop datalink isDatalink endsWell read tailOffset records recordsIn chop chopFrom isWhole recordSize be32 be64 le16 eqK filePieces packets packetOf milliseconds fragment hciPacket monitorPacket pdus run after joined isComplete stillOpen pduOf completed commandSize isCommand commands body signalOf signalsIn pduSignals signals any names named asksFor admits admittedAfter admitted isTried asksRfcomm asksSession isSabm isUih shortLength infoLength infoStart creditOf frameOf uihKind frameKind kindOf judged counted pieceOf brought pieces seek spansN restN spansOf restOf capped spans unfinished onDlci count nub mem onChannel first hasFrame chosen listed unpacksOf unpackOf judgedFrame isGiven checksumOf imported importedIn fits workSuffices placesSuffice given answer item spanItem spanList le32 le64
+refusals = (refl, refl, refl, refl, refl, refl, refl, refl)
