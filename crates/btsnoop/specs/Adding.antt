@@ -16,8 +16,10 @@ use Rattle.words.specs.Words.{word, putWord, long, putLong}
 use Rattle.words.specs.Front.{Front, front-word, front-less}
 use Rattle.words.specs.Rows.{putWords, length-puts, front-puts, word-puts, long-puts}
 use Rattle.btsnoop.specs.Header.{datalink}
+use Rattle.container.specs.Container as container
 use Rattle.btsnoop.specs.Records.{recordsIn, records, tailOffset}
-use Rattle.btsnoop.specs.Packets.{Packet, milliseconds, packetOf, orNone, packets}
+use Rattle.container.specs.Packets.{Packet, orNone, packets}
+use Rattle.btsnoop.specs.Packets.{milliseconds, packetOf}
 use Rattle.btsnoop.specs.PacketTable.{packetAt, packetsFrom, dataOf, Fits, Tabled, Read}
 use Rattle.btsnoop.specs.Parts.{be64-part}
 use Rattle.btsnoop.specs.Walk.{RecordAt, NextIs, NextOf, next-as, flat-step}
@@ -169,7 +171,7 @@ pub record Walking (f w₀ w : List ℕ) (at count : ℕ) : Type 0 where
   pub tail : at + length (flat (recordsIn (drop at f))) ≡ tailOffset f
 
 pub walk-start : (f w : List ℕ) → ReadPre f w → Walking f w w 16 0
-unfolding packetsFrom dataOf records tailOffset
+unfolding packetsFrom dataOf container.records container.tailOffset
 walk-start f w p = record { least = omega arith; within = p .some; size = refl; fits = record { fits = λ i h. absurd (omega arith) }; total = omega arith; same = refl; tail = refl }
 
 orNone-append : (o : Option Packet) (xs : List Packet) → orNone o [] ++ xs ≡ orNone o xs

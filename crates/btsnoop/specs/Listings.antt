@@ -13,6 +13,7 @@ use Rattle.laws.specs.Lists.{flat}
 use Rattle.laws.specs.Answers.{accepted, refused}
 use Rattle.btsnoop.specs.Header.{datalink}
 use Rattle.btsnoop.specs.Headers.{headerOf, no-header, other-link, known-link}
+use Rattle.container.specs.Container as container
 use Rattle.btsnoop.specs.Records.{recordSize, isWhole, recordsIn, records, tailOffset, records-eq}
 use Rattle.btsnoop.specs.Walk.{RecordAt, flat-step}
 use Rattle.btsnoop.specs.Reader.{stepOf, isRecord, record-told, none-told, whole-fits, whole-list}
@@ -41,7 +42,7 @@ pub record Listing (f d₀ d : List ℕ) (at count : ℕ) : Type 0 where
   pub done : sets d count (startsFrom at (recordsIn (drop at f))) ≡ sets d₀ 0 (startsFrom 16 (records f))
 
 pub listing-start : (f d : List ℕ) → Listing f d d 16 0
-unfolding records tailOffset
+unfolding container.records container.tailOffset
 listing-start f d = record { least = omega arith; most = omega arith; long = refl; number = omega arith; tail = refl; done = refl }
 
 module _ (f d₀ d : List ℕ) (at count : ℕ) (l : Listing f d₀ d at count) (x : Step) (h : x ≡ stepOf f at) where
@@ -135,7 +136,7 @@ stands-from f at (r ∷ rs) e zero h = split-whole f at r rs e .0
 stands-from f at (r ∷ rs) e (suc i) h = stands-from f (at + length r) rs (split-whole f at r rs e .1) i (omega arith)
 
 pub record-stands : (f : List ℕ) (i : ℕ) → i < length (records f) → take (length (getD (records f) i [])) (drop (getD (startsFrom 16 (records f)) i 0) f) ≡ getD (records f) i []
-unfolding records
+unfolding container.records
 record-stands f i h = stands-from f 16 (records f) refl i h
 
 -- as many starts as records

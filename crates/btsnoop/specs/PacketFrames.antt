@@ -10,7 +10,7 @@ use Rattle.laws.specs.Choice.{split≤}
 use Rattle.laws.specs.Lists.{All, all-nil, all-cons}
 use Rattle.words.specs.Words.{word, long}
 use Rattle.words.specs.Front.{Front, front-word}
-use Rattle.btsnoop.specs.Packets.{Packet}
+use Rattle.container.specs.Packets.{Packet}
 use Rattle.btsnoop.specs.PacketTable.{packetAt, packetsFrom, dataOf, Tabled}
 
 pub front-long : (n : ℕ) (u w : List ℕ) (j : ℕ) → 4 * j + 8 ≤ n → Front n u w → long u j ≡ long w j

@@ -7,7 +7,8 @@ use lib.Dec.{eqb}
 use Rattle.words.specs.Words.{word, long}
 use Rattle.btsnoop.specs.Header.{datalink}
 use Rattle.btsnoop.specs.Records.{records}
-use Rattle.btsnoop.specs.Packets.{Packet, packetOf, packets}
+use Rattle.container.specs.Packets.{Packet, packets}
+use Rattle.btsnoop.specs.Packets.{packetOf}
 
 unfoldable pub packetAt : List ℕ → List ℕ → ℕ → Packet
 packetAt f w i = record {

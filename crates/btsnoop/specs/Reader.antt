@@ -12,6 +12,7 @@ use denote.Ref.{RefT, now}
 use Rattle.laws.specs.Choice.{splitB, split≤, no-way}
 use Rattle.laws.specs.Lists.{flat}
 use Rattle.laws.specs.Numbers.{be32}
+use Rattle.container.specs.Container as container
 use Rattle.btsnoop.specs.Records.{recordSize, isWhole, recordsIn, records, tailOffset, records-eq}
 use Rattle.btsnoop.specs.Reading.{between}
 use Rattle.btsnoop.specs.Walk.{RecordAt, NextIs, next-as, flat-step}
@@ -51,7 +52,7 @@ unfolding recordSize
 size-least b = omega arith
 
 none-left : recordsIn [] ≡ []
-unfolding isWhole recordSize be32
+unfolding container.isWhole recordSize be32
 none-left = records-eq []
 
 -- ---- one step, from what next_record promises
@@ -81,7 +82,7 @@ module _ (f : List ℕ) (at : ℕ) where
       absurd (omega arith))
 
   pub whole-fits : isWhole (drop at f) ≡ true → recordSize (drop at f) ≤ length (drop at f)
-  unfolding isWhole
+  unfolding container.isWhole
   whole-fits q = leb-true (recordSize (drop at f)) (length (drop at f)) q
 
   pub whole-list : isWhole (drop at f) ≡ true → recordsIn (drop at f) ≡ take (recordSize (drop at f)) (drop at f) ∷ recordsIn (drop (recordSize (drop at f)) (drop at f))
@@ -179,7 +180,7 @@ pub record WalksAll (f : List ℕ) (rs : List (List ℕ)) (z : Reader) (s : Step
 
 -- every walk gives the file's records and ends at the tail offset
 pub walks-all : (f : RefT (List ℕ)) (r z : Reader) (rs : List (List ℕ)) (s : Step) → Starts f r → Walk r rs z s → WalksAll (now f) rs z s
-unfolding records tailOffset
+unfolding container.records container.tailOffset
 walks-all f r z rs s b w =
     let a : WalkIs (now f) 16 rs z s = rw (b .file, b .at) at (walk-is w) in
     record {

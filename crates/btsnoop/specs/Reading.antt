@@ -14,7 +14,8 @@ use Rattle.laws.specs.Numbers.{le16, be32}
 use Rattle.words.specs.Fields.{fieldOf, field-value, field-none}
 use Rattle.words.specs.declared.Field.{Field}
 use Rattle.words.specs.declared.Field.the-variants.{Value, Missing}
-use Rattle.btsnoop.specs.Packets.{Packet, milliseconds, fragment, hciPacket, monitorPacket, packetOf}
+use Rattle.container.specs.Packets.{Packet, fragment, h4Packet}
+use Rattle.btsnoop.specs.Packets.{milliseconds, hciPacket, monitorPacket, packetOf}
 use Rattle.btsnoop.specs.Parts.{byte-part, be32-part, drop-part, part-part}
 use Rattle.btsnoop.specs.declared.Fragment.{Fragment}
 use Rattle.btsnoop.specs.declared.Acl.{Acl}
@@ -48,7 +49,7 @@ pub record AclIs (f : List ℕ) (lo end rx : ℕ) (r : Acl) : Type 0 where
   pub held : Held lo end r
 
 pub record H4Is (f : List ℕ) (lo end rx : ℕ) (r : Acl) : Type 0 where
-  pub shows : (time : ℕ) → cond (eqb (getD (between f lo end) 0 0) 2) (fragment rx time (drop 1 (between f lo end))) none ≡ shown f time r
+  pub shows : (time : ℕ) → h4Packet rx time (between f lo end) ≡ shown f time r
   pub held : Held lo end r
 
 pub record MonitorIs (f : List ℕ) (lo end flags : ℕ) (r : Acl) : Type 0 where
@@ -113,11 +114,11 @@ module _ (f : List ℕ) (lo end rx : ℕ) (pre : AclPre f lo end rx) where
   h4-first h = let z : lo + 0 ≡ lo = omega arith in byte-part f lo (end - lo) 0 (omega arith) ∙ rw z
 
   pub h4-none : end ≤ lo → H4Is f lo end rx Skipped
-  unfolding shown
+  unfolding shown h4Packet
   h4-none h = let z : end - lo ≡ 0 = omega arith in record { shows = λ time. rw z; held = tt }
 
   pub h4-other : lo < end → (getD f lo 0 ≡ 2 → ⊥) → H4Is f lo end rx Skipped
-  unfolding shown
+  unfolding shown h4Packet
   h4-other h n = record { shows = λ time. rw (h4-first h, ne-eqb (getD f lo 0) 2 n); held = tt }
 
   pub h4-pre : lo < end → AclPre f (lo + 1) end rx
@@ -128,6 +129,7 @@ module _ (f : List ℕ) (lo end rx : ℕ) (pre : AclPre f lo end rx) where
   later Skipped h = tt
 
   pub h4-acl : lo < end → getD f lo 0 ≡ 2 → (r : Acl) → AclIs f (lo + 1) end rx r → H4Is f lo end rx r
+  unfolding h4Packet
   h4-acl h e r a =
       let z : end - lo - 1 ≡ end - (lo + 1) = omega arith in
       record { shows = λ time. rw (h4-first h, eq-eqb (getD f lo 0) 2 e, drop-part f lo (end - lo) 1 (omega arith), z) (a .shows time); held = later r (a .held) }

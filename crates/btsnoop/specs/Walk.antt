@@ -11,6 +11,7 @@ use borrow.Author.Tests.{le-leb, lt-leb}
 use Rattle.laws.specs.Choice.{split≤}
 use Rattle.laws.specs.Lists.{flat}
 use Rattle.laws.specs.Numbers.{be32}
+use Rattle.container.specs.Container as container
 use Rattle.btsnoop.specs.Records.{recordSize, isWhole, recordsIn, records-eq}
 use Rattle.btsnoop.specs.declared.Next.{Next}
 use Rattle.btsnoop.specs.declared.Next.the-variants.{Record, End}
@@ -45,16 +46,16 @@ size-least b = omega arith
 
 module _ (f : List ℕ) (at : ℕ) (h : at ≤ length f) where
   pub next-short : length f - at < 24 → NextIs f at End
-  unfolding isWhole
+  unfolding container.isWhole
   next-short s = record { next = rw (records-eq (drop at f), lt-leb (recordSize (drop at f)) (length (drop at f)) (simp length-drop (omega (arith, size-least (drop at f))))) }
 
   module _ (m n : ℕ) (e : m ≡ be32 f (at + 4)) (q : n ≡ m) (s : 24 ≤ length f - at) where
     pub next-long : length f - at - 24 < n → NextIs f at End
-    unfolding isWhole
+    unfolding container.isWhole
     next-long g = record { next = rw (records-eq (drop at f), size-drop f at n (q ∙ e), lt-leb (24 + n) (length (drop at f)) (simp length-drop (omega arith))) }
 
     pub next-whole : n ≤ length f - at - 24 → NextIs f at (Record (at + 24 + n))
-    unfolding isWhole
+    unfolding container.isWhole
     next-whole g =
         let z : at + 24 + n - at ≡ 24 + n = omega arith in
         let y : at + (24 + n) ≡ at + 24 + n = omega arith in

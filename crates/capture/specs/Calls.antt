@@ -12,19 +12,21 @@ use Rattle.laws.specs.Choice.{splitB, split≡, no-way}
 use Rattle.laws.specs.Answers.{Answer, accepted, refused, Outcome, refuses, Meets, meets-refused, meets-as}
 use Rattle.btsnoop.specs.Header.{isBtsnoop, datalink, isDatalink}
 use Rattle.btsnoop.specs.Headers.{headerOf, begins-long, no-header, other-link, known-link}
-use Rattle.btsnoop.specs.Records.{tailOffset}
+use Rattle.btsnoop.specs.Records.{btsnoop, tailOffset}
+use Rattle.btsnoop.proofs.Laws.{lawful}
 use Rattle.btsnoop.specs.PacketTable.{Read}
 use Rattle.btsnoop.specs.Adding.{ReadPre, ReadTo}
 use Rattle.btsnoop.specs.declared.Header.{Header}
 use Rattle.btsnoop.specs.declared.Header.the-variants.{Datalink as Known, NotBtsnoop as NoHeader, Other}
 use Rattle.btsnoop.specs.declared.Packets.{Packets}
+use Rattle.channels.specs.Tried.{source}
 use Rattle.rfcomm.specs.Pieces.{Piece}
 use Rattle.streams.specs.Streams.{channelOf, tablePieces, Tabled, tabled, told, ListsSpans}
 use Rattle.streams.specs.declared.Channel.{Channel}
 use Rattle.streams.specs.declared.Listed.{Listed}
 use Rattle.streams.specs.declared.Listed.the-variants.{NoStream as NoneListed, OutShort as ListShort, Spans as SpansListed}
 use Rattle.streams.specs.declared.Stream.{Stream}
-use Rattle.outcome.specs.Import.{strict, tolerant, chosen, listed, filePieces, read, endsWell, missing, outcome, given, fits, workSuffices, imported}
+use Rattle.outcome.specs.Import.{strict, tolerant, Options, bySource, chosen, listed, filePieces, read, endsWell, missing, outcome, given, fits, workSuffices, imported}
 use Rattle.outcome.specs.Import as import
 use Rattle.cut.specs.Claim.{CutClaim}
 use Rattle.cut.specs.Theorem.{cut-claim}
@@ -45,10 +47,14 @@ toldImported (Truncated offset) = refused 5 (offset ∷ [])
 toldImported NoStream = refused 6 []
 toldImported (OutShort needed) = refused 7 (needed ∷ [])
 
--- the rule that the code's case stands for
-abbrev pub ruleOf : Tail → import.Tail
-ruleOf Strict = strict
-ruleOf Tolerant = tolerant
+-- the tail rule that the code's case stands for
+abbrev pub tailOf : Tail → import.Tail
+tailOf Strict = strict
+tailOf Tolerant = tolerant
+
+-- the options that a call of the code stands for
+abbrev pub optionsOf : Channel → Tail → Options
+optionsOf channel tail = bySource (channelOf channel) (tailOf tail)
 
 abbrev pub toldAs : ℕ → Listed → Answer
 toldAs tail l = told tail l
@@ -73,16 +79,17 @@ pub record PiecesPre (f w : List ℕ) (p : Packets) : Type 0 where
   pub tail : p .tail ≡ tailOffset f
 
 pub record PiecesMeet (f : List ℕ) (channel : Channel) (out : List ℕ) (r : Imported) (out′ : List ℕ) : Type 0 where
-  pub meets : Meets (given (read f (channelOf channel))) out (toldImported r) out′
+  -- by either tail rule
+  pub meets : (tail : Tail) → Meets (given (read btsnoop f (optionsOf channel tail))) out (toldImported r) out′
 
 pub pieces-tabled : (f w u : List ℕ) (n : ℕ) → Gathered f w u n → Tabled f u n
-pieces-tabled f w u n g = tabled f u n (filePieces f) (g .pieced)
+pieces-tabled f w u n g = tabled f u n (filePieces btsnoop source f) (g .pieced)
 
 pub pieces-meet : (f w : List ℕ) (p : Packets) → PiecesPre f w p → (u : List ℕ) (n : ℕ) → Gathered f w u n → (channel : Channel) (out : List ℕ) (l : Listed) (v out′ : List ℕ) → ListsSpans f u n channel out l v out′ → (r : Imported) → toldImported r ≡ toldAs (p .tail) l → PiecesMeet f channel out r out′
 unfolding read
 pieces-meet f w p pre u n g channel out l v out′ s r e =
-    let z : tablePieces f u n ≡ filePieces f = g .pieced .list in
-    record { meets = rw (e, ← pre .tail) (rw z at (s .meets (p .tail))) }
+    let z : tablePieces f u n ≡ filePieces btsnoop source f = g .pieced .list in
+    record { meets = λ tail. rw (e, ← pre .tail) (rw z at (s .meets (p .tail))) }
 
 -- ---- from the records on
 
@@ -99,12 +106,12 @@ unfolding truncates
 truncates-not t at end e = rw e
 
 unfoldable pub readOutcome : List ℕ → Channel → Tail → Outcome
-readOutcome f channel tail = given (cond (endsWell (ruleOf tail) f) (read f (channelOf channel)) (missing 5 (tailOffset f ∷ [])))
+readOutcome f channel tail = given (cond (endsWell btsnoop (tailOf tail) f) (read btsnoop f (optionsOf channel tail)) (missing 5 (tailOffset f ∷ [])))
 
 pub record ReadMeets (f : List ℕ) (channel : Channel) (tail : Tail) (out : List ℕ) (r : Imported) (out′ : List ℕ) : Type 0 where
   pub meets : Meets (readOutcome f channel tail) out (toldImported r) out′
 
-truncates-is : (f : List ℕ) (tail : Tail) (at : ℕ) → at ≡ tailOffset f → truncates tail at (length f) ≡ not (endsWell (ruleOf tail) f)
+truncates-is : (f : List ℕ) (tail : Tail) (at : ℕ) → at ≡ tailOffset f → truncates tail at (length f) ≡ not (endsWell btsnoop (tailOf tail) f)
 unfolding truncates endsWell
 truncates-is f Strict at e = rw e
 truncates-is f Tolerant at e = refl
@@ -124,14 +131,14 @@ module _ (f w : List ℕ) (p : Packets) (rt : ReadTo f w p) (channel : Channel) 
   pub read-truncated : t ≡ true → (out : List ℕ) → ReadMeets f channel tail out (Truncated (p .tail)) out
   unfolding readOutcome given
   read-truncated q out =
-      let z : endsWell (ruleOf tail) f ≡ false = not-not (endsWell (ruleOf tail) f) (sym (truncates-is f tail (p .tail) (rt .tail)) ∙ sym et ∙ q) in
+      let z : endsWell btsnoop (tailOf tail) f ≡ false = not-not (endsWell btsnoop (tailOf tail) f) (sym (truncates-is f tail (p .tail) (rt .tail)) ∙ sym et ∙ q) in
       record { meets = rw (rt .tail) (meets-refused (readOutcome f channel tail) out 5 (tailOffset f ∷ []) (rw z)) }
 
   pub read-whole : t ≡ false → (out : List ℕ) (r : Imported) (out′ : List ℕ) → PiecesMeet f channel out r out′ → ReadMeets f channel tail out r out′
   unfolding readOutcome
   read-whole q out r out′ m =
-      let z : endsWell (ruleOf tail) f ≡ true = not-true (endsWell (ruleOf tail) f) (sym (truncates-is f tail (p .tail) (rt .tail)) ∙ sym et ∙ q) in
-      record { meets = meets-as (readOutcome f channel tail) (given (read f (channelOf channel))) out (rw z) (m .meets) }
+      let z : endsWell btsnoop (tailOf tail) f ≡ true = not-true (endsWell btsnoop (tailOf tail) f) (sym (truncates-is f tail (p .tail) (rt .tail)) ∙ sym et ∙ q) in
+      record { meets = meets-as (readOutcome f channel tail) (given (read btsnoop f (optionsOf channel tail))) out (rw z) (m .meets tail) }
 
 -- ---- from the header on
 
@@ -140,48 +147,48 @@ pub record Sized (f w : List ℕ) : Type 0 where
   pub room : 8 * length f ≤ length w
 
 pub record HeadMeets (f : List ℕ) (channel : Channel) (tail : Tail) (out : List ℕ) (r : Imported) (out′ : List ℕ) : Type 0 where
-  pub meets : Meets (given (outcome f (channelOf channel) (ruleOf tail))) out (toldImported r) out′
+  pub meets : Meets (given (outcome btsnoop f (optionsOf channel tail))) out (toldImported r) out′
 
 module _ (f w : List ℕ) (size : Sized f w) (h : Header) (eh : h ≡ headerOf f) (channel : Channel) (tail : Tail) (out : List ℕ) where
   pub head-none : h ≡ NoHeader → HeadMeets f channel tail out NotBtsnoop out
   unfolding outcome given
-  head-none q = record { meets = meets-refused (given (outcome f (channelOf channel) (ruleOf tail))) out 3 [] (rw (no-header f (sym eh ∙ q))) }
+  head-none q = record { meets = meets-refused (given (outcome btsnoop f (optionsOf channel tail))) out 3 [] (rw (no-header f (sym eh ∙ q))) }
 
   pub head-other : (n : ℕ) → h ≡ Other n → HeadMeets f channel tail out (Datalink n) out
   unfolding outcome given
   head-other n q =
       let o = other-link f n (sym eh ∙ q) in
-      record { meets = rw (o .2) (meets-refused (given (outcome f (channelOf channel) (ruleOf tail))) out 4 (datalink f ∷ []) (rw (o .0, o .1))) }
+      record { meets = rw (o .2) (meets-refused (given (outcome btsnoop f (optionsOf channel tail))) out 4 (datalink f ∷ []) (rw (o .0, o .1))) }
 
   pub head-pre : (n : ℕ) → h ≡ Known n → ReadPre f w
   head-pre n q = record { some = begins-long f (known-link f n (sym eh ∙ q) .0); small = size .small; room = size .room }
 
   pub head-read : (n : ℕ) → h ≡ Known n → (r : Imported) (out′ : List ℕ) → ReadMeets f channel tail out r out′ → HeadMeets f channel tail out r out′
-  unfolding outcome readOutcome
+  unfolding outcome readOutcome read
   head-read n q r out′ m =
       let k = known-link f n (sym eh ∙ q) in
-      record { meets = meets-as (given (outcome f (channelOf channel) (ruleOf tail))) (readOutcome f channel tail) out (rw (k .0, k .1)) (m .meets) }
+      record { meets = meets-as (given (outcome btsnoop f (optionsOf channel tail))) (readOutcome f channel tail) out (rw (k .0, k .1)) (m .meets) }
 
 -- ---- the call
 
 -- Answer and output by the definition; work is unchanged after 1 and 2; and whoever stops an honest recording, at whichever byte after its header,
 -- cannot make a tolerant import lose, alter, invent or reorder a frame.
 pub record Imports (f w : List ℕ) (channel : Channel) (tail : Tail) (out : List ℕ) (r : Imported) (w′ out′ : List ℕ) : Type 0 where
-  pub meets : Meets (imported f (length w) (channelOf channel) (ruleOf tail)) out (toldImported r) out′
+  pub meets : Meets (imported btsnoop f (length w) (optionsOf channel tail)) out (toldImported r) out′
   pub spared : (fits f && workSuffices f (length w)) ≡ false → w′ ≡ w
-  pub cut : CutClaim f (length w) (channelOf channel) (ruleOf tail) out (toldImported r) out′
+  pub cut : CutClaim btsnoop f (length w) (optionsOf channel tail) out (toldImported r) out′
 
-imports-by : (f w : List ℕ) (channel : Channel) (tail : Tail) (out : List ℕ) (r : Imported) (w′ out′ : List ℕ) → Meets (imported f (length w) (channelOf channel) (ruleOf tail)) out (toldImported r) out′ → ((fits f && workSuffices f (length w)) ≡ false → w′ ≡ w) → Imports f w channel tail out r w′ out′
-imports-by f w channel tail out r w′ out′ m s = record { meets = m; spared = s; cut = cut-claim f (length w) (channelOf channel) (ruleOf tail) out (toldImported r) out′ m }
+imports-by : (f w : List ℕ) (channel : Channel) (tail : Tail) (out : List ℕ) (r : Imported) (w′ out′ : List ℕ) → Meets (imported btsnoop f (length w) (optionsOf channel tail)) out (toldImported r) out′ → ((fits f && workSuffices f (length w)) ≡ false → w′ ≡ w) → Imports f w channel tail out r w′ out′
+imports-by f w channel tail out r w′ out′ m s = record { meets = m; spared = s; cut = cut-claim lawful f (length w) (optionsOf channel tail) out (toldImported r) out′ m }
 
 module _ (f w : List ℕ) (channel : Channel) (tail : Tail) (out : List ℕ) where
   pub import-long : 1048576 < length f → Imports f w channel tail out FileLong w out
   unfolding imported fits
-  import-long h = imports-by f w channel tail out FileLong w out (meets-refused (imported f (length w) (channelOf channel) (ruleOf tail)) out 1 [] (rw (lt-leb (length f) 1048576 h))) (λ e. refl)
+  import-long h = imports-by f w channel tail out FileLong w out (meets-refused (imported btsnoop f (length w) (optionsOf channel tail)) out 1 [] (rw (lt-leb (length f) 1048576 h))) (λ e. refl)
 
   pub import-short : length f ≤ 1048576 → length w < 8 * length f → Imports f w channel tail out WorkShort w out
   unfolding imported fits workSuffices
-  import-short h g = imports-by f w channel tail out WorkShort w out (meets-refused (imported f (length w) (channelOf channel) (ruleOf tail)) out 2 [] (rw (le-leb (length f) 1048576 h, lt-leb (8 * length f) (length w) g))) (λ e. refl)
+  import-short h g = imports-by f w channel tail out WorkShort w out (meets-refused (imported btsnoop f (length w) (optionsOf channel tail)) out 2 [] (rw (le-leb (length f) 1048576 h, lt-leb (8 * length f) (length w) g))) (λ e. refl)
 
   pub import-size : length f ≤ 1048576 → 8 * length f ≤ length w → Sized f w
   import-size h g = record { small = h; room = g }
@@ -190,5 +197,5 @@ module _ (f w : List ℕ) (channel : Channel) (tail : Tail) (out : List ℕ) whe
   unfolding imported fits workSuffices
   import-meets h g r w′ out′ m =
       imports-by f w channel tail out r w′ out′
-      (meets-as (imported f (length w) (channelOf channel) (ruleOf tail)) (given (outcome f (channelOf channel) (ruleOf tail))) out (rw (le-leb (length f) 1048576 h, le-leb (8 * length f) (length w) g)) (m .meets))
+      (meets-as (imported btsnoop f (length w) (optionsOf channel tail)) (given (outcome btsnoop f (optionsOf channel tail))) out (rw (le-leb (length f) 1048576 h, le-leb (8 * length f) (length w) g)) (m .meets))
       (λ e. no-way (rw (le-leb (length f) 1048576 h, le-leb (8 * length f) (length w) g)) e)

@@ -1,5 +1,11 @@
 pub mod Signals
 pub mod Channels
+pub mod Core
+pub mod Tried
+pub mod CoreLaws
+pub mod CoreReplay
+pub mod CoreNamed
+pub mod CoreExamples
 pub mod ChannelTable
 pub mod Reading
 pub mod Noting

@@ -15,21 +15,25 @@ use Rattle.mdr.specs.Frame.{headOf, summedOf, bodyOf, packed, judged as judgedF
 use Rattle.mdr.specs.Escape.{within}
 use Rattle.mdr.specs.Sum.{checksumOf}
 use Rattle.btsnoop.specs.Header.{isBtsnoop, datalink, isDatalink}
-use Rattle.btsnoop.specs.Records.{recordSize, isWhole, recordsIn, records, tailOffset}
-use Rattle.btsnoop.specs.Packets.{milliseconds, fragment, hciPacket, monitorPacket, packetOf, packets}
+use Rattle.btsnoop.specs.Records.{recordSize}
+use Rattle.btsnoop.proofs.Laws.{lawful}
+use Rattle.container.specs.Container.{Container, isWhole, recordsIn, records, tailOffset, packetsIn}
+use Rattle.container.specs.Packets.{fragment, h4Packet, packets}
+use Rattle.btsnoop.specs.Packets.{milliseconds, hciPacket, monitorPacket, packetOf}
 use Rattle.l2cap.specs.Pdus.{joined, isComplete, stillOpen, pduOf, completed, pdus}
 use Rattle.channels.specs.Signals.{commandSize, isCommand, commands, body, signalOf, signalsIn, pduSignals, signals}
 use Rattle.channels.specs.Channels.{any, names, named, asksFor, admits, admittedAfter, admitted, isTried, asksRfcomm, asksSession}
+use Rattle.channels.specs.Tried.{ChannelRule, source, triedBy}
 use Rattle.rfcomm.specs.Frames.{isSabm, isUih, shortLength, infoLength, infoStart, creditOf, frameOf}
-use Rattle.rfcomm.specs.Pieces.{uihKind, frameKind, kindOf, judged, counted, pieceOf, brought, pieces}
+use Rattle.rfcomm.specs.Pieces.{uihKind, frameKind, kindBy, judgedFrom, judgedBy, counted, pieceOf, brought, pieces}
 use Rattle.spans.specs.Scan.{seek, spansN, restN, spansOf, restOf, capped}
 use Rattle.spans.specs.Spans.{spans, unfinished, onDlci}
 use Rattle.outcome.specs.Import.{Found, found, missing, tolerant, onChannel, first, hasFrame, chosen, listed, filePieces, read, endsWell, outcome}
 use Rattle.outcome.specs.Examples.{sample}
 use Rattle.cut.specs.Recording.{Recording, file, cut}
 use Rattle.cut.specs.Left.{leftFrom, recordsLeft, tailLeft, sent, dataOf, dataLeft, closedIn, ofHandle, framesLeft, midFrame, endsMid, midIn, midLeft}
-use Rattle.cut.specs.Honest.{pdusIn, kindIn, markedPdus, isDataOf, afterData, adds, carriesOn, Honest}
-use Rattle.cut.proofs.Tests.{every, ends, headerTest, wholeTest, smallTest, dlciTest, dynamicTest, channelTest, channelsTest, informationTest, sizesTest, beginningsTest, settledIn, settledTest, aloneIn, aloneTest, handlesTest, dataTest, markTest, fragmentsTest, rules, passed-all, honest}
+use Rattle.cut.specs.Honest.{pdusIn, markedPdus, withMarks, judgedIn, isDataOf, toData, afterData, adds, carriesOn, Honest}
+use Rattle.cut.proofs.Tests.{packedChecked, every, once, ends, headerTest, wholeTest, smallTest, dlciTest, dynamicTest, channelTest, channelsTest, informationTest, sizesTest, beginningsTest, settledIn, settledTest, aloneIn, aloneTest, handlesTest, dataTest, markTest, fragmentsTest, rules, passed-all, honest}
 use Rattle.cut.proofs.Recordings.{unended, example, busy, badHeader, notWhole, sameHandles, lowCid, namedChannel, admittedLate, falseMark, noStart, between, early, otherFrames, noBeginning, newLink, newSession, otherData, otherDlci, onlyCut}
 
 -- ---- honest
@@ -38,14 +42,18 @@ pub example-file : file example ≡ sample
 unfolding file
 example-file = refl
 
-abbrev tested : Recording → List Bool
-tested R = rules (λ l t. unended) R
+-- the rules of honesty by a channel rule, tested
+abbrev pub testedBy : {C : Container} → ChannelRule → Recording C → List Bool
+testedBy rule R = rules rule packedChecked (λ l t. unended) R
+
+abbrev tested : {C : Container} → Recording C → List Bool
+tested R = testedBy source R
 
 pub data Rule : Type 0 where
   header whole small handles dlci dynamic channels fragments information sizes beginnings settled alone : Rule
 
 -- its place among the tests
-abbrev place : Rule → ℕ
+abbrev pub place : Rule → ℕ
 place header = 0
 place whole = 1
 place small = 2
@@ -61,7 +69,7 @@ place settled = 11
 place alone = 12
 
 -- all are passed but one
-abbrev but : Rule → List Bool
+abbrev pub but : Rule → List Bool
 but r = failed passed-all (place r) where
   failed : List Bool → ℕ → List Bool
   failed [] i = []
@@ -73,59 +81,63 @@ pub all-tested :
     (tested example ≡ passed-all) × (tested busy ≡ passed-all) × (tested badHeader ≡ but header) × (tested notWhole ≡ but whole) × (tested sameHandles ≡ but handles) × (tested lowCid ≡ but dynamic) ×
     (tested namedChannel ≡ but channels) × (tested admittedLate ≡ but channels) × (tested falseMark ≡ but fragments) × (tested noStart ≡ but fragments) × (tested between ≡ but fragments) × (tested early ≡ but fragments) × (tested otherFrames ≡ but information) × (tested noBeginning ≡ but beginnings) ×
     (tested newLink ≡ but settled) × (tested newSession ≡ but settled) × (tested otherData ≡ but alone) × (tested otherDlci ≡ but alone) × (tested onlyCut ≡ but alone)
-unfolding rules every ends headerTest wholeTest smallTest dlciTest dynamicTest channelTest channelsTest informationTest sizesTest beginningsTest settledIn settledTest aloneIn aloneTest handlesTest dataTest markTest fragmentsTest leftFrom recordsLeft sent dataOf dataLeft pdusIn kindIn markedPdus isDataOf afterData adds carriesOn file isBtsnoop datalink isDatalink eqK recordSize be32 be64 le16 packets packetOf milliseconds fragment hciPacket monitorPacket pdus run after of joined isComplete stillOpen pduOf completed commandSize isCommand commands chop chopFrom body signalOf signalsIn pduSignals signals any names named asksFor admits admittedAfter admitted isTried asksRfcomm asksSession isSabm isUih shortLength infoLength infoStart creditOf frameOf uihKind frameKind kindOf rxOf packed bodyOf summedOf headOf checksumOf within
+unfolding rules every once ends headerTest wholeTest smallTest dlciTest dynamicTest channelTest channelsTest informationTest sizesTest beginningsTest settledIn settledTest aloneIn aloneTest handlesTest dataTest markTest fragmentsTest leftFrom recordsLeft sent dataOf dataLeft pdusIn markedPdus withMarks judgedIn isDataOf toData afterData adds carriesOn file isBtsnoop datalink isDatalink eqK recordSize be32 be64 le16 packetsIn packets packetOf milliseconds fragment h4Packet hciPacket monitorPacket pdus run after of joined isComplete stillOpen pduOf completed commandSize isCommand commands chop chopFrom body signalOf signalsIn pduSignals signals any names named asksFor admits admittedAfter admitted isTried asksRfcomm asksSession isSabm isUih shortLength infoLength infoStart creditOf frameOf uihKind frameKind kindBy triedBy judgedFrom judgedBy rxOf packed bodyOf summedOf headOf checksumOf within
 all-tested = (refl, refl, refl, refl, refl, refl, refl, refl, refl, refl, refl, refl, refl, refl, refl, refl, refl, refl, refl)
 
 -- so the claim is not empty
-pub example-honest : Honest example
-example-honest = honest (λ l t. unended) example (all-tested .0)
+pub example-honest : Honest source example
+example-honest = honest lawful source packedChecked (λ l t. unended) example (all-tested .0)
 
-pub busy-honest : Honest busy
-busy-honest = honest (λ l t. unended) busy (all-tested .1)
+pub busy-honest : Honest source busy
+busy-honest = honest lawful source packedChecked (λ l t. unended) busy (all-tested .1)
 
 -- ---- cuts
 
-abbrev foundAt : Recording → ℕ → Found
-foundAt R n = outcome (cut R n) (some (R .d / 2)) tolerant
+-- what tolerant import of a cut finds by a channel rule
+abbrev pub foundBy : {C : Container} → ChannelRule → Recording C → ℕ → Found
+foundBy {C} rule R n = outcome C (cut R n) (record { channel = some (R .d / 2); tail = tolerant; rule = rule })
 
 -- what is left at n, in the form of what import finds
-abbrev leftAt : Recording → ℕ → Found
+abbrev pub leftAt : {C : Container} → Recording C → ℕ → Found
 leftAt R n = ofFrames (framesLeft R n) where
   ofFrames : List Span → Found
   ofFrames [] = missing 6 []
   ofFrames (s ∷ ss) = found (R .d) (s ∷ ss) (midLeft R n) (tailLeft R n)
 
-abbrev w₀ : List ℕ
+abbrev pub w₀ : List ℕ
 w₀ = 0x3E ∷ 0x01 ∷ 0x00 ∷ 0x00 ∷ 0x00 ∷ 0x00 ∷ 0x00 ∷ 0x01 ∷ 0x3C ∷ []
 
-abbrev w₁ : List ℕ
+abbrev pub w₁ : List ℕ
 w₁ = 0x3E ∷ 0x0C ∷ 0x00 ∷ 0x00 ∷ 0x00 ∷ 0x00 ∷ 0x02 ∷ 0x3D ∷ 0x2C ∷ 0x10 ∷ 0x5A ∷ 0x3C ∷ []
 
-abbrev w₂ : List ℕ
+abbrev pub w₂ : List ℕ
 w₂ = 0x3E ∷ 0x01 ∷ 0x01 ∷ 0x00 ∷ 0x00 ∷ 0x00 ∷ 0x00 ∷ 0x02 ∷ 0x3C ∷ []
 
-abbrev w₃ : List ℕ
+abbrev pub w₃ : List ℕ
 w₃ = 0x3E ∷ 0x0E ∷ 0x00 ∷ 0x00 ∷ 0x00 ∷ 0x00 ∷ 0x02 ∷ 0x02 ∷ 0x3D ∷ 0x2E ∷ 0x50 ∷ 0x3C ∷ []
 
 -- whole; less one byte; within a free record; a fragment short of two frames; before the first frame is closed; nothing but the header
 abbrev cuts : List ℕ
 cuts = 628 ∷ 627 ∷ 400 ∷ 385 ∷ 336 ∷ 16 ∷ []
 
-abbrev four : List Span
+abbrev pub four : List Span
 four = span 1 7 w₃ ∷ span 1 7 w₂ ∷ span 1 8 w₁ ∷ span 1 8 w₂ ∷ []
 
 abbrev answers : List Found
 answers =
     found 18 (four ++ (span 0 10 w₀ ∷ [])) 2 628 ∷ found 18 (four ++ (span 0 10 w₀ ∷ [])) 1 587 ∷ found 18 four 0 386 ∷ found 18 (span 1 7 w₃ ∷ span 1 7 w₂ ∷ []) 0 337 ∷ missing 6 [] ∷ missing 6 [] ∷ []
 
--- import finds the first, the second is left
-abbrev Differ : Recording → ℕ → Found → Found → Type 0
-Differ R n x y = (foundAt R n ≡ x) × (leftAt R n ≡ y)
+-- import by the rule finds the first, the second is left
+abbrev pub DifferBy : {C : Container} → ChannelRule → Recording C → ℕ → Found → Found → Type 0
+DifferBy rule R n x y = (foundBy rule R n ≡ x) × (leftAt R n ≡ y)
+
+abbrev Differ : {C : Container} → Recording C → ℕ → Found → Found → Type 0
+Differ R n x y = DifferBy source R n x y
 
 pub all-cuts :
     -- honest: import finds what is left
     Differ example 62 (found 18 (span 1 0 w₀ ∷ []) 0 62) (found 18 (span 1 0 w₀ ∷ []) 0 62) × Differ example 61 (missing 6 []) (missing 6 []) ×
-    (map (foundAt busy) cuts ≡ answers) × (map (leftAt busy) cuts ≡ answers) ×
+    (map (foundBy source busy) cuts ≡ answers) × (map (leftAt busy) cuts ≡ answers) ×
     -- a rule is broken: it does not
     Differ badHeader 62 (missing 3 []) (found 18 (span 1 5 w₀ ∷ []) 0 62) ×
     Differ notWhole 88 (missing 6 []) (found 18 (span 1 5 w₀ ∷ []) 0 88) ×
@@ -144,5 +156,5 @@ pub all-cuts :
     Differ otherData 108 (found 18 (span 1 5 w₀ ∷ span 1 6 w₂ ∷ []) 0 108) (found 18 (span 1 5 w₀ ∷ []) 0 108) ×
     Differ otherDlci 108 (found 19 (span 1 4 w₂ ∷ []) 0 108) (found 18 (span 1 5 w₀ ∷ []) 0 108) ×
     Differ onlyCut 108 (found 18 (span 1 5 w₀ ∷ span 1 6 w₂ ∷ []) 0 108) (found 18 (span 1 5 w₀ ∷ []) 0 108)
-unfolding cut file tailLeft ofHandle closedIn framesLeft midFrame endsMid midIn midLeft leftFrom recordsLeft sent dataOf dataLeft outcome isBtsnoop datalink isDatalink endsWell read tailOffset records recordsIn chop chopFrom isWhole recordSize be32 be64 le16 eqK filePieces packets packetOf milliseconds fragment hciPacket monitorPacket pdus run after of joined isComplete stillOpen pduOf completed commandSize isCommand commands body signalOf signalsIn pduSignals signals any names named asksFor admits admittedAfter admitted isTried asksRfcomm asksSession isSabm isUih shortLength infoLength infoStart creditOf frameOf uihKind frameKind kindOf judged counted pieceOf brought pieces seek spansN restN spansOf restOf capped spans unfinished onDlci count nub mem onChannel first hasFrame chosen listed unpacksOf unpackOf judgedFrame isGiven within checksumOf packed bodyOf summedOf headOf rxOf
+unfolding cut file tailLeft ofHandle closedIn framesLeft midFrame endsMid midIn midLeft leftFrom recordsLeft sent dataOf dataLeft outcome isBtsnoop datalink isDatalink endsWell read tailOffset records recordsIn chop chopFrom isWhole recordSize be32 be64 le16 eqK filePieces packetsIn packets packetOf milliseconds fragment h4Packet hciPacket monitorPacket pdus run after of joined isComplete stillOpen pduOf completed commandSize isCommand commands body signalOf signalsIn pduSignals signals any names named asksFor admits admittedAfter admitted isTried asksRfcomm asksSession isSabm isUih shortLength infoLength infoStart creditOf frameOf uihKind frameKind kindBy triedBy judgedFrom judgedBy counted pieceOf brought pieces seek spansN restN spansOf restOf capped spans unfinished onDlci count nub mem onChannel first hasFrame chosen listed unpacksOf unpackOf judgedFrame isGiven within checksumOf packed bodyOf summedOf headOf rxOf
 all-cuts = ((refl, refl), (refl, refl), refl, refl, (refl, refl), (refl, refl), (refl, refl), (refl, refl), (refl, refl), (refl, refl), (refl, refl), (refl, refl), (refl, refl), (refl, refl), (refl, refl), (refl, refl), (refl, refl), (refl, refl), (refl, refl), (refl, refl), (refl, refl))

@@ -4,3 +4,10 @@ pub mod Made
 pub mod Recordings
 pub mod Computed
 pub mod Needed
+pub mod Whole
+pub mod Bare
+pub mod ByValue
+pub mod CoreRecordings
+pub mod CoreComputed
+pub mod CoreTies
+pub mod CoreClosed

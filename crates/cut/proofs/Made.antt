@@ -36,12 +36,21 @@ uihOn e i = (4 * e + 1) ∷ 0xEF ∷ (2 * length i + 1) ∷ (i ++ (0 ∷ []))
 abbrev pub sabmOn : ℕ → List ℕ
 sabmOn e = (4 * e + 1) ∷ 0x3F ∷ 1 ∷ 0 ∷ []
 
--- signalling: a request (PSM, source), a response (destination, source, result)
+-- signalling, by an identifier: a request (PSM, source), a response (destination, source, result); an end (destination, source)
+abbrev pub requestBy : ℕ → ℕ → ℕ → List ℕ
+requestBy id psm source = 0x02 ∷ id ∷ 4 ∷ 0 ∷ (le 2 psm ++ le 2 source)
+
+abbrev pub responseBy : ℕ → ℕ → ℕ → ℕ → List ℕ
+responseBy id dest source result = 0x03 ∷ id ∷ 8 ∷ 0 ∷ (le 2 dest ++ (le 2 source ++ (le 2 result ++ le 2 0)))
+
+abbrev pub endOf : ℕ → ℕ → List ℕ
+endOf dest source = 0x07 ∷ 9 ∷ 4 ∷ 0 ∷ (le 2 dest ++ le 2 source)
+
 abbrev pub requestOf : ℕ → ℕ → List ℕ
-requestOf psm source = 0x02 ∷ 1 ∷ 4 ∷ 0 ∷ (le 2 psm ++ le 2 source)
+requestOf psm source = requestBy 1 psm source
 
 abbrev pub responseOf : ℕ → ℕ → ℕ → List ℕ
-responseOf dest source result = 0x03 ∷ 1 ∷ 8 ∷ 0 ∷ (le 2 dest ++ (le 2 source ++ (le 2 result ++ le 2 0)))
+responseOf dest source result = responseBy 1 dest source result
 
 -- ---- records
 

@@ -3,7 +3,6 @@ use Prim.Native.Nat.{ℕ, suc, _≤_, _<_}
 use mathlib.Core.Path.{_≡_, refl, _∙_}
 use mathlib.Core.Logic.{_≢_}
 use mathlib.Core.List.{List, [], _∷_, _++_, append-assoc}
-use mathlib.Core.Option.{Option}
 use native.Mathlib.Omega.{arith}
 use lib.ListN.{length, take, drop, take-append-drop}
 use lib.Seq.{length-take-le}
@@ -12,12 +11,13 @@ use Rattle.laws.specs.Lists.{All, all-nil, all-cons}
 use Rattle.laws.specs.Answers.{refuses}
 use Rattle.laws.specs.Keys.{Key, eq-eqK}
 use Rattle.laws.specs.Keyed.{run}
+use Rattle.container.specs.Container.{Container}
 use Rattle.items.specs.Items.{Span}
 use Rattle.mdr.specs.Escaping.{Quiet, all-append}
 use Rattle.spans.specs.Scan.{spansOf, restOf, capped}
 use Rattle.spans.specs.Bytewise.{feed, emit, held, emitted, spans-is, rest-is}
 use Rattle.spans.specs.Spans.{spans}
-use Rattle.outcome.specs.Import.{Tail, fits, imported}
+use Rattle.outcome.specs.Import.{Options, fits, imported}
 use Rattle.cut.specs.Recording.{Recording, file, cut}
 use Rattle.cut.specs.Parts.{all-map, all-take, all-drop}
 use Rattle.cut.specs.Wires.{NoEnd, inside-held, inside-emitted}
@@ -25,14 +25,14 @@ use Rattle.cut.specs.Theorem.{outcomeLeft}
 
 -- ---- small
 
-pub too-large : (R : Recording) (n work : ℕ) (channel : Option ℕ) (tail : Tail) → 1048576 < n → n ≤ length (file R) → imported (cut R n) work channel tail ≡ refuses 1 []
+pub too-large : {C : Container} (R : Recording C) (n work : ℕ) (o : Options) → 1048576 < n → n ≤ length (file R) → imported C (cut R n) work o ≡ refuses 1 []
 unfolding imported fits cut
-too-large R n work channel tail h g =
+too-large R n work o h g =
     let l : length (take n (file R)) ≡ n = length-take-le n (file R) g in
     rw (l, lt-leb n 1048576 h)
 
 -- and nothing is left as refusal 1
-pub not-left : (R : Recording) (n : ℕ) (ss : List Span) → outcomeLeft R n ss ≢ refuses 1 []
+pub not-left : {C : Container} (R : Recording C) (n : ℕ) (ss : List Span) → outcomeLeft R n ss ≢ refuses 1 []
 unfolding outcomeLeft
 not-left R n [] e = let z : _≡_ {A = ℕ} 6 1 = cc in omega arith
 not-left R n (s ∷ ss) e = let z : _≡_ {A = ℕ} 0 1 = cc in omega arith

@@ -1,33 +1,36 @@
 -- The rules of honesty as tests that compute: a recording that passes all of them is honest.
-use Prim.Native.Nat.{ℕ, _+_, _≤_, _<_}
+use Prim.Native.Nat.{ℕ, _+_, _-_, _≤_, _<_}
 use mathlib.Core.Path.{_≡_, refl}
 use mathlib.Core.Logic.{_≢_}
-use mathlib.Core.Bool.{Bool, true, false, not, _&&_, _||_}
-use mathlib.Core.List.{List, [], _∷_, _++_, map, List·Memᴰ, List·Memᴰ·head, List·Memᴰ·tail}
+use mathlib.Core.Bool.{Bool, true, false, not, cond, _&&_, _||_}
+use mathlib.Core.List.{List, [], _∷_, _++_, map, List·Memᴰ, List·Memᴰ·head, List·Memᴰ·tail, append-assoc}
 use mathlib.Core.Option.{Option, none, some}
 use native.Mathlib.Omega.{arith}
-use lib.ListN.{length, take}
+use lib.ListN.{length, take, drop-of-length-le}
 use lib.Dec.{leb, ltb, eqb}
 use borrow.Author.Tests.{leb-true, ltb-true, eqb-true, eqb-false, eq-eqb, ne-eqb, le-leb, lt-leb, not-true}
 use Rattle.laws.specs.Choice.{splitB, no-way, split≤}
 use Rattle.laws.specs.Lists.{flat, All, all-nil, all-cons}
 use Rattle.laws.specs.Numbers.{le16}
 use Rattle.laws.specs.Keys.{Key, eqK, eqK-true}
-use Rattle.laws.specs.Keyed.{put, of, step}
+use Rattle.laws.specs.Keyed.{put, of}
 use Rattle.items.specs.declared.Direction.{Direction}
 use Rattle.items.specs.declared.Direction.the-variants.{Rx, Tx}
 use Rattle.items.specs.Items.{rxOf}
-use Rattle.btsnoop.specs.Header.{isBtsnoop, datalink, isDatalink}
-use Rattle.btsnoop.specs.Records.{recordSize}
-use Rattle.btsnoop.specs.Packets.{Packet}
+use Rattle.mdr.specs.Frame.{unpacksOf}
+use Rattle.container.specs.Container.{Container, Lawful}
+use Rattle.container.specs.Packets.{Packet}
 use Rattle.l2cap.specs.Pdus.{Pdu, isComplete, pduOf, packetKey}
 use Rattle.channels.specs.Signals.{triple, signals}
-use Rattle.channels.specs.Channels.{any, named, admitted}
+use Rattle.channels.specs.Channels.{any, named, admitted, channelOf}
+use Rattle.channels.specs.Core.{holds}
+use Rattle.channels.specs.Tried.{ChannelRule, source, core}
 use Rattle.rfcomm.specs.Frames.{frameOf}
-use Rattle.rfcomm.specs.Pieces.{Kind, asks, opens, carries, passed, frameKind}
-use Rattle.cut.specs.Recording.{Frame, wire, Link, Mark, free, part, last, Record, Recording, file}
+use Rattle.rfcomm.specs.Pieces.{Kind, asks, opens, carries, passed, frameKind, Judged, judgedBy}
+use Rattle.cut.specs.Recording.{wire, Framing, packedFrames, LinkOf, Mark, free, part, last, Record, RecordingOf, file}
 use Rattle.cut.specs.Left.{leftFrom, recordsLeft, Sent, sentIn, Data, dataKey, linkKey, informationOf, dataOf, dataLeft, directionOf, wires}
-use Rattle.cut.specs.Honest.{pdusIn, kindIn, MarkedPdu, marking, nothingOpen, markedPdus, isDataOf, afterData, adds, carriesOn, Joins, first, further, DataPdu, Fragments, stop, other, more, end, Different, no-more, one-more, Channel, before, unnamed, Beginning, Honest}
+use Rattle.cut.specs.Honest.{pdusIn, MarkedPdu, pdusOf, nothingOpen, markedPdus, JudgedPdu, withMarks, judgedIn, isDataOf, toData, afterData, adds, carriesOn, Joins, first, further, DataPdu, Fragments, stop, other, more, end, Different, no-more, one-more, Channel, before, unnamed, Open, held, unheard, Channels, by-source, by-core, Beginning, Honest}
+use Rattle.cut.specs.Plain.{Passes, plainWires}
 use Rattle.cut.specs.Kept.{WholeRecord, whole-some, left-none}
 
 -- ---- tests of lists
@@ -57,6 +60,11 @@ any-one f (x ∷ xs) e g =
     (λ q. g x (List·Memᴰ·head refl) q)
     (λ q. any-one f xs (rw q at e) (λ y m. g y (List·Memᴰ·tail m)))
 
+-- each number once
+unfoldable pub once : List ℕ → List ℕ
+once [] = []
+once (k ∷ ks) = cond (any (λ j. eqb j k) ks) (once ks) (k ∷ once ks)
+
 abbrev pub both : (Direction → Bool) → Bool
 both f = f Rx && f Tx
 
@@ -78,12 +86,36 @@ ends at (r ∷ rs) = at ∷ ends (at + length (r .bytes)) rs
 
 -- ---- the tests
 
-module _ (R : Recording) where
+-- a test of what a framing lets be sent
+pub record Checked (S : Framing) : Type 0 where
+  pub isFine : S .Form → Bool
+  pub fine : (f : S .Form) → isFine f ≡ true → S .Allowed f
+
+abbrev pub packedChecked : Checked packedFrames
+packedChecked = record { isFine = λ f. leb (length (wire f)) 65536; fine = λ f e. leb-true (length (wire f)) 65536 e }
+
+unfoldable pub isPlain : List ℕ → Bool
+isPlain w = unpacksOf w && (leb (length w) 65536 && every (λ b. not (eqb b 0x3C)) (take (length w - 1) w))
+
+pub plain-fine : (w : List ℕ) → isPlain w ≡ true → Passes w
+unfolding isPlain
+plain-fine w e =
+    let f = and-right (unpacksOf w) _ e in
+    record {
+      unpacks = and-left _ _ e;
+      size = leb-true (length w) 65536 (and-left _ _ f);
+      once = every-all (λ (b : ℕ). b ≢ 0x3C) (λ b. not (eqb b 0x3C)) (λ b z. eqb-false b 0x3C (not-true (eqb b 0x3C) z)) (take (length w - 1) w) (and-right (leb (length w) 65536) _ f);
+    }
+
+abbrev pub plainChecked : Checked plainWires
+plainChecked = record { isFine = isPlain; fine = plain-fine }
+
+module _ {C : Container} {S : Framing} (R : RecordingOf C S) where
   unfoldable pub headerTest : Bool
-  headerTest = eqb (length (R .header)) 16 && (isBtsnoop (R .header) && isDatalink (datalink (R .header)))
+  headerTest = eqb (length (R .header)) (C .head) && (C .isFile (R .header) && C .isTaken (C .linkType (R .header)))
 
   unfoldable pub wholeTest : Bool
-  wholeTest = every (λ r. eqb (recordSize (r .bytes)) (length (r .bytes))) (R .records)
+  wholeTest = every (λ r. eqb (C .size (R .header) (r .bytes)) (length (r .bytes))) (R .records)
 
   unfoldable pub smallTest : Bool
   smallTest = leb (length (file R)) 1048576
@@ -98,40 +130,53 @@ module _ (R : Recording) where
   isNil [] = true
   isNil (x ∷ xs) = false
 
-  unfoldable pub channelTest : Link → Direction → Bool
+  unfoldable pub channelTest : LinkOf S → Direction → Bool
   channelTest l t =
       not (named (signals (pdusIn R (R .records))) (triple (l .handle) (rxOf t) (l .cid t)))
-      || any (λ n. isNil (of dataKey (linkKey l t) (dataLeft R n)) && admitted (signals (pdusIn R (recordsLeft R n))) (triple (l .handle) (rxOf t) (l .cid t))) (ends 16 (R .records))
+      || any (λ n. isNil (of dataKey (linkKey l t) (dataLeft R n)) && admitted (signals (pdusIn R (recordsLeft R n))) (triple (l .handle) (rxOf t) (l .cid t))) (ends (C .head) (R .records))
 
-  unfoldable pub channelsTest : Bool
-  channelsTest = every (λ l. both (λ t. channelTest l t)) (R .links)
+  abbrev pub isLast : Mark → Bool
+  isLast free = false
+  isLast part = false
+  isLast (last i) = true
+
+  -- from the PDUs before on
+  unfoldable pub openTest : List Pdu → List MarkedPdu → Bool
+  openTest ps [] = true
+  openTest ps (q ∷ qs) =
+      implies (isLast (q .mark)) (holds (ps ++ (q .pdu ∷ [])) (channelOf (q .pdu)) || not (named (signals (pdusIn R (R .records))) (channelOf (q .pdu))))
+      && openTest (ps ++ (q .pdu ∷ [])) qs
+
+  unfoldable pub channelsTest : ChannelRule → Bool
+  channelsTest source = every (λ l. both (λ t. channelTest l t)) (R .links)
+  channelsTest core = openTest [] (markedPdus (sentIn R (R .records)))
 
   unfoldable pub informationTest : Bool
   informationTest = every (λ l. both (λ t. eqK (informationOf (linkKey l t) (dataOf (sentIn R (R .records)))) (flat (wires l t) ++ l .partial t))) (R .links)
 
-  unfoldable pub sizesTest : Bool
-  sizesTest = every (λ l. both (λ t. every (λ f. leb (length (wire f)) 65536) (l .frames t))) (R .links)
+  unfoldable pub sizesTest : Checked S → Bool
+  sizesTest k = every (λ l. both (λ t. every (k .isFine) (l .frames t))) (R .links)
 
   -- a partial frame is the beginning of the frame told
-  unfoldable pub beginningsTest : (Link → Direction → Frame) → Bool
-  beginningsTest told = every (λ l. both (λ t. leb (length (wire (told l t))) 65536 && (ltb (length (l .partial t)) (length (wire (told l t))) && eqK (l .partial t) (take (length (l .partial t)) (wire (told l t)))))) (R .links)
+  unfoldable pub beginningsTest : Checked S → (LinkOf S → Direction → S .Form) → Bool
+  beginningsTest k told = every (λ l. both (λ t. k .isFine (told l t) && (ltb (length (l .partial t)) (length (S .onWire (told l t))) && eqK (l .partial t) (take (length (l .partial t)) (S .onWire (told l t)))))) (R .links)
 
-  unfoldable pub settledIn : List Record → ℕ → Bool
-  settledIn rs h = every (λ q. implies (eqb (q .pdu .link) h) (not (adds (R .d) (kindIn R rs (q .pdu))))) (afterData h nothingOpen (sentIn R rs))
+  unfoldable pub settledIn : ChannelRule → List Record → ℕ → Bool
+  settledIn rule rs h = every (λ q. implies (eqb (q .pdu .link) h) (not (adds (R .d) (q .kind)))) (afterData rule R rs h)
 
-  unfoldable pub settledTest : Bool
-  settledTest = every (λ n. every (settledIn (recordsLeft R n)) (map (λ x. x .packet .link) (sentIn R (recordsLeft R n)))) (ends 16 (R .records))
+  unfoldable pub settledTest : ChannelRule → Bool
+  settledTest rule = every (λ n. every (settledIn rule (recordsLeft R n)) (once (map (λ x. x .packet .link) (sentIn R (recordsLeft R n))))) (ends (C .head) (R .records))
 
   abbrev pub isFree : Mark → Bool
   isFree free = true
   isFree part = false
   isFree (last i) = false
 
-  unfoldable pub aloneIn : List Record → Bool
-  aloneIn rs = every (λ q. implies (isFree (q .mark)) (not (carriesOn (R .d) (kindIn R rs (q .pdu))))) (markedPdus (sentIn R rs))
+  unfoldable pub aloneIn : ChannelRule → List Record → Bool
+  aloneIn rule rs = every (λ q. implies (isFree (q .mark)) (not (carriesOn (R .d) (q .kind)))) (judgedIn rule R rs)
 
-  unfoldable pub aloneTest : Bool
-  aloneTest = every (λ n. aloneIn (recordsLeft R n)) (ends 16 (R .records))
+  unfoldable pub aloneTest : ChannelRule → Bool
+  aloneTest rule = every (λ n. aloneIn rule (recordsLeft R n)) (ends (C .head) (R .records))
 
 unfoldable pub handlesTest : List ℕ → Bool
 handlesTest [] = true
@@ -157,13 +202,13 @@ carriesTest d i (opens e) = false
 carriesTest d i (carries e j) = eqb e d && eqK j i
 carriesTest d i passed = false
 
-unfoldable pub dataTest : Recording → Pdu → List ℕ → Bool
+unfoldable pub dataTest : {C : Container} {S : Framing} → RecordingOf C S → Pdu → List ℕ → Bool
 dataTest R p i =
     any (λ l. eqb (p .link) (l .handle) && (eqb (p .rx) (rxOf (directionOf (p .rx))) && eqb (p .cid) (l .cid (directionOf (p .rx))))) (R .links)
     && carriesTest (R .d) i (frameKind (frameOf (p .payload)))
 
 -- what a mark asks, from the bytes so far of the data PDU under way
-unfoldable pub markTest : Recording → Option (List ℕ) → Packet → Mark → Bool
+unfoldable pub markTest : {C : Container} {S : Framing} → RecordingOf C S → Option (List ℕ) → Packet → Mark → Bool
 markTest R s p free = isNone s
 markTest R s p part = joinsTest s p && not (isComplete (with s p))
 markTest R s p (last i) = joinsTest s p && (eqb (4 + le16 (with s p) 0) (length (with s p)) && dataTest R (pduOf (with s p) p) i)
@@ -174,76 +219,90 @@ under σ p free = σ
 under σ p part = put σ (packetKey p) (some (with (σ (packetKey p)) p))
 under σ p (last i) = put σ (packetKey p) none
 
-unfoldable pub fragmentsTest : Recording → (Key → Option (List ℕ)) → List Sent → Bool
+unfoldable pub fragmentsTest : {C : Container} {S : Framing} → RecordingOf C S → (Key → Option (List ℕ)) → List Sent → Bool
 fragmentsTest R σ [] = true
 fragmentsTest R σ (x ∷ xs) = markTest R (σ (packetKey (x .packet))) (x .packet) (x .mark) && fragmentsTest R (under σ (x .packet) (x .mark)) xs
 
 -- all of them, in the order of the rules
-unfoldable pub rules : (Link → Direction → Frame) → Recording → List Bool
-rules told R =
-    headerTest R ∷ wholeTest R ∷ smallTest R ∷ handlesTest (map (λ l. l .handle) (R .links)) ∷ dlciTest R ∷ dynamicTest R ∷ channelsTest R ∷ fragmentsTest R nothingOpen (sentIn R (R .records)) ∷
-    informationTest R ∷ sizesTest R ∷ beginningsTest R told ∷ settledTest R ∷ aloneTest R ∷ []
+unfoldable pub rules : {C : Container} {S : Framing} → ChannelRule → Checked S → (LinkOf S → Direction → S .Form) → RecordingOf C S → List Bool
+rules rule k told R =
+    headerTest R ∷ wholeTest R ∷ smallTest R ∷ handlesTest (map (λ l. l .handle) (R .links)) ∷ dlciTest R ∷ dynamicTest R ∷ channelsTest R rule ∷ fragmentsTest R nothingOpen (sentIn R (R .records)) ∷
+    informationTest R ∷ sizesTest R k ∷ beginningsTest R k told ∷ settledTest R rule ∷ aloneTest R rule ∷ []
 
 -- ---- a recording that passes is honest
 
-module _ (R : Recording) where
-  header-passed : headerTest R ≡ true → (length (R .header) ≡ 16) × (isBtsnoop (R .header) ≡ true) × (isDatalink (datalink (R .header)) ≡ true)
+module _ {C : Container} {S : Framing} (R : RecordingOf C S) where
+  header-passed : headerTest R ≡ true → (length (R .header) ≡ C .head) × (C .isFile (R .header) ≡ true) × (C .isTaken (C .linkType (R .header)) ≡ true)
   unfolding headerTest
   header-passed e =
-      let f = and-right (eqb (length (R .header)) 16) _ e in
-      (eqb-true (length (R .header)) 16 (and-left _ _ e), and-left (isBtsnoop (R .header)) _ f, and-right (isBtsnoop (R .header)) _ f)
+      let f = and-right (eqb (length (R .header)) (C .head)) _ e in
+      (eqb-true (length (R .header)) (C .head) (and-left _ _ e), and-left (C .isFile (R .header)) _ f, and-right (C .isFile (R .header)) _ f)
 
-  whole-passed : wholeTest R ≡ true → All WholeRecord (R .records)
+  whole-passed : wholeTest R ≡ true → All (WholeRecord C (R .header)) (R .records)
   unfolding wholeTest
-  whole-passed e = every-all WholeRecord _ (λ r q. eqb-true (recordSize (r .bytes)) (length (r .bytes)) q) (R .records) e
+  whole-passed e = every-all (WholeRecord C (R .header)) _ (λ r q. eqb-true (C .size (R .header) (r .bytes)) (length (r .bytes)) q) (R .records) e
 
-  dynamic-passed : dynamicTest R ≡ true → All (λ (l : Link). (t : Direction) → 0x40 ≤ l .cid t) (R .links)
+  dynamic-passed : dynamicTest R ≡ true → All (λ (l : LinkOf S). (t : Direction) → 0x40 ≤ l .cid t) (R .links)
   unfolding dynamicTest
-  dynamic-passed e = every-all (λ (l : Link). (t : Direction) → 0x40 ≤ l .cid t) _ (λ l q t. leb-true 0x40 (l .cid t) (both-at (λ t. leb 0x40 (l .cid t)) q t)) (R .links) e
+  dynamic-passed e = every-all (λ (l : LinkOf S). (t : Direction) → 0x40 ≤ l .cid t) _ (λ l q t. leb-true 0x40 (l .cid t) (both-at (λ t. leb 0x40 (l .cid t)) q t)) (R .links) e
 
   is-nil : (xs : List Data) → isNil R xs ≡ true → xs ≡ []
   is-nil [] e = refl
   is-nil (x ∷ xs) e = no-way e refl
 
-  channel-passed : (l : Link) (t : Direction) → channelTest R l t ≡ true → Channel R l t
+  channel-passed : (l : LinkOf S) (t : Direction) → channelTest R l t ≡ true → Channel R l t
   unfolding channelTest
   channel-passed l t e =
       splitB (named (signals (pdusIn R (R .records))) (triple (l .handle) (rxOf t) (l .cid t)))
-      (λ q. any-one _ (ends 16 (R .records)) (rw q at e) (λ n m z. before n (is-nil (of dataKey (linkKey l t) (dataLeft R n)) (and-left _ _ z)) (and-right (isNil R (of dataKey (linkKey l t) (dataLeft R n))) _ z)))
+      (λ q. any-one _ (ends (C .head) (R .records)) (rw q at e) (λ n m z. before n (is-nil (of dataKey (linkKey l t) (dataLeft R n)) (and-left _ _ z)) (and-right (isNil R (of dataKey (linkKey l t) (dataLeft R n))) _ z)))
       (λ q. unnamed q)
 
-  channels-passed : channelsTest R ≡ true → All (λ (l : Link). (t : Direction) → Channel R l t) (R .links)
-  unfolding channelsTest
-  channels-passed e = every-all (λ (l : Link). (t : Direction) → Channel R l t) _ (λ l q t. channel-passed l t (both-at (channelTest R l) q t)) (R .links) e
+  open-passed : (upTo : List Pdu) (p : Pdu) → holds upTo (channelOf p) || not (named (signals (pdusIn R (R .records))) (channelOf p)) ≡ true → Open R upTo p
+  open-passed upTo p e =
+      splitB (holds upTo (channelOf p))
+      (λ q. held q)
+      (λ q. unheard (not-true (named (signals (pdusIn R (R .records))) (channelOf p)) (rw q at e)))
 
-  information-passed : informationTest R ≡ true → All (λ (l : Link). (t : Direction) → informationOf (linkKey l t) (dataOf (sentIn R (R .records))) ≡ flat (wires l t) ++ l .partial t) (R .links)
+  all-open : (ps : List Pdu) (a : List MarkedPdu) (p : Pdu) (i : List ℕ) (b : List MarkedPdu) → openTest R ps (a ++ record { pdu = p; mark = last i } ∷ b) ≡ true → Open R (ps ++ (pdusOf a ++ (p ∷ []))) p
+  unfolding openTest
+  all-open ps [] p i b e = open-passed (ps ++ (p ∷ [])) p (and-left _ _ e)
+  all-open ps (q ∷ a) p i b e =
+      rw (append-assoc ps (q .pdu ∷ []) (pdusOf a ++ (p ∷ []))) at
+      (all-open (ps ++ (q .pdu ∷ [])) a p i b (and-right (implies (isLast R (q .mark)) (holds (ps ++ (q .pdu ∷ [])) (channelOf (q .pdu)) || not (named (signals (pdusIn R (R .records))) (channelOf (q .pdu))))) _ e))
+
+  channels-passed : (rule : ChannelRule) → channelsTest R rule ≡ true → Channels R rule
+  unfolding channelsTest
+  channels-passed source e = by-source (every-all (λ (l : LinkOf S). (t : Direction) → Channel R l t) _ (λ l q t. channel-passed l t (both-at (channelTest R l) q t)) (R .links) e)
+  channels-passed core e = by-core (λ a p i b q. all-open [] a p i b (rw q at e))
+
+  information-passed : informationTest R ≡ true → All (λ (l : LinkOf S). (t : Direction) → informationOf (linkKey l t) (dataOf (sentIn R (R .records))) ≡ flat (wires l t) ++ l .partial t) (R .links)
   unfolding informationTest
   information-passed e =
-      every-all (λ (l : Link). (t : Direction) → informationOf (linkKey l t) (dataOf (sentIn R (R .records))) ≡ flat (wires l t) ++ l .partial t) _
+      every-all (λ (l : LinkOf S). (t : Direction) → informationOf (linkKey l t) (dataOf (sentIn R (R .records))) ≡ flat (wires l t) ++ l .partial t) _
       (λ l q t. eqK-true (informationOf (linkKey l t) (dataOf (sentIn R (R .records)))) (flat (wires l t) ++ l .partial t) (both-at (λ t. eqK (informationOf (linkKey l t) (dataOf (sentIn R (R .records)))) (flat (wires l t) ++ l .partial t)) q t)) (R .links) e
 
-  sizes-passed : sizesTest R ≡ true → All (λ (l : Link). (t : Direction) → All (λ (f : Frame). length (wire f) ≤ 65536) (l .frames t)) (R .links)
+  sizes-passed : (k : Checked S) → sizesTest R k ≡ true → All (λ (l : LinkOf S). (t : Direction) → All (S .Allowed) (l .frames t)) (R .links)
   unfolding sizesTest
-  sizes-passed e =
-      every-all (λ (l : Link). (t : Direction) → All (λ (f : Frame). length (wire f) ≤ 65536) (l .frames t)) _
-      (λ l q t. every-all (λ (f : Frame). length (wire f) ≤ 65536) _ (λ f z. leb-true (length (wire f)) 65536 z) (l .frames t) (both-at (λ t. every (λ f. leb (length (wire f)) 65536) (l .frames t)) q t)) (R .links) e
+  sizes-passed k e =
+      every-all (λ (l : LinkOf S). (t : Direction) → All (S .Allowed) (l .frames t)) _
+      (λ l q t. every-all (S .Allowed) _ (k .fine) (l .frames t) (both-at (λ t. every (k .isFine) (l .frames t)) q t)) (R .links) e
 
-  beginnings-passed : (told : Link → Direction → Frame) → beginningsTest R told ≡ true → All (λ (l : Link). (t : Direction) → Beginning (l .partial t)) (R .links)
+  beginnings-passed : (k : Checked S) (told : LinkOf S → Direction → S .Form) → beginningsTest R k told ≡ true → All (λ (l : LinkOf S). (t : Direction) → Beginning S (l .partial t)) (R .links)
   unfolding beginningsTest
-  beginnings-passed told e = every-all (λ (l : Link). (t : Direction) → Beginning (l .partial t)) _ (λ l q t. one l t (both-at (test l) q t)) (R .links) e
+  beginnings-passed k told e = every-all (λ (l : LinkOf S). (t : Direction) → Beginning S (l .partial t)) _ (λ l q t. one l t (both-at (test l) q t)) (R .links) e
     where
-      test : Link → Direction → Bool
-      test l t = leb (length (wire (told l t))) 65536 && (ltb (length (l .partial t)) (length (wire (told l t))) && eqK (l .partial t) (take (length (l .partial t)) (wire (told l t))))
+      test : LinkOf S → Direction → Bool
+      test l t = k .isFine (told l t) && (ltb (length (l .partial t)) (length (S .onWire (told l t))) && eqK (l .partial t) (take (length (l .partial t)) (S .onWire (told l t))))
 
-      one : (l : Link) (t : Direction) → test l t ≡ true → Beginning (l .partial t)
+      one : (l : LinkOf S) (t : Direction) → test l t ≡ true → Beginning S (l .partial t)
       one l t z =
-          let y = and-right (leb (length (wire (told l t))) 65536) _ z in
+          let y = and-right (k .isFine (told l t)) _ z in
           record {
             frame = told l t;
-            size = leb-true (length (wire (told l t))) 65536 (and-left _ _ z);
+            size = k .fine (told l t) (and-left _ _ z);
             count = length (l .partial t);
-            short = ltb-true (length (l .partial t)) (length (wire (told l t))) (and-left _ _ y);
-            is = eqK-true (l .partial t) (take (length (l .partial t)) (wire (told l t))) (and-right (ltb (length (l .partial t)) (length (wire (told l t)))) _ y);
+            short = ltb-true (length (l .partial t)) (length (S .onWire (told l t))) (and-left _ _ y);
+            is = eqK-true (l .partial t) (take (length (l .partial t)) (S .onWire (told l t))) (and-right (ltb (length (l .partial t)) (length (S .onWire (told l t)))) _ y);
           }
 
   -- ---- fragments
@@ -278,7 +337,7 @@ module _ (R : Recording) where
         uih = carries-passed (R .d) i (frameKind (frameOf (p .payload))) (and-right (any test (R .links)) _ e);
       })
     where
-      test : Link → Bool
+      test : LinkOf S → Bool
       test l = eqb (p .link) (l .handle) && (eqb (p .rx) (rxOf (directionOf (p .rx))) && eqb (p .cid) (l .cid (directionOf (p .rx))))
 
   mark-passed : (σ : Key → Option (List ℕ)) (p : Packet) (k : Mark) (xs : List Sent) → markTest R (σ (packetKey p)) p k ≡ true → Fragments R (under σ p k) xs → Fragments R σ (record { packet = p; mark = k } ∷ xs)
@@ -314,21 +373,21 @@ module _ (at : ℕ) (r : Record) (rs : List Record) (T : List Record → Type 0)
   with-first all-nil all-nil = all-nil
   with-first (all-cons {x = e} h hs) (all-cons p ps) = all-cons (rw (le-leb (at + length (r .bytes)) e h) at p) (with-first hs ps)
 
-every-cut : (T : List Record → Type 0) (at : ℕ) {rs : List Record} → All WholeRecord rs → All (λ (e : ℕ). T (leftFrom at e rs)) (ends at rs) → (n : ℕ) → T (leftFrom at n rs)
+every-cut : {C : Container} → Lawful C → (h : List ℕ) (T : List Record → Type 0) (at : ℕ) {rs : List Record} → All (WholeRecord C h) rs → All (λ (e : ℕ). T (leftFrom at e rs)) (ends at rs) → (n : ℕ) → T (leftFrom at n rs)
 unfolding leftFrom ends
-every-cut T at all-nil (all-cons p ps) n = p
-every-cut T at (all-cons {x = r} {xs = rs} w ws) (all-cons p ps) n =
-    let z : 0 < length (r .bytes) = whole-some r w in
+every-cut L g T at all-nil (all-cons p ps) n = p
+every-cut L g T at (all-cons {x = r} {xs = rs} w ws) (all-cons p ps) n =
+    let z : 0 < length (r .bytes) = whole-some L g r w in
     split≤ (at + length (r .bytes)) n
-    (λ h. rw (le-leb (at + length (r .bytes)) n h) (every-cut (λ (l : List Record). T (r ∷ l)) (at + length (r .bytes)) ws (with-first at r rs T (ends-past (at + length (r .bytes)) rs) ps) n))
+    (λ h. rw (le-leb (at + length (r .bytes)) n h) (every-cut L g (λ (l : List Record). T (r ∷ l)) (at + length (r .bytes)) ws (with-first at r rs T (ends-past (at + length (r .bytes)) rs) ps) n))
     (λ h. rw (lt-leb (at + length (r .bytes)) n h, left-none (at + length (r .bytes)) n rs h) (rw (lt-leb (at + length (r .bytes)) at (omega arith), left-none (at + length (r .bytes)) at rs (omega arith)) at p))
 
-module _ (R : Recording) where
+module _ (rule : ChannelRule) {C : Container} {S : Framing} (R : RecordingOf C S) where
   abbrev Settled : List Record → Type 0
-  Settled rs = (h : ℕ) → All (λ (q : MarkedPdu). q .pdu .link ≡ h → adds (R .d) (kindIn R rs (q .pdu)) ≡ false) (afterData h nothingOpen (sentIn R rs))
+  Settled rs = (h : ℕ) → All (λ (q : JudgedPdu). q .pdu .link ≡ h → adds (R .d) (q .kind) ≡ false) (afterData rule R rs h)
 
   abbrev Alone : List Record → Type 0
-  Alone rs = All (λ (q : MarkedPdu). q .mark ≡ free → carriesOn (R .d) (kindIn R rs (q .pdu)) ≡ false) (markedPdus (sentIn R rs))
+  Alone rs = All (λ (q : JudgedPdu). q .mark ≡ free → carriesOn (R .d) (q .kind) ≡ false) (judgedIn rule R rs)
 
   abbrev links : List Sent → List ℕ
   links xs = map (λ (x : Sent). x .packet .link) xs
@@ -339,51 +398,66 @@ module _ (R : Recording) where
   not-data h p part n = ne-eqb (p .link) h n
   not-data h p (last i) n = ne-eqb (p .link) h n
 
-  -- after the data of a handle that no packet has comes nothing
-  no-data : (h : ℕ) (m : Key → Option (List ℕ)) (xs : List Sent) → any (λ k. eqb k h) (links xs) ≡ false → afterData h m xs ≡ []
-  unfolding afterData any
-  no-data h m [] e = refl
-  no-data h m (x ∷ xs) e =
+  no-data : (h : ℕ) (xs : List Sent) → any (λ k. eqb k h) (links xs) ≡ false → toData h xs ≡ xs
+  unfolding toData any
+  no-data h [] e = refl
+  no-data h (x ∷ xs) e =
       splitB (eqb (x .packet .link) h)
       (λ q. no-way refl (rw q at e))
-      (λ q. rw (not-data h (x .packet) (x .mark) (eqb-false (x .packet .link) h q)) (no-data h (step marking m x) xs (rw q at e)))
+      (λ q. rw (not-data h (x .packet) (x .mark) (eqb-false (x .packet .link) h q), no-data h xs (rw q at e)))
 
-  settled-one : (rs : List Record) (h : ℕ) → settledIn R rs h ≡ true → All (λ (q : MarkedPdu). q .pdu .link ≡ h → adds (R .d) (kindIn R rs (q .pdu)) ≡ false) (afterData h nothingOpen (sentIn R rs))
+  marks-most : (js : List Judged) (qs : List MarkedPdu) → length (withMarks js qs) ≤ length qs
+  unfolding withMarks
+  marks-most [] qs = omega arith
+  marks-most (j ∷ js) [] = omega arith
+  marks-most (j ∷ js) (q ∷ qs) = omega (arith, marks-most js qs)
+
+  -- after the data of a handle that no packet has comes nothing
+  none-after : (rs : List Record) (h : ℕ) → any (λ k. eqb k h) (links (sentIn R rs)) ≡ false → afterData rule R rs h ≡ []
+  unfolding afterData judgedIn
+  none-after rs h e = rw (no-data h (sentIn R rs) e) (drop-of-length-le (withMarks (judgedBy rule (pdusIn R rs)) (markedPdus (sentIn R rs))) (marks-most (judgedBy rule (pdusIn R rs)) (markedPdus (sentIn R rs))))
+
+  settled-one : (rs : List Record) (h : ℕ) → settledIn R rule rs h ≡ true → All (λ (q : JudgedPdu). q .pdu .link ≡ h → adds (R .d) (q .kind) ≡ false) (afterData rule R rs h)
   unfolding settledIn
   settled-one rs h e =
-      every-all (λ (q : MarkedPdu). q .pdu .link ≡ h → adds (R .d) (kindIn R rs (q .pdu)) ≡ false) _
-      (λ q z w. not-true (adds (R .d) (kindIn R rs (q .pdu))) (implied (eqb (q .pdu .link) h) (not (adds (R .d) (kindIn R rs (q .pdu)))) z (eq-eqb (q .pdu .link) h w))) (afterData h nothingOpen (sentIn R rs)) e
+      every-all (λ (q : JudgedPdu). q .pdu .link ≡ h → adds (R .d) (q .kind) ≡ false) _
+      (λ q z w. not-true (adds (R .d) (q .kind)) (implied (eqb (q .pdu .link) h) (not (adds (R .d) (q .kind))) z (eq-eqb (q .pdu .link) h w))) (afterData rule R rs h) e
 
-  at-key : (f : ℕ → Bool) (h : ℕ) (ks : List ℕ) → every f ks ≡ true → any (λ k. eqb k h) ks ≡ true → f h ≡ true
-  unfolding every any
+  at-key : (f : ℕ → Bool) (h : ℕ) (ks : List ℕ) → every f (once ks) ≡ true → any (λ k. eqb k h) ks ≡ true → f h ≡ true
+  unfolding every any once
   at-key f h [] e m = no-way m refl
   at-key f h (k ∷ ks) e m =
+      splitB (any (λ j. eqb j k) ks)
+      (λ a. splitB (eqb k h)
+      (λ q. at-key f h ks (rw a at e) (rw (eqb-true k h q) at a))
+      (λ q. at-key f h ks (rw a at e) (rw q at m)))
+      (λ a. let w : f k && every f (once ks) ≡ true = rw a at e in
       splitB (eqb k h)
-      (λ q. rw (eqb-true k h q) at (and-left (f k) (every f ks) e))
-      (λ q. at-key f h ks (and-right (f k) (every f ks) e) (rw q at m))
+      (λ q. rw (eqb-true k h q) at (and-left (f k) (every f (once ks)) w))
+      (λ q. at-key f h ks (and-right (f k) (every f (once ks)) w) (rw q at m)))
 
-  settled-cut : (rs : List Record) → every (settledIn R rs) (links (sentIn R rs)) ≡ true → Settled rs
+  settled-cut : (rs : List Record) → every (settledIn R rule rs) (once (links (sentIn R rs))) ≡ true → Settled rs
   settled-cut rs e h =
       splitB (any (λ k. eqb k h) (links (sentIn R rs)))
-      (λ m. settled-one rs h (at-key (settledIn R rs) h (links (sentIn R rs)) e m))
-      (λ m. rw (no-data h nothingOpen (sentIn R rs) m) all-nil)
+      (λ m. settled-one rs h (at-key (settledIn R rule rs) h (links (sentIn R rs)) e m))
+      (λ m. rw (none-after rs h m) all-nil)
 
-  settled-passed : All WholeRecord (R .records) → settledTest R ≡ true → (n : ℕ) → Settled (recordsLeft R n)
+  settled-passed : Lawful C → All (WholeRecord C (R .header)) (R .records) → settledTest R rule ≡ true → (n : ℕ) → Settled (recordsLeft R n)
   unfolding settledTest recordsLeft
-  settled-passed w e n = every-cut Settled 16 w (every-all (λ (n : ℕ). Settled (leftFrom 16 n (R .records))) _ (λ n z. settled-cut (leftFrom 16 n (R .records)) z) (ends 16 (R .records)) e) n
+  settled-passed L w e n = every-cut L (R .header) Settled (C .head) w (every-all (λ (n : ℕ). Settled (leftFrom (C .head) n (R .records))) _ (λ n z. settled-cut (leftFrom (C .head) n (R .records)) z) (ends (C .head) (R .records)) e) n
 
   free-true : (k : Mark) → k ≡ free → isFree R k ≡ true
   free-true k e = rw e
 
-  alone-cut : (rs : List Record) → aloneIn R rs ≡ true → Alone rs
+  alone-cut : (rs : List Record) → aloneIn R rule rs ≡ true → Alone rs
   unfolding aloneIn
   alone-cut rs e =
-      every-all (λ (q : MarkedPdu). q .mark ≡ free → carriesOn (R .d) (kindIn R rs (q .pdu)) ≡ false) _
-      (λ q z w. not-true (carriesOn (R .d) (kindIn R rs (q .pdu))) (implied (isFree R (q .mark)) (not (carriesOn (R .d) (kindIn R rs (q .pdu)))) z (free-true (q .mark) w))) (markedPdus (sentIn R rs)) e
+      every-all (λ (q : JudgedPdu). q .mark ≡ free → carriesOn (R .d) (q .kind) ≡ false) _
+      (λ q z w. not-true (carriesOn (R .d) (q .kind)) (implied (isFree R (q .mark)) (not (carriesOn (R .d) (q .kind))) z (free-true (q .mark) w))) (judgedIn rule R rs) e
 
-  alone-passed : All WholeRecord (R .records) → aloneTest R ≡ true → (n : ℕ) → Alone (recordsLeft R n)
+  alone-passed : Lawful C → All (WholeRecord C (R .header)) (R .records) → aloneTest R rule ≡ true → (n : ℕ) → Alone (recordsLeft R n)
   unfolding aloneTest recordsLeft
-  alone-passed w e n = every-cut Alone 16 w (every-all (λ (n : ℕ). Alone (leftFrom 16 n (R .records))) _ (λ n z. alone-cut (leftFrom 16 n (R .records)) z) (ends 16 (R .records)) e) n
+  alone-passed L w e n = every-cut L (R .header) Alone (C .head) w (every-all (λ (n : ℕ). Alone (leftFrom (C .head) n (R .records))) _ (λ n z. alone-cut (leftFrom (C .head) n (R .records)) z) (ends (C .head) (R .records)) e) n
 
 different : (hs : List ℕ) → handlesTest hs ≡ true → Different hs
 unfolding handlesTest
@@ -397,10 +471,10 @@ different (h ∷ hs) e =
 abbrev pub passed-all : List Bool
 passed-all = true ∷ true ∷ true ∷ true ∷ true ∷ true ∷ true ∷ true ∷ true ∷ true ∷ true ∷ true ∷ true ∷ []
 
-pub honest : (told : Link → Direction → Frame) (R : Recording) → rules told R ≡ passed-all → Honest R
+pub honest : {C : Container} {S : Framing} → Lawful C → (rule : ChannelRule) (k : Checked S) (told : LinkOf S → Direction → S .Form) (R : RecordingOf C S) → rules rule k told R ≡ passed-all → Honest rule R
 unfolding rules smallTest dlciTest
-honest told R e =
-    let wholes : All WholeRecord (R .records) = whole-passed R (cc) in
+honest {C} L rule k told R e =
+    let wholes : All (WholeRecord C (R .header)) (R .records) = whole-passed R (cc) in
     let lo : leb 1 (R .d) && leb (R .d) 63 ≡ true = cc in
     record {
       header = header-passed R (cc);
@@ -409,11 +483,11 @@ honest told R e =
       handles = different (map (λ l. l .handle) (R .links)) (cc);
       dlci = (leb-true 1 (R .d) (and-left _ _ lo), leb-true (R .d) 63 (and-right (leb 1 (R .d)) _ lo));
       dynamic = dynamic-passed R (cc);
-      channels = channels-passed R (cc);
+      channels = channels-passed R rule (cc);
       fragments = fragments-passed R nothingOpen (sentIn R (R .records)) (cc);
       information = information-passed R (cc);
-      sizes = sizes-passed R (cc);
-      beginnings = beginnings-passed R told (cc);
-      settled = λ n h. settled-passed R wholes (cc) n h;
-      alone = λ n. alone-passed R wholes (cc) n;
+      sizes = sizes-passed R k (cc);
+      beginnings = beginnings-passed R k told (cc);
+      settled = λ n h. settled-passed rule R L wholes (cc) n h;
+      alone = λ n. alone-passed rule R L wholes (cc) n;
     }

@@ -17,8 +17,8 @@ use Rattle.laws.specs.Keyed.{of, run, after, step}
 use Rattle.items.specs.declared.Direction.{Direction}
 use Rattle.items.specs.declared.Direction.the-variants.{Rx, Tx}
 use Rattle.items.specs.Items.{rxOf}
-use Rattle.btsnoop.specs.Header.{datalink}
-use Rattle.btsnoop.specs.Packets.{Packet, packetOf, packets}
+use Rattle.container.specs.Container.{Container, Lawful}
+use Rattle.container.specs.Packets.{Packet, packets}
 use Rattle.l2cap.specs.Pdus.{Pdu, joined, isComplete, pduOf, completed, packetKey, reassembly, pdus}
 use Rattle.channels.specs.Signals.{Signal, request, response, commandSize, isCommand, commands, body, triple, opposite, signalOf, signalsIn, pduSignals, signals}
 use Rattle.channels.specs.Channels.{any, asksFor, named, admits, admittedAfter, admitted, channelOf, isTried}
@@ -27,7 +27,8 @@ use Rattle.cut.specs.Left.{leftFrom, recordsLeft, dataKey, linkKey, data
 use Rattle.cut.specs.Honest.{pdusIn, nothingOpen, Channel, before}
 use Rattle.cut.specs.Parts.{Front}
 use Rattle.cut.specs.Kept.{WholeRecord, whole-some, left-none, records-front, records-all}
-use Rattle.cut.specs.Growing.{named-front, admitted-front, pdus-front, tried-admitted, tried-unnamed}
+use Rattle.cut.specs.Traces.{pdus-front}
+use Rattle.cut.specs.Growing.{named-front, admitted-front, tried-admitted, tried-unnamed}
 
 -- ---- a PSM 3 request and its successful response
 
@@ -77,7 +78,7 @@ other Rx = Tx
 other Tx = Rx
 
 -- document 01's rule: in some cut a PSM 3 request for the link's CID in one direction and its successful response with the CID in the other are complete, and none of its data PDUs is
-pub record Asked (R : Recording) (l : Link) : Type 0 where
+pub record Asked {C : Container} (R : Recording C) (l : Link) : Type 0 where
   pub n : ℕ
   pub quiet : (t : Direction) → of dataKey (linkKey l t) (dataLeft R n) ≡ []
   pub asks : Direction
@@ -90,7 +91,7 @@ pub record Asked (R : Recording) (l : Link) : Type 0 where
       (b ++ response (triple (l .handle) (rxOf (other asks)) (l .cid (other asks))) (triple (l .handle) (rxOf asks) (l .cid asks)) true ∷ c)
 
 -- it gives the rule on channels, for both directions
-pub asked-channels : (R : Recording) (l : Link) → Asked R l → (t : Direction) → Channel R l t
+pub asked-channels : {C : Container} (R : Recording C) (l : Link) → Asked R l → (t : Direction) → Channel R l t
 asked-channels R l q t = before (q .n) (q .quiet t) (rw (q .are) (go (q .asks) t))
   where
     go : (s t : Direction) →
@@ -104,18 +105,18 @@ asked-channels R l q t = before (q .n) (q .quiet t) (rw (q .are) (go (q .asks) t
 -- ---- tried in the file or any cut of it
 
 -- a front of the records is a cut
-left-front : (at : ℕ) (f g : List Record) → All WholeRecord (f ++ g) → leftFrom at (at + length (flat (rows f))) (f ++ g) ≡ f
+left-front : {C : Container} → Lawful C → (h : List ℕ) (at : ℕ) (f g : List Record) → All (WholeRecord C h) (f ++ g) → leftFrom at (at + length (flat (rows f))) (f ++ g) ≡ f
 unfolding leftFrom
-left-front at [] [] all-nil = refl
-left-front at [] (r ∷ g) (all-cons w ws) =
-    rw (lt-leb (at + length (r .bytes)) (at + 0) (omega (arith, whole-some r w))) (left-none (at + length (r .bytes)) (at + 0) g (omega (arith, whole-some r w)))
-left-front at (r ∷ f) g (all-cons w ws) =
+left-front L h at [] [] all-nil = refl
+left-front L h at [] (r ∷ g) (all-cons w ws) =
+    rw (lt-leb (at + length (r .bytes)) (at + 0) (omega (arith, whole-some L h r w))) (left-none (at + length (r .bytes)) (at + 0) g (omega (arith, whole-some L h r w)))
+left-front L h at (r ∷ f) g (all-cons w ws) =
     let e : at + length (flat (rows (r ∷ f))) ≡ at + length (r .bytes) + length (flat (rows f)) = omega (arith, length-append (r .bytes) (flat (rows f))) in
-    rw (e, le-leb (at + length (r .bytes)) (at + length (r .bytes) + length (flat (rows f))) (omega arith), left-front (at + length (r .bytes)) f g ws)
+    rw (e, le-leb (at + length (r .bytes)) (at + length (r .bytes) + length (flat (rows f))) (omega arith), left-front L h (at + length (r .bytes)) f g ws)
 
-pub front-cut : (R : Recording) (f g : List Record) → R .records ≡ f ++ g → All WholeRecord (R .records) → recordsLeft R (16 + length (flat (rows f))) ≡ f
+pub front-cut : {C : Container} → Lawful C → (R : Recording C) (f g : List Record) → R .records ≡ f ++ g → All (WholeRecord C (R .header)) (R .records) → recordsLeft R (C .head + length (flat (rows f))) ≡ f
 unfolding recordsLeft
-front-cut R f g e w = rw e (left-front 16 f g (rw e at w))
+front-cut {C} L R f g e w = rw e (left-front L (R .header) (C .head) f g (rw e at w))
 
 -- some records in front complete the PDUs up to one of them: a record completes at most one
 pub record UpTo (read : List ℕ → Option Packet) (m : Key → Option (List ℕ)) (rs : List Record) (a : List Pdu) (p : Pdu) : Type 0 where
@@ -157,7 +158,7 @@ module _ (read : List ℕ → Option Packet) where
           record { front = r ∷ u .front; back = u .back; whole = ap (λ (l : List Record). r ∷ l) (u .whole); are = rw (k, z) (u .are) })
           (λ q z. one x q k z ih a (rw (k, z) at e))
 
-module _ (R : Recording) (a : List Pdu) (p : Pdu) where
+module _ {C : Container} (R : Recording C) (a : List Pdu) (p : Pdu) where
   -- admitted in the whole file; or its CID is at least 0x40 and no PDU up to and with this one names it
   unfoldable pub everTried : Bool
   everTried = admitted (signals (pdusIn R (R .records))) (channelOf p) || (leb 0x40 (p .cid) && not (named (signals (a ++ (p ∷ []))) (channelOf p)))
@@ -184,9 +185,9 @@ module _ (R : Recording) (a : List Pdu) (p : Pdu) where
       (λ d. rw (c, named-front (channelOf p) f d) (or-true (admitted (signals (pdusIn R (R .records))) (channelOf p)))))
       (λ c. no-way (rw c at h) refl))
 
-  pub ever-tried : (b : List Pdu) → length (R .header) ≡ 16 → All WholeRecord (R .records) → pdusIn R (R .records) ≡ a ++ p ∷ b → everTried ≡ true → TriedSome
+  pub ever-tried : Lawful C → (b : List Pdu) → length (R .header) ≡ C .head → All (WholeRecord C (R .header)) (R .records) → pdusIn R (R .records) ≡ a ++ p ∷ b → everTried ≡ true → TriedSome
   unfolding everTried pdusIn pdus
-  ever-tried b l w e t =
+  ever-tried L b l w e t =
       splitB (admitted (signals (pdusIn R (R .records))) (channelOf p))
       (λ d.
       record { n = length (file R); rest = b; there = rw (records-all R l) e; tried = rw (records-all R l) (tried-admitted (signals (pdusIn R (R .records))) p d) })
@@ -194,8 +195,8 @@ module _ (R : Recording) (a : List Pdu) (p : Pdu) where
       (λ c. splitB (named (signals (a ++ (p ∷ []))) (channelOf p))
       (λ q. no-way (rw (d, c, q) at t) refl)
       (λ q.
-      let u : UpTo (packetOf (datalink (R .header))) nothingOpen (R .records) a p = up-to (packetOf (datalink (R .header))) nothingOpen (R .records) a p b e in
-      let k : recordsLeft R (16 + length (flat (rows (u .front)))) ≡ u .front = front-cut R (u .front) (u .back) (u .whole) w in
-      let z : pdusIn R (recordsLeft R (16 + length (flat (rows (u .front))))) ≡ a ++ (p ∷ []) = rw k (u .are) in
-      record { n = 16 + length (flat (rows (u .front))); rest = []; there = z; tried = rw z (tried-unnamed (signals (a ++ (p ∷ []))) p (leb-true 0x40 (p .cid) c) q) }))
+      let u : UpTo (C .packet (R .header)) nothingOpen (R .records) a p = up-to (C .packet (R .header)) nothingOpen (R .records) a p b e in
+      let k : recordsLeft R (C .head + length (flat (rows (u .front)))) ≡ u .front = front-cut L R (u .front) (u .back) (u .whole) w in
+      let z : pdusIn R (recordsLeft R (C .head + length (flat (rows (u .front))))) ≡ a ++ (p ∷ []) = rw k (u .are) in
+      record { n = C .head + length (flat (rows (u .front))); rest = []; there = z; tried = rw z (tried-unnamed (signals (a ++ (p ∷ []))) p (leb-true 0x40 (p .cid) c) q) }))
       (λ c. no-way (rw (d, c) at t) refl))

@@ -17,18 +17,19 @@ use Rattle.rfcomm.specs.Pieces.{Kind, asks, opens, carries, passed, Judged, Cou
 use Rattle.spans.specs.Spans.{onDlci}
 use Rattle.outcome.specs.Import.{onChannel, first}
 use Rattle.cut.specs.Recording.{free, last}
-use Rattle.cut.specs.Honest.{MarkedPdu, adds, carriesOn}
+use Rattle.cut.specs.Honest.{JudgedPdu, adds, carriesOn}
 use Rattle.cut.specs.Streams.{plain, asPiece, Apart}
-use Rattle.cut.specs.Traces.{pdusOf, dataIn}
+use Rattle.cut.specs.Traces.{dataIn}
+use Rattle.cut.specs.Judged.{judgedOf, markedOf}
 
--- the rules at the PDUs of one cut, by what each PDU is there
-pub data Calm (d : ℕ) (cid : ℕ → ℕ → ℕ) (K : Pdu → Kind) : List MarkedPdu → Type 0 where
-  calm : Calm d cid K []
+-- the rules at the judged PDUs of one cut
+pub data Calm (d : ℕ) (cid : ℕ → ℕ → ℕ) : List JudgedPdu → Type 0 where
+  calm : Calm d cid []
   -- a data PDU, after which nothing adds to the sessions of its handle or the links on d
   calm-data :
-      {p : Pdu} {i : List ℕ} {qs : List MarkedPdu} → K p ≡ carries d i → p .cid ≡ cid (p .link) (p .rx) →
-      All (λ (q : MarkedPdu). q .pdu .link ≡ p .link → adds d (K (q .pdu)) ≡ false) qs → Calm d cid K qs → Calm d cid K (record { pdu = p; mark = last i } ∷ qs)
-  calm-other : {p : Pdu} {qs : List MarkedPdu} → carriesOn d (K p) ≡ false → Calm d cid K qs → Calm d cid K (record { pdu = p; mark = free } ∷ qs)
+      {p : Pdu} {k : Kind} {i : List ℕ} {js : List JudgedPdu} → k ≡ carries d i → p .cid ≡ cid (p .link) (p .rx) →
+      All (λ (j : JudgedPdu). j .pdu .link ≡ p .link → adds d (j .kind) ≡ false) js → Calm d cid js → Calm d cid (record { pdu = p; kind = k; mark = last i } ∷ js)
+  calm-other : {p : Pdu} {k : Kind} {js : List JudgedPdu} → carriesOn d k ≡ false → Calm d cid js → Calm d cid (record { pdu = p; kind = k; mark = free } ∷ js)
 
 -- ---- counts that stay
 
@@ -62,9 +63,6 @@ carries-none d e i = refl
 
 -- ---- the pieces of DLCI d
 
-unfoldable pub judgedBy : (Pdu → Kind) → List Pdu → List Judged
-judgedBy K ps = map (λ p. record { pdu = p; kind = K p }) ps
-
 dlci-append : (d : ℕ) (xs ys : List Piece) → onDlci d (xs ++ ys) ≡ onDlci d xs ++ onDlci d ys
 unfolding onDlci
 dlci-append d [] ys = refl
@@ -87,34 +85,34 @@ stretch-apart cid d c h r h′ r′ =
     (λ e. let eh : h ≡ h′ = cc in let er : r ≡ r′ = cc in rw (eh, er, eq-eqK (stretch cid d c h′ r′) (stretch cid d c h′ r′) refl, eq-eqK (plain h′ r′) (plain h′ r′) refl))
     (λ n. rw (ne-eqK (plain h r) (plain h′ r′) n) (ne-eqK (stretch cid d c h r) (stretch cid d c h′ r′) (λ e. n (let eh : h ≡ h′ = cc in let er : r ≡ r′ = cc in rw (eh, er)))))
 
-module _ (d : ℕ) (K : Pdu → Kind) where
-  step-stays : (m : Key → Counts) (h : ℕ) (p : Pdu) → (p .link ≡ h → adds d (K p) ≡ false) → Same d (step counting m (record { pdu = p; kind = K p }) (h ∷ [])) (m (h ∷ []))
-  step-stays m h p s =
+module _ (d : ℕ) where
+  step-stays : (m : Key → Counts) (h : ℕ) (p : Pdu) (k : Kind) → (p .link ≡ h → adds d k ≡ false) → Same d (step counting m (record { pdu = p; kind = k }) (h ∷ [])) (m (h ∷ []))
+  step-stays m h p k s =
       splitK (h ∷ []) (p .link ∷ [])
-      (λ e. let z : p .link ≡ h = cc in rw (eq-eqK (h ∷ []) (p .link ∷ []) e, e) (stays d (m (p .link ∷ [])) (K p) (s z)))
+      (λ e. let z : p .link ≡ h = cc in rw (eq-eqK (h ∷ []) (p .link ∷ []) e, e) (stays d (m (p .link ∷ [])) k (s z)))
       (λ e. rw (ne-eqK (h ∷ []) (p .link ∷ []) e) same)
 
   -- the counts of a handle at the end are those of now, if nothing adds to them
-  steady : (m : Key → Counts) (h : ℕ) {qs : List MarkedPdu} → All (λ (q : MarkedPdu). q .pdu .link ≡ h → adds d (K (q .pdu)) ≡ false) qs → Same d (after counting m (judgedBy K (pdusOf qs)) (h ∷ [])) (m (h ∷ []))
-  unfolding after judgedBy
+  steady : (m : Key → Counts) (h : ℕ) {js : List JudgedPdu} → All (λ (j : JudgedPdu). j .pdu .link ≡ h → adds d (j .kind) ≡ false) js → Same d (after counting m (judgedOf js) (h ∷ [])) (m (h ∷ []))
+  unfolding after
   steady m h all-nil = same
-  steady m h (all-cons {x = q} {xs = qs} s ss) = then (steady (step counting m (record { pdu = q .pdu; kind = K (q .pdu) })) h ss) (step-stays m h (q .pdu) s)
+  steady m h (all-cons {x = j} s ss) = then (steady (step counting m (record { pdu = j .pdu; kind = j .kind })) h ss) (step-stays m h (j .pdu) (j .kind) s)
 
   pub calm-pieces :
-      (cid : ℕ → ℕ → ℕ) (m : Key → Counts) {qs : List MarkedPdu} → Calm d cid K qs →
-      onDlci d (run counting m (judgedBy K (pdusOf qs))) ≡ map (asPiece d (stretch cid d (after counting m (judgedBy K (pdusOf qs))))) (dataIn qs)
-  unfolding run after dataIn onDlci brought pieceOf judgedBy
+      (cid : ℕ → ℕ → ℕ) (m : Key → Counts) {js : List JudgedPdu} → Calm d cid js →
+      onDlci d (run counting m (judgedOf js)) ≡ map (asPiece d (stretch cid d (after counting m (judgedOf js)))) (dataIn (markedOf js))
+  unfolding run after dataIn onDlci brought pieceOf
   calm-pieces cid m calm = refl
-  calm-pieces cid m (calm-data {p = p} {i = i} {qs = qs} k c a t) =
-      let j : Judged = record { pdu = p; kind = K p } in
-      let fin : Key → Counts = after counting (step counting m j) (judgedBy K (pdusOf qs)) in
-      let sm : Same d (fin (p .link ∷ [])) (m (p .link ∷ [])) = then (steady (step counting m j) (p .link) a) (step-stays m (p .link) p (λ z. rw k (carries-none d d i))) in
-      let hd : onDlci d (brought (m (p .link ∷ [])) p (K p)) ≡ asPiece d (stretch cid d fin) (record { link = p .link; rx = p .rx; time = p .time; information = i }) ∷ [] =
-      rw (sm .session, sm .link, ← c, k, eq-eqb d d refl) in
-      dlci-append d (brought (m (p .link ∷ [])) p (K p)) (run counting (step counting m j) (judgedBy K (pdusOf qs))) ∙ rw (calm-pieces cid (step counting m j) t, hd)
-  calm-pieces cid m (calm-other {p = p} {qs = qs} o t) =
-      let j : Judged = record { pdu = p; kind = K p } in
-      dlci-append d (brought (m (p .link ∷ [])) p (K p)) (run counting (step counting m j) (judgedBy K (pdusOf qs))) ∙ rw (other-piece d (m (p .link ∷ [])) p (K p) o) (calm-pieces cid (step counting m j) t)
+  calm-pieces cid m (calm-data {p = p} {k = k} {i = i} {js = js} e c a t) =
+      let j : Judged = record { pdu = p; kind = k } in
+      let fin : Key → Counts = after counting (step counting m j) (judgedOf js) in
+      let sm : Same d (fin (p .link ∷ [])) (m (p .link ∷ [])) = then (steady (step counting m j) (p .link) a) (step-stays m (p .link) p k (λ z. rw e (carries-none d d i))) in
+      let hd : onDlci d (brought (m (p .link ∷ [])) p k) ≡ asPiece d (stretch cid d fin) (record { link = p .link; rx = p .rx; time = p .time; information = i }) ∷ [] =
+      rw (sm .session, sm .link, ← c, e, eq-eqb d d refl) in
+      dlci-append d (brought (m (p .link ∷ [])) p k) (run counting (step counting m j) (judgedOf js)) ∙ rw (calm-pieces cid (step counting m j) t, hd)
+  calm-pieces cid m (calm-other {p = p} {k = k} {js = js} o t) =
+      let j : Judged = record { pdu = p; kind = k } in
+      dlci-append d (brought (m (p .link ∷ [])) p k) (run counting (step counting m j) (judgedOf js)) ∙ rw (other-piece d (m (p .link ∷ [])) p k o) (calm-pieces cid (step counting m j) t)
 
 -- ---- the DLCI chosen
 
@@ -133,11 +131,11 @@ data-near : (d : ℕ) (c : Counts) (p : Pdu) (k : Kind) (i : List ℕ) → k ≡
 unfolding brought pieceOf
 data-near d c p k i e = rw e (all-cons (λ q. refl) all-nil)
 
-pub calm-near : (d : ℕ) (K : Pdu → Kind) (cid : ℕ → ℕ → ℕ) (m : Key → Counts) {qs : List MarkedPdu} → Calm d cid K qs → All (Near d) (run counting m (judgedBy K (pdusOf qs)))
-unfolding run judgedBy
-calm-near d K cid m calm = all-nil
-calm-near d K cid m (calm-data {p = p} {i = i} k c a t) = all-append (data-near d (m (p .link ∷ [])) p (K p) i k) (calm-near d K cid (step counting m (record { pdu = p; kind = K p })) t)
-calm-near d K cid m (calm-other {p = p} o t) = all-append (other-near d (m (p .link ∷ [])) p (K p) o) (calm-near d K cid (step counting m (record { pdu = p; kind = K p })) t)
+pub calm-near : (d : ℕ) (cid : ℕ → ℕ → ℕ) (m : Key → Counts) {js : List JudgedPdu} → Calm d cid js → All (Near d) (run counting m (judgedOf js))
+unfolding run
+calm-near d cid m calm = all-nil
+calm-near d cid m (calm-data {p = p} {k = k} {i = i} e c a t) = all-append (data-near d (m (p .link ∷ [])) p k i e) (calm-near d cid (step counting m (record { pdu = p; kind = k })) t)
+calm-near d cid m (calm-other {p = p} {k = k} o t) = all-append (other-near d (m (p .link ∷ [])) p k o) (calm-near d cid (step counting m (record { pdu = p; kind = k })) t)
 
 module _ (d : ℕ) (g : ℕ → Bool) where
   abbrev pub wanted : ℕ → Bool

@@ -1,22 +1,29 @@
--- What is named and admitted only grows with the records, so a data PDU is tried in every cut that has it.
-use Prim.Native.Nat.{_≤_}
-use mathlib.Core.Path.{_≡_, refl}
+-- Each channel rule tries a data PDU of an honest recording in every cut that has it. Only this file knows what a rule says of channels.
+use Prim.Native.Nat.{ℕ, _≤_}
+use mathlib.Core.Path.{_≡_, refl, sym, _∙_}
 use mathlib.Core.Logic.{_≢_}
 use mathlib.Core.Bool.{Bool, true, false}
-use mathlib.Core.List.{List, [], _∷_, _++_, append-assoc}
+use mathlib.Core.List.{List, [], _∷_, _++_, append-assoc, cons≢nil}
+use native.Mathlib.Omega.{arith}
 use borrow.Author.Tests.{ne-eqb, le-leb}
-use Rattle.laws.specs.Choice.{splitB, no-way}
-use Rattle.laws.specs.Keys.{Key}
-use Rattle.laws.specs.Keyed.{run, after, run-append}
-use Rattle.btsnoop.specs.Header.{datalink}
+use Rattle.laws.specs.Choice.{splitB, no-way, split≤}
+use Rattle.laws.specs.Lists.{All}
+use Rattle.laws.specs.Keys.{Key, eq-eqK}
+use Rattle.laws.specs.Keyed.{of}
+use Rattle.items.specs.declared.Direction.{Direction}
+use Rattle.items.specs.Items.{rxOf}
+use Rattle.container.specs.Container.{Container}
 use Rattle.l2cap.specs.Pdus.{Pdu}
-use Rattle.channels.specs.Signals.{Signal, signals}
+use Rattle.channels.specs.Signals.{Signal, triple, signals}
 use Rattle.channels.specs.Channels.{any, names, named, admits, admittedAfter, admitted, channelOf, isTried, asksSession}
-use Rattle.cut.specs.Recording.{Record, Recording}
-use Rattle.cut.specs.Left.{sentIn}
-use Rattle.cut.specs.Honest.{pdusIn, marking, nothingOpen, markedPdus}
-use Rattle.cut.specs.Parts.{Front, map-append}
-use Rattle.cut.specs.Traces.{pdusOf, pdus-in, sent-append}
+use Rattle.channels.specs.Core.{holds}
+use Rattle.channels.specs.Tried.{ChannelRule, source, core, triedBy}
+use Rattle.cut.specs.Recording.{LinkOf, last, RecordingOf, Framing}
+use Rattle.cut.specs.Left.{recordsLeft, sentIn, Data, dataKey, linkKey, dataOf, dataLeft}
+use Rattle.cut.specs.Honest.{pdusIn, MarkedPdu, pdusOf, nothingOpen, markedPdus, DataPdu, Fragments, Channel, before, unnamed, Open, held, unheard, AtData, Channels, by-source, by-core, Honest}
+use Rattle.cut.specs.Parts.{Front, of-append, all-at}
+use Rattle.cut.specs.Kept.{records-front, records-grow}
+use Rattle.cut.specs.Traces.{sent-append, data-append, marked-front, pdus-front, dataIn, dataIn-append, cut-data}
 
 signals-append : (a b : List Pdu) → signals (a ++ b) ≡ signals a ++ signals b
 unfolding signals
@@ -45,16 +52,6 @@ pub admitted-front : {a b : List Pdu} (t : Key) → Front a b → admitted (sign
 unfolding admitted
 admitted-front {a} {b} t f h = rw (f .whole, signals-append a (f .back)) (after-front [] (signals a) (signals (f .back)) t h)
 
--- the PDUs of a front of records are a front of the PDUs
-pub pdus-front : (R : Recording) {rs ss : List Record} → Front rs ss → Front (pdusIn R rs) (pdusIn R ss)
-unfolding markedPdus
-pdus-front R {rs} {ss} f = record {
-  back = pdusOf (run marking (after marking nothingOpen (sentIn R rs)) (sentIn R (f .back)));
-  whole =
-      rw (pdus-in R ss, pdus-in R rs, f .whole, sent-append (datalink (R .header)) rs (f .back), run-append marking nothingOpen (sentIn R rs) (sentIn R (f .back)))
-      (map-append (λ q. q .pdu) (run marking nothingOpen (sentIn R rs)) (run marking (after marking nothingOpen (sentIn R rs)) (sentIn R (f .back))));
-}
-
 -- ---- tried
 
 pub tried-admitted : (ss : List Signal) (p : Pdu) → admitted ss (channelOf p) ≡ true → isTried ss p ≡ true
@@ -68,3 +65,108 @@ tried-unnamed ss p c h = splitB (admitted ss (channelOf p)) (λ e. rw e) (λ e. 
 pub asks-not : (p : Pdu) → p .cid ≢ 1 → asksSession p ≡ false
 unfolding asksSession
 asks-not p n = rw (ne-eqb (p .cid) 1 n)
+
+-- Bluetooth Core's rule
+pub tried-held : (upTo all : List Pdu) (p : Pdu) → holds upTo (channelOf p) ≡ true → triedBy core upTo all p ≡ true
+unfolding triedBy
+tried-held upTo all p h = rw h
+
+pub tried-unheard : (upTo all : List Pdu) (p : Pdu) → 0x40 ≤ p .cid → named (signals all) (channelOf p) ≡ false → triedBy core upTo all p ≡ true
+unfolding triedBy
+tried-unheard upTo all p c h = splitB (holds upTo (channelOf p)) (λ e. rw e) (λ e. rw (e, le-leb 0x40 (p .cid) c, h))
+
+-- ---- a data PDU is tried in every cut that has it
+
+-- All that the theorem asks of a channel rule: in every cut, each data PDU is tried at its place.
+abbrev pub Tries : {C : Container} {S : Framing} → ChannelRule → RecordingOf C S → Type 0
+Tries rule R =
+    (n : ℕ) (a : List MarkedPdu) (p : Pdu) (i : List ℕ) (b : List MarkedPdu) → markedPdus (sentIn R (recordsLeft R n)) ≡ a ++ record { pdu = p; mark = last i } ∷ b → DataPdu R p i →
+    triedBy rule (pdusOf a ++ (p ∷ [])) (pdusIn R (recordsLeft R n)) p ≡ true
+
+-- a shorter cut leaves a front of the data PDUs
+data-front : {C : Container} {S : Framing} (R : RecordingOf C S) (m n : ℕ) → m ≤ n → Front (dataLeft R m) (dataLeft R n)
+unfolding dataLeft
+data-front {C} R m n h =
+    let f : Front (recordsLeft R m) (recordsLeft R n) = records-grow R m n h in
+    record {
+      back = dataOf (sentIn R (f .back));
+      whole = rw (f .whole, sent-append (C .packet (R .header)) (recordsLeft R m) (f .back)) (data-append (sentIn R (recordsLeft R m)) (sentIn R (f .back)));
+    }
+
+two : {a b a′ b′ : ℕ} → a ≡ a′ → b ≡ b′ → a ∷ b ∷ [] ≡ a′ ∷ b′ ∷ []
+two p q = rw (p, q)
+
+three : {a b c a′ b′ c′ : ℕ} → a ≡ a′ → b ≡ b′ → c ≡ c′ → triple a b c ≡ triple a′ b′ c′
+three p q r = rw (p, q, r)
+
+not-nil : (xs : List Data) (y : Data) (ys : List Data) → xs ++ y ∷ ys ≢ []
+not-nil [] y ys e = cons≢nil e
+not-nil (x ∷ xs) y ys e = cons≢nil e
+
+nonempty-front : (k : Key) {xs ys : List Data} → Front xs ys → of dataKey k ys ≡ [] → of dataKey k xs ≡ []
+nonempty-front k {xs} {ys} f e = nil-front (of dataKey k xs) (of dataKey k (f .back)) (rw (f .whole, of-append dataKey k xs (f .back)) at e)
+  where
+    nil-front : (a b : List Data) → a ++ b ≡ [] → a ≡ []
+    nil-front [] b q = refl
+    nil-front (x ∷ a) b q = absurd (cons≢nil q)
+
+module _ {C : Container} {S : Framing} (R : RecordingOf C S) (dynamic : All (λ (l : LinkOf S). (t : Direction) → 0x40 ≤ l .cid t) (R .links)) where
+  cid-least : (p : Pdu) (i : List ℕ) (o : DataPdu R p i) → 0x40 ≤ p .cid
+  cid-least p i o = rw (o .channel) (all-at (o .listed) dynamic (o .direction))
+
+  -- what nothing in the file names, nothing in a cut does
+  unnamed-cut : (n : ℕ) (t : Key) → named (signals (pdusIn R (R .records))) t ≡ false → named (signals (pdusIn R (recordsLeft R n))) t ≡ false
+  unnamed-cut n t u = named-front t (pdus-front R (records-front R n)) u
+
+  -- the source's: what is admitted before a cut's data stays admitted
+  source-tries : Fragments R nothingOpen (sentIn R (R .records)) → All (λ (l : LinkOf S). (t : Direction) → Channel R l t) (R .links) → Tries source R
+  unfolding triedBy dataIn of
+  source-tries fs cs n a p i b e o = go (all-at (o .listed) cs (o .direction))
+    where
+      l : LinkOf S
+      l = o .link
+
+      t : Direction
+      t = o .direction
+
+      same-channel : triple (l .handle) (rxOf t) (l .cid t) ≡ channelOf p
+      same-channel = three (sym (o .handle)) (sym (o .way)) (sym (o .channel))
+
+      same-key : linkKey l t ≡ p .link ∷ p .rx ∷ []
+      same-key = two (sym (o .handle)) (sym (o .way))
+
+      x : Data
+      x = record { link = p .link; rx = p .rx; time = p .time; information = i }
+
+      -- the PDU is one of the cut's data PDUs
+      data-are : dataLeft R n ≡ dataIn a ++ x ∷ dataIn b
+      data-are = sym (cut-data R n fs) ∙ rw e (dataIn-append a (record { pdu = p; mark = last i } ∷ b))
+
+      here : of dataKey (p .link ∷ p .rx ∷ []) (dataLeft R n) ≢ []
+      here q =
+          let y : of dataKey (p .link ∷ p .rx ∷ []) (dataIn a) ++ of dataKey (p .link ∷ p .rx ∷ []) (x ∷ dataIn b) ≡ [] = rw (data-are, of-append dataKey (p .link ∷ p .rx ∷ []) (dataIn a) (x ∷ dataIn b)) at q in
+          not-nil (of dataKey (p .link ∷ p .rx ∷ []) (dataIn a)) x (of dataKey (p .link ∷ p .rx ∷ []) (dataIn b)) (rw (eq-eqK (p .link ∷ p .rx ∷ []) (p .link ∷ p .rx ∷ []) refl) at y)
+
+      go : Channel R l t → isTried (signals (pdusIn R (recordsLeft R n))) p ≡ true
+      go (unnamed u) = tried-unnamed (signals (pdusIn R (recordsLeft R n))) p (cid-least p i o) (unnamed-cut n (channelOf p) (rw same-channel at u))
+      go (before m z w) =
+          split≤ n m
+          (λ h. absurd (here (nonempty-front (p .link ∷ p .rx ∷ []) (data-front R n m h) (rw same-key at z))))
+          (λ h. tried-admitted (signals (pdusIn R (recordsLeft R n))) p (admitted-front (channelOf p) (pdus-front R (records-grow R m n (omega arith))) (rw same-channel at w)))
+
+  -- Bluetooth Core's: what holds at a PDU is the same in every cut that has the PDU
+  core-tries : AtData R (Open R) → Tries core R
+  core-tries cs n a p i b e o =
+      let f : Front (markedPdus (sentIn R (recordsLeft R n))) (markedPdus (sentIn R (R .records))) = marked-front R (records-front R n) in
+      go (cs a p i (b ++ f .back) (f .whole ∙ rw e (append-assoc a (record { pdu = p; mark = last i } ∷ b) (f .back))))
+    where
+      go : Open R (pdusOf a ++ (p ∷ [])) p → triedBy core (pdusOf a ++ (p ∷ [])) (pdusIn R (recordsLeft R n)) p ≡ true
+      go (held h) = tried-held (pdusOf a ++ (p ∷ [])) (pdusIn R (recordsLeft R n)) p h
+      go (unheard u) = tried-unheard (pdusOf a ++ (p ∷ [])) (pdusIn R (recordsLeft R n)) p (cid-least p i o) (unnamed-cut n (channelOf p) u)
+
+  tries-by : (rule : ChannelRule) → Fragments R nothingOpen (sentIn R (R .records)) → Channels R rule → Tries rule R
+  tries-by source fs (by-source cs) = source-tries fs cs
+  tries-by core fs (by-core cs) = core-tries cs
+
+pub honest-tries : {C : Container} {S : Framing} (rule : ChannelRule) (R : RecordingOf C S) → Honest rule R → Tries rule R
+honest-tries rule R H = tries-by R (H .dynamic) rule (H .fragments) (H .channels)

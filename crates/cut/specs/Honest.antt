@@ -5,34 +5,31 @@ use mathlib.Core.Logic.{_≢_}
 use mathlib.Core.Bool.{Bool, true, false, cond, _||_}
 use mathlib.Core.List.{List, [], _∷_, _++_, map, List·Memᴰ}
 use mathlib.Core.Option.{Option, none, some}
-use lib.ListN.{length, take}
+use lib.ListN.{length, take, drop}
 use lib.Dec.{eqb}
 use Rattle.laws.specs.Lists.{flat, All}
 use Rattle.laws.specs.Numbers.{le16}
 use Rattle.laws.specs.Keys.{Key}
-use Rattle.laws.specs.Keyed.{Machine, put, of, step, run}
+use Rattle.laws.specs.Keyed.{Machine, put, of, run}
 use Rattle.items.specs.declared.Direction.{Direction}
 use Rattle.items.specs.Items.{rxOf}
-use Rattle.btsnoop.specs.Header.{isBtsnoop, datalink, isDatalink}
-use Rattle.btsnoop.specs.Records.{recordSize}
-use Rattle.btsnoop.specs.Packets.{Packet, packetOf, packets}
+use Rattle.container.specs.Container.{Container}
+use Rattle.container.specs.Packets.{Packet, packets}
 use Rattle.l2cap.specs.Pdus.{Pdu, isComplete, pduOf, packetKey, reassembly, pdus}
 use Rattle.channels.specs.Signals.{triple, signals}
-use Rattle.channels.specs.Channels.{named, admitted}
+use Rattle.channels.specs.Channels.{named, admitted, channelOf}
+use Rattle.channels.specs.Core.{holds}
+use Rattle.channels.specs.Tried.{ChannelRule, source, core}
 use Rattle.rfcomm.specs.Frames.{frameOf}
-use Rattle.rfcomm.specs.Pieces.{Kind, asks, opens, carries, passed, frameKind, kindOf}
-use Rattle.cut.specs.Recording.{Frame, wire, Link, Mark, free, part, last, Record, Recording, rows, file}
+use Rattle.rfcomm.specs.Pieces.{Kind, asks, opens, carries, passed, Judged, frameKind, judgedBy}
+use Rattle.cut.specs.Recording.{LinkOf, Mark, free, part, last, Record, RecordingOf, rows, file, Framing}
 use Rattle.cut.specs.Left.{recordsLeft, Sent, sentIn, dataKey, linkKey, informationOf, dataOf, dataLeft, wires}
 
 -- ---- the PDUs of some records, and what each of them is there
 
 -- by import's own definitions
-unfoldable pub pdusIn : Recording → List Record → List Pdu
-pdusIn R rs = pdus (packets (packetOf (datalink (R .header))) (rows rs))
-
--- tried or not, by the signals of these records alone
-unfoldable pub kindIn : Recording → List Record → Pdu → Kind
-kindIn R rs p = kindOf (signals (pdusIn R rs)) p
+unfoldable pub pdusIn : {C : Container} {S : Framing} → RecordingOf C S → List Record → List Pdu
+pdusIn {C} R rs = pdus (packets (C .packet (R .header)) (rows rs))
 
 -- a PDU with the mark of the record that completes it
 pub record MarkedPdu : Type 0 where
@@ -53,15 +50,35 @@ nothingOpen k = none
 unfoldable pub markedPdus : List Sent → List MarkedPdu
 markedPdus xs = run marking nothingOpen xs
 
+-- a PDU with that mark, and what it is judged to be
+pub record JudgedPdu : Type 0 where
+  pub pdu : Pdu
+  pub kind : Kind
+  pub mark : Mark
+
+-- each judged PDU with its mark: the two lists are of the same PDUs
+unfoldable pub withMarks : List Judged → List MarkedPdu → List JudgedPdu
+withMarks [] qs = []
+withMarks (j ∷ js) [] = []
+withMarks (j ∷ js) (q ∷ qs) = record { pdu = j .pdu; kind = j .kind; mark = q .mark } ∷ withMarks js qs
+
+-- the PDUs of some records, each judged at its place by these records alone: tried or not
+unfoldable pub judgedIn : {C : Container} {S : Framing} → ChannelRule → RecordingOf C S → List Record → List JudgedPdu
+judgedIn rule R rs = withMarks (judgedBy rule (pdusIn R rs)) (markedPdus (sentIn R rs))
+
 unfoldable pub isDataOf : ℕ → Packet → Mark → Bool
 isDataOf h p free = false
 isDataOf h p part = eqb (p .link) h
 isDataOf h p (last i) = eqb (p .link) h
 
--- the PDUs that records after the one with a handle's first data fragment complete, from what is open before
-unfoldable pub afterData : ℕ → (Key → Option (List ℕ)) → List Sent → List MarkedPdu
-afterData h m [] = []
-afterData h m (x ∷ xs) = cond (isDataOf h (x .packet) (x .mark)) (run marking (step marking m x) xs) (afterData h (step marking m x) xs)
+-- the packets up to and with a handle's first data fragment; all, if it has none
+unfoldable pub toData : ℕ → List Sent → List Sent
+toData h [] = []
+toData h (x ∷ xs) = cond (isDataOf h (x .packet) (x .mark)) (x ∷ []) (x ∷ toData h xs)
+
+-- the PDUs of some records, but those that are complete with a handle's first data fragment
+unfoldable pub afterData : {C : Container} {S : Framing} → ChannelRule → RecordingOf C S → List Record → ℕ → List JudgedPdu
+afterData rule R rs h = drop (length (markedPdus (toData h (sentIn R rs)))) (judgedIn rule R rs)
 
 -- it adds to the sessions, or to the links on d
 unfoldable pub adds : ℕ → Kind → Bool
@@ -85,8 +102,8 @@ pub data Joins (p : Packet) : Option (List ℕ) → List ℕ → Type 0 where
   further : {b : List ℕ} → p .start ≡ false → 1 ≤ length (p .bytes) → Joins p (some b) (b ++ p .bytes)
 
 -- a data PDU of a link: on its CID of the direction, UIH on d with the information i
-pub record DataPdu (R : Recording) (p : Pdu) (i : List ℕ) : Type 0 where
-  pub link : Link
+pub record DataPdu {C : Container} {S : Framing} (R : RecordingOf C S) (p : Pdu) (i : List ℕ) : Type 0 where
+  pub link : LinkOf S
   pub direction : Direction
   pub listed : List·Memᴰ link (R .links)
   pub handle : p .link ≡ link .handle
@@ -95,7 +112,7 @@ pub record DataPdu (R : Recording) (p : Pdu) (i : List ℕ) : Type 0 where
   pub uih : frameKind (frameOf (p .payload)) ≡ carries (R .d) i
 
 -- the packets with their marks, from the bytes so far of the data PDU under way for each handle and direction. Packets that lack a field are not among them.
-pub data Fragments (R : Recording) : (Key → Option (List ℕ)) → List Sent → Type 0 where
+pub data Fragments {C : Container} {S : Framing} (R : RecordingOf C S) : (Key → Option (List ℕ)) → List Sent → Type 0 where
   stop : {σ : Key → Option (List ℕ)} → Fragments R σ []
   -- no other packet of that handle and direction between
   other : {σ : Key → Option (List ℕ)} {p : Packet} {xs : List Sent} → σ (packetKey p) ≡ none → Fragments R σ xs → Fragments R σ (record { packet = p; mark = free } ∷ xs)
@@ -116,7 +133,7 @@ pub data Different : List ℕ → Type 0 where
   one-more : {h : ℕ} {hs : List ℕ} → All (λ k. k ≢ h) hs → Different hs → Different (h ∷ hs)
 
 -- the channel of a link in a direction
-pub data Channel (R : Recording) (l : Link) (t : Direction) : Type 0 where
+pub data Channel {C : Container} {S : Framing} (R : RecordingOf C S) (l : LinkOf S) (t : Direction) : Type 0 where
   -- admitted by PDUs that are complete before the direction's first data PDU is, by whatever commands
   before :
       (n : ℕ) → of dataKey (linkKey l t) (dataLeft R n) ≡ [] →
@@ -124,19 +141,41 @@ pub data Channel (R : Recording) (l : Link) (t : Direction) : Type 0 where
   -- named by nothing in the file: its handle, direction and CID together
   unnamed : named (signals (pdusIn R (R .records))) (triple (l .handle) (rxOf t) (l .cid t)) ≡ false → Channel R l t
 
--- the first bytes of a packed frame, fewer than all; none of them if nothing follows the whole frames
-pub record Beginning (b : List ℕ) : Type 0 where
-  pub frame : Frame
-  pub size : length (wire frame) ≤ 65536
-  pub count : ℕ
-  pub short : count < length (wire frame)
-  pub is : b ≡ take count (wire frame)
+-- a data PDU's channel when the PDU is complete, with all PDUs up to it
+pub data Open {C : Container} {S : Framing} (R : RecordingOf C S) (upTo : List Pdu) (p : Pdu) : Type 0 where
+  -- it holds: it is between success and end
+  held : holds upTo (channelOf p) ≡ true → Open R upTo p
+  -- named by nothing in the file: its handle, direction and CID together
+  unheard : named (signals (pdusIn R (R .records))) (channelOf p) ≡ false → Open R upTo p
 
-pub record Honest (R : Recording) : Type 0 where
-  -- A header that 3 and 4 do not refuse,
-  pub header : (length (R .header) ≡ 16) × (isBtsnoop (R .header) ≡ true) × (isDatalink (datalink (R .header)) ≡ true)
+abbrev pub pdusOf : List MarkedPdu → List Pdu
+pdusOf qs = map (λ q. q .pdu) qs
+
+-- at each data PDU of the file, by the PDUs up to and with it
+abbrev pub AtData : {C : Container} {S : Framing} → RecordingOf C S → (List Pdu → Pdu → Type 0) → Type 0
+AtData R P = (a : List MarkedPdu) (p : Pdu) (i : List ℕ) (b : List MarkedPdu) → markedPdus (sentIn R (R .records)) ≡ a ++ record { pdu = p; mark = last i } ∷ b → P (pdusOf a ++ (p ∷ [])) p
+
+-- what each channel rule asks of the links' channels
+pub data Channels {C : Container} {S : Framing} (R : RecordingOf C S) : ChannelRule → Type 0 where
+  -- Either a PSM 3 request and successful response admitting both are complete before its data, or nothing in the file names them.
+  by-source : All (λ l. (t : Direction) → Channel R l t) (R .links) → Channels R source
+  -- An honest link that is named has its data between success and end.
+  by-core : AtData R (Open R) → Channels R core
+
+-- the first bytes of a frame, fewer than all; none of them if nothing follows the whole frames
+pub record Beginning (S : Framing) (b : List ℕ) : Type 0 where
+  pub frame : S .Form
+  pub size : S .Allowed frame
+  pub count : ℕ
+  pub short : count < length (S .onWire frame)
+  pub is : b ≡ take count (S .onWire frame)
+
+-- honest by a channel rule, in whichever container and of whichever frames
+pub record Honest {C : Container} {S : Framing} (rule : ChannelRule) (R : RecordingOf C S) : Type 0 where
+  -- A header that 3 and 4 (pcap: 21 and 22) do not refuse,
+  pub header : (length (R .header) ≡ C .head) × (C .isFile (R .header) ≡ true) × (C .isTaken (C .linkType (R .header)) ≡ true)
   -- and whole records,
-  pub whole : All (λ r. recordSize (r .bytes) ≡ length (r .bytes)) (R .records)
+  pub whole : All (λ r. C .size (R .header) (r .bytes) ≡ length (r .bytes)) (R .records)
   -- at most 1,048,576 bytes;
   pub small : length (file R) ≤ 1048576
   -- 1 or more links with different handles (a recording without links is let pass: nothing is left of it),
@@ -145,19 +184,19 @@ pub record Honest (R : Recording) : Type 0 where
   pub dlci : (1 ≤ R .d) × (R .d ≤ 63)
   -- Each link has one CID of at least 0x40 per direction.
   pub dynamic : All (λ l. (t : Direction) → 0x40 ≤ l .cid t) (R .links)
-  -- Either a PSM 3 request and successful response admitting both are complete before its data, or nothing in the file names them.
-  pub channels : All (λ l. (t : Direction) → Channel R l t) (R .links)
+  -- Its data come when the rule has its channels open.
+  pub channels : Channels R rule
   -- Its data PDUs are UIH on d with information, sent in fragments of at least 1 byte: the first with flag other than 1, the rest 1,
   -- ending with the PDU, no other packet of that handle and direction between. (The file may end before a data PDU does.)
   pub fragments : Fragments R nothingOpen (sentIn R (R .records))
   -- Each direction's information is packed frames, one after another; the last may be partial,
   pub information : All (λ l. (t : Direction) → informationOf (linkKey l t) (dataOf (sentIn R (R .records))) ≡ flat (wires l t) ++ l .partial t) (R .links)
   -- of at most 65,536 wire bytes;
-  pub sizes : All (λ l. (t : Direction) → All (λ f. length (wire f) ≤ 65536) (l .frames t)) (R .links)
+  pub sizes : All (λ l. (t : Direction) → All (S .Allowed) (l .frames t)) (R .links)
   -- a beginning without its end.
-  pub beginnings : All (λ l. (t : Direction) → Beginning (l .partial t)) (R .links)
+  pub beginnings : All (λ l. (t : Direction) → Beginning S (l .partial t)) (R .links)
   -- After a handle's first data fragment, nothing adds to its sessions, nor to its links on d:
   -- no PDU that a later record completes, tried in the file or any cut of it that has the PDU.
-  pub settled : (n h : ℕ) → All (λ q. q .pdu .link ≡ h → adds (R .d) (kindIn R (recordsLeft R n) (q .pdu)) ≡ false) (afterData h nothingOpen (sentIn R (recordsLeft R n)))
+  pub settled : (n h : ℕ) → All (λ q. q .pdu .link ≡ h → adds (R .d) (q .kind) ≡ false) (afterData rule R (recordsLeft R n) h)
   -- No other tried PDU is UIH with data on d or on the other DLCI of its channel, tried in the file or any cut of it that has the PDU.
-  pub alone : (n : ℕ) → All (λ q. q .mark ≡ free → carriesOn (R .d) (kindIn R (recordsLeft R n) (q .pdu)) ≡ false) (markedPdus (sentIn R (recordsLeft R n)))
+  pub alone : (n : ℕ) → All (λ q. q .mark ≡ free → carriesOn (R .d) (q .kind) ≡ false) (judgedIn rule R (recordsLeft R n))

@@ -11,9 +11,9 @@ use Rattle.laws.specs.Keyed.{Machine, of, run}
 use Rattle.items.specs.declared.Direction.{Direction}
 use Rattle.items.specs.declared.Direction.the-variants.{Rx, Tx}
 use Rattle.items.specs.Items.{Span, span, rxOf}
-use Rattle.btsnoop.specs.Header.{datalink}
-use Rattle.btsnoop.specs.Packets.{Packet, packetOf}
-use Rattle.cut.specs.Recording.{Link, wire, Mark, free, part, last, Record, Recording, rows}
+use Rattle.container.specs.Container.{Container}
+use Rattle.container.specs.Packets.{Packet}
+use Rattle.cut.specs.Recording.{LinkOf, Mark, free, part, last, Record, RecordingOf, rows, Framing}
 
 -- ---- records
 
@@ -23,12 +23,12 @@ leftFrom at n [] = []
 leftFrom at n (r ∷ rs) = cond (leb (at + length (r .bytes)) n) (r ∷ leftFrom (at + length (r .bytes)) n rs) (leftFrom (at + length (r .bytes)) n rs)
 
 -- a record is left if its last byte is kept
-unfoldable pub recordsLeft : Recording → ℕ → List Record
-recordsLeft R n = leftFrom 16 n (R .records)
+unfoldable pub recordsLeft : {C : Container} {S : Framing} → RecordingOf C S → ℕ → List Record
+recordsLeft {C} R n = leftFrom (C .head) n (R .records)
 
--- the end of the last record left: 16 bytes of header, and the records left
-unfoldable pub tailLeft : Recording → ℕ → ℕ
-tailLeft R n = 16 + length (flat (rows (recordsLeft R n)))
+-- the end of the last record left: the header, and the records left
+unfoldable pub tailLeft : {C : Container} {S : Framing} → RecordingOf C S → ℕ → ℕ
+tailLeft {C} R n = C .head + length (flat (rows (recordsLeft R n)))
 
 -- ---- data PDUs
 
@@ -41,13 +41,14 @@ abbrev pub orPassed : Option Packet → Mark → List Sent → List Sent
 orPassed none m xs = xs
 orPassed (some p) m xs = record { packet = p; mark = m } ∷ xs
 
--- the packets of records, by the recording's datalink; a record that holds none is passed over
-unfoldable pub sent : ℕ → List Record → List Sent
-sent datalink [] = []
-sent datalink (r ∷ rs) = orPassed (packetOf datalink (r .bytes)) (r .mark) (sent datalink rs)
+-- the packets of records, by a reader of one record; a record that holds none is passed over
+unfoldable pub sent : (List ℕ → Option Packet) → List Record → List Sent
+sent read [] = []
+sent read (r ∷ rs) = orPassed (read (r .bytes)) (r .mark) (sent read rs)
 
-abbrev pub sentIn : Recording → List Record → List Sent
-sentIn R rs = sent (datalink (R .header)) rs
+-- by the recording's header
+abbrev pub sentIn : {C : Container} {S : Framing} → RecordingOf C S → List Record → List Sent
+sentIn {C} R rs = sent (C .packet (R .header)) rs
 
 -- a data PDU, by the packet that completes it
 pub record Data : Type 0 where
@@ -66,13 +67,13 @@ dataOf [] = []
 dataOf (x ∷ xs) = ifLast (x .packet) (x .mark) (dataOf xs)
 
 -- a data PDU is left if the record completing it is left; they stand in the order of these records
-unfoldable pub dataLeft : Recording → ℕ → List Data
+unfoldable pub dataLeft : {C : Container} {S : Framing} → RecordingOf C S → ℕ → List Data
 dataLeft R n = dataOf (sentIn R (recordsLeft R n))
 
 abbrev pub dataKey : Data → Key
 dataKey x = x .link ∷ x .rx ∷ []
 
-abbrev pub linkKey : Link → Direction → Key
+abbrev pub linkKey : {S : Framing} → LinkOf S → Direction → Key
 linkKey l t = l .handle ∷ rxOf t ∷ []
 
 -- the information that the data PDUs of a link direction carry, one after another
@@ -91,15 +92,15 @@ directionOf zero = Tx
 directionOf (suc r) = Rx
 
 -- what the link of a handle has in a direction, or else nothing
-unfoldable pub ofHandle : {A : Type 0} → A → (Link → Direction → A) → List Link → ℕ → ℕ → A
+unfoldable pub ofHandle : {A : Type 0} {S : Framing} → A → (LinkOf S → Direction → A) → List (LinkOf S) → ℕ → ℕ → A
 ofHandle else f [] h rx = else
 ofHandle else f (l ∷ ls) h rx = cond (eqb (l .handle) h) (f l (directionOf rx)) (ofHandle else f ls h rx)
 
 -- the wires of the frames of a link direction
-abbrev pub wires : Link → Direction → List (List ℕ)
-wires l t = map wire (l .frames t)
+abbrev pub wires : {S : Framing} → LinkOf S → Direction → List (List ℕ)
+wires {S} l t = map (S .onWire) (l .frames t)
 
-abbrev pub wiresOf : List Link → ℕ → ℕ → List (List ℕ)
+abbrev pub wiresOf : {S : Framing} → List (LinkOf S) → ℕ → ℕ → List (List ℕ)
 wiresOf ls h rx = ofHandle [] wires ls h rx
 
 -- the frames that each data PDU brings the closing 3C of, with that PDU's direction and time, by the wires of each handle and direction; the state is how many bytes of it came before
@@ -113,7 +114,7 @@ closing wiresAt = record {
 
 -- a packed frame is left if its closing 3C lies in the information of a data PDU left.
 -- Frames complete in the order of the records completing those PDUs, and within one PDU in the order of their bytes.
-unfoldable pub framesLeft : Recording → ℕ → List Span
+unfoldable pub framesLeft : {C : Container} {S : Framing} → RecordingOf C S → ℕ → List Span
 framesLeft R n = run (closing (wiresOf (R .links))) (λ k. 0) (dataLeft R n)
 
 -- ---- link directions that end mid-frame
@@ -124,13 +125,13 @@ midFrame at came [] = ltb at came
 midFrame at came (w ∷ ws) = (ltb at came && ltb came (at + length w)) || midFrame (at + length w) came ws
 
 -- a link direction ends mid-frame if its data PDUs left carry bytes of a frame but not its closing 3C
-unfoldable pub endsMid : Recording → ℕ → Link → Direction → Bool
+unfoldable pub endsMid : {C : Container} {S : Framing} → RecordingOf C S → ℕ → LinkOf S → Direction → Bool
 endsMid R n l t = midFrame 0 (length (informationOf (linkKey l t) (dataLeft R n))) (wires l t)
 
-unfoldable pub midIn : Recording → ℕ → List Link → ℕ
+unfoldable pub midIn : {C : Container} {S : Framing} → RecordingOf C S → ℕ → List (LinkOf S) → ℕ
 midIn R n [] = 0
 midIn R n (l ∷ ls) = cond (endsMid R n l Rx) 1 0 + cond (endsMid R n l Tx) 1 0 + midIn R n ls
 
 -- how many link directions end mid-frame
-unfoldable pub midLeft : Recording → ℕ → ℕ
+unfoldable pub midLeft : {C : Container} {S : Framing} → RecordingOf C S → ℕ → ℕ
 midLeft R n = midIn R n (R .links)

@@ -9,7 +9,9 @@ pub mod Streams
 pub mod Counts
 pub mod Links
 pub mod Traces
+pub mod Judged
 pub mod Calm
 pub mod Growing
 pub mod Rules
 pub mod Theorem
+pub mod Plain

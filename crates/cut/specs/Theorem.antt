@@ -4,16 +4,14 @@ use mathlib.Core.Path.{_≡_, refl, sym, ap, _∙_}
 use mathlib.Core.Logic.{_≢_}
 use mathlib.Core.Bool.{true, false, _&&_}
 use mathlib.Core.List.{List, [], _∷_, _++_, map, nil≢cons, List·Memᴰ}
-use mathlib.Core.Option.{Option, some}
+use mathlib.Core.Option.{some}
 use native.Mathlib.Omega.{arith}
 use native.Mathlib.Nat.{zero-add}
-use lib.ListN.{length, getD, take, drop, length-append, length-take, List·getD-append}
-use lib.Seq.{take-append-le}
+use lib.ListN.{length, getD, take, drop, length-append, length-take}
 use lib.Dec.{leb, ltb}
 use borrow.Author.Tests.{le-leb}
 use Rattle.laws.specs.Choice.{splitB, no-way, split≤}
 use Rattle.laws.specs.Lists.{flat, All, all-nil, all-cons}
-use Rattle.laws.specs.Numbers.{be32}
 use Rattle.laws.specs.Stores.{filled}
 use Rattle.laws.specs.Answers.{Answer, Outcome, gives, refuses, answer, output, Meets}
 use Rattle.laws.specs.Keys.{Key, splitK, eq-eqK, ne-eqK}
@@ -23,51 +21,35 @@ use Rattle.items.specs.declared.Direction.{Direction}
 use Rattle.items.specs.Items.{Span, span, rxOf, spanList}
 use Rattle.mdr.specs.Escaping.{all-append}
 use Rattle.mdr.specs.Frame.{unpacksOf}
-use Rattle.btsnoop.specs.Header.{isBtsnoop, datalink}
-use Rattle.btsnoop.specs.Records.{records, tailOffset}
-use Rattle.btsnoop.specs.Packets.{packets}
-use Rattle.l2cap.specs.Pdus.{Pdu}
+use Rattle.container.specs.Container.{Container, recordsIn, records, tailOffset, packetsIn, Lawful}
 use Rattle.channels.specs.Channels.{any}
-use Rattle.rfcomm.specs.Pieces.{Piece, Kind, judged, counting, noCounts, pieces}
+use Rattle.channels.specs.Tried.{ChannelRule}
+use Rattle.rfcomm.specs.Pieces.{Piece, judgedBy, counting, noCounts, pieces}
 use Rattle.spans.specs.Bytewise.{held}
 use Rattle.spans.specs.Spans.{scanner, emptied, spans, unfinished, onDlci}
-use Rattle.outcome.specs.Import.{Tail, tolerant, hasFrame, chosen, listed, filePieces, read, endsWell, outcome, given, fits, workSuffices, imported}
-use Rattle.cut.specs.Recording.{Link, Record, Recording, rows, file, cut}
+use Rattle.outcome.specs.Import.{Options, hasFrame, chosen, listed, filePieces, read, endsWell, outcome, given, fits, workSuffices, imported}
+use Rattle.cut.specs.Recording.{LinkOf, Record, RecordingOf, rows, file, cut, Framing}
 use Rattle.cut.specs.Left.{recordsLeft, tailLeft, sentIn, Data, dataKey, linkKey, informationOf, dataOf, dataLeft, closedIn, wires, wiresOf, closing, framesLeft, midLeft}
-use Rattle.cut.specs.Honest.{pdusIn, kindIn, MarkedPdu, nothingOpen, markedPdus, Fragments, Honest}
-use Rattle.cut.specs.Claim.{answerLeft, listLeft, CutClaim}
+use Rattle.cut.specs.Honest.{pdusIn, JudgedPdu, judgedIn, Honest}
+use Rattle.cut.specs.Claim.{answerLeft, listLeft, CutClaimOf, CutClaim}
 use Rattle.cut.specs.Parts.{map-map, take-past, all-at}
 use Rattle.cut.specs.Kept.{records-front, cut-records}
-use Rattle.cut.specs.Wires.{stream, held-mid, mid-none}
+use Rattle.cut.specs.Wires.{Spanning, stream, held-mid, mid-none}
 use Rattle.cut.specs.Streams.{information-append, plain, Framed, asPiece, Apart, came-after, Fed, fed-run, fed-after}
 use Rattle.cut.specs.Counts.{mem-nub, once-nub, count-same, count-respell}
-use Rattle.cut.specs.Links.{partialOf, wires-all, links-framed, wire-unpacks, handles, found, directions, on-directions, directions-once, midAt, mid-counted}
-use Rattle.cut.specs.Traces.{pdusOf, pdus-in, dataIn, trace-data, under-none, fragments-front, sent-append, data-append, OnLink, trace-links}
-use Rattle.cut.specs.Calm.{judgedBy, stretch, stretch-apart, calm-pieces, Near, calm-near, chosen-yes, chosen-no}
+use Rattle.cut.specs.Links.{partialOf, packed-spans, wires-all, links-framed, handles, found, directions, on-directions, directions-once, midAt, mid-counted}
+use Rattle.cut.specs.Traces.{dataIn, sent-append, data-append, cut-trace, cut-data, OnLink, trace-links}
+use Rattle.cut.specs.Judged.{judgedOf, markedOf, in-judged, in-marked}
+use Rattle.cut.specs.Calm.{stretch, stretch-apart, calm-pieces, Near, calm-near, chosen-yes, chosen-no}
 use Rattle.cut.specs.Rules.{cidOf, cut-calm}
-
--- ---- the header
-
-module _ (h x : List ℕ) (e : length h ≡ 16) where
-  be32-front : (i : ℕ) → i + 3 < 16 → be32 (h ++ x) i ≡ be32 h i
-  unfolding be32
-  be32-front i g = rw (List·getD-append h x 0 i (omega arith), List·getD-append h x 0 (i + 1) (omega arith), List·getD-append h x 0 (i + 2) (omega arith), List·getD-append h x 0 (i + 3) (omega arith))
-
-  header-datalink : datalink (h ++ x) ≡ datalink h
-  unfolding datalink
-  header-datalink = be32-front 12 (omega arith)
-
-  header-btsnoop : isBtsnoop (h ++ x) ≡ isBtsnoop h
-  unfolding isBtsnoop
-  header-btsnoop = rw (be32-front 8 (omega arith), take-append-le 8 h x (omega arith), le-leb 16 (length (h ++ x)) (simp length-append (omega arith)), le-leb 16 (length h) (omega arith))
 
 -- ---- where a key of data PDUs is
 
-data Where (ls : List Link) (k : Key) (xs : List Data) : Type 0 where
+data Where {S : Framing} (ls : List (LinkOf S)) (k : Key) (xs : List Data) : Type 0 where
   nowhere : of dataKey k xs ≡ [] → Where ls k xs
-  at-link : (l : Link) (t : Direction) → List·Memᴰ l ls → k ≡ linkKey l t → Where ls k xs
+  at-link : (l : LinkOf S) (t : Direction) → List·Memᴰ l ls → k ≡ linkKey l t → Where ls k xs
 
-where-is : (ls : List Link) (k : Key) {xs : List Data} → All (OnLink ls) xs → Where ls k xs
+where-is : {S : Framing} (ls : List (LinkOf S)) (k : Key) {xs : List Data} → All (OnLink ls) xs → Where ls k xs
 unfolding of
 where-is ls k all-nil = nowhere refl
 where-is ls k (all-cons {x = x} {xs = xs} o os) =
@@ -88,7 +70,7 @@ occurs k (x ∷ xs) h =
     (λ e. rw (eq-eqK k (dataKey x) e))
     (λ n. rw (ne-eqK k (dataKey x) n) (occurs k xs (rw (ne-eqK (dataKey x) k (λ q. n (sym q))) at h)))
 
-within : (k : Key) (ls : List Link) {xs : List Data} → All (OnLink ls) xs → mem k (map dataKey xs) ≡ true → mem k (directions ls) ≡ true
+within : {S : Framing} (k : Key) (ls : List (LinkOf S)) {xs : List Data} → All (OnLink ls) xs → mem k (map dataKey xs) ≡ true → mem k (directions ls) ≡ true
 unfolding mem
 within k ls all-nil h = no-way h refl
 within k ls (all-cons {x = x} {xs = xs} o os) h =
@@ -123,7 +105,7 @@ closing-unpacks W u came (x ∷ xs) =
 
 -- ---- one cut
 
-module _ (R : Recording) (H : Honest R) (n : ℕ) where
+module _ {rule : ChannelRule} {C : Container} {S : Framing} (R : RecordingOf C S) (G : Spanning S) (H : Honest rule R) (n : ℕ) where
   abbrev rs : List Record
   rs = recordsLeft R n
 
@@ -133,46 +115,39 @@ module _ (R : Recording) (H : Honest R) (n : ℕ) where
   abbrev D : List Data
   D = dataLeft R n
 
-  abbrev Q : List MarkedPdu
-  Q = markedPdus (sentIn R rs)
-
-  abbrev K : Pdu → Kind
-  K = kindIn R rs
+  abbrev J : List JudgedPdu
+  J = judgedIn rule R rs
 
   abbrev ps : List Piece
-  ps = run counting noCounts (judgedBy K (pdusOf Q))
+  ps = run counting noCounts (judgedOf J)
 
   abbrev F : ℕ → ℕ → Key
-  F = stretch (cidOf (R .links)) (R .d) (after counting noCounts (judgedBy K (pdusOf Q)))
+  F = stretch (cidOf (R .links)) (R .d) (after counting noCounts (judgedOf J))
 
   apart : Apart F
-  apart = stretch-apart (cidOf (R .links)) (R .d) (after counting noCounts (judgedBy K (pdusOf Q)))
+  apart = stretch-apart (cidOf (R .links)) (R .d) (after counting noCounts (judgedOf J))
 
   -- all packets, and all data PDUs, are those of the cut and more
   sent-whole : sentIn R (R .records) ≡ sentIn R rs ++ sentIn R back
-  sent-whole = ap (sentIn R) (records-front R n .whole) ∙ sent-append (datalink (R .header)) rs back
+  sent-whole = ap (sentIn R) (records-front R n .whole) ∙ sent-append (C .packet (R .header)) rs back
 
   data-whole : dataOf (sentIn R (R .records)) ≡ D ++ dataOf (sentIn R back)
   unfolding dataLeft
   data-whole = rw sent-whole (data-append (sentIn R rs) (sentIn R back))
 
-  trace : Fragments R nothingOpen (sentIn R rs)
-  trace = fragments-front (sentIn R rs) (sentIn R back) (rw sent-whole at (H .fragments))
-
-  data-is : dataIn Q ≡ D
-  unfolding markedPdus dataLeft
-  data-is = trace-data nothingOpen under-none trace
+  data-is : dataIn (markedOf J) ≡ D
+  data-is = rw (in-marked rule R rs) (cut-data R n (H .fragments))
 
   on-links : All (OnLink (R .links)) D
   unfolding dataLeft
-  on-links = trace-links trace
+  on-links = trace-links (cut-trace R n (H .fragments))
 
   -- the pieces on d
   pieces-on : onDlci (R .d) ps ≡ map (asPiece (R .d) F) D
-  pieces-on = calm-pieces (R .d) K (cidOf (R .links)) noCounts (cut-calm R H n) ∙ ap (map (asPiece (R .d) F)) data-is
+  pieces-on = calm-pieces (R .d) (cidOf (R .links)) noCounts (cut-calm R H n) ∙ ap (map (asPiece (R .d) F)) data-is
 
   framed : Framed (wiresOf (R .links)) (partialOf (R .links))
-  framed = links-framed (H .sizes) (H .beginnings)
+  framed = links-framed G (H .sizes) (H .beginnings)
 
   -- the information left is a front of what the link direction sends
   record Comes (h r : ℕ) : Type 0 where
@@ -225,10 +200,10 @@ module _ (R : Recording) (H : Honest R) (n : ℕ) where
 
   left-unpack : All Unpacks (framesLeft R n)
   unfolding framesLeft
-  left-unpack = closing-unpacks (wiresOf (R .links)) (wires-all (λ (w : List ℕ). unpacksOf w ≡ true) wire-unpacks (H .sizes)) (λ k. 0) D
+  left-unpack = closing-unpacks (wiresOf (R .links)) (wires-all G (λ (w : List ℕ). unpacksOf w ≡ true) (G .unpacks) (H .sizes)) (λ k. 0) D
 
   near : All (Near (R .d)) ps
-  near = calm-near (R .d) K (cidOf (R .links)) noCounts (cut-calm R H n)
+  near = calm-near (R .d) (cidOf (R .links)) noCounts (cut-calm R H n)
 
   -- ---- the DLCI chosen, and what is listed
 
@@ -245,58 +220,67 @@ module _ (R : Recording) (H : Honest R) (n : ℕ) where
   some-piece s ss e z = let q : spans (onDlci (R .d) ps) ≡ s ∷ ss = spans-left ∙ e in nil≢cons (rw z at q)
 
 -- what import gives, as it is left
-unfoldable pub outcomeLeft : Recording → ℕ → List Span → Outcome
+unfoldable pub outcomeLeft : {C : Container} {S : Framing} → RecordingOf C S → ℕ → List Span → Outcome
 outcomeLeft R n [] = refuses 6 []
 outcomeLeft R n (s ∷ ss) = gives (R .d ∷ length (s ∷ ss) ∷ midLeft R n ∷ tailLeft R n ∷ length (spanList (s ∷ ss)) ∷ []) (spanList (s ∷ ss))
 
-module _ (R : Recording) (H : Honest R) (n : ℕ) where
-  none-left : framesLeft R n ≡ [] → given (listed (ps R H n) (tailLeft R n) (chosen (some (R .d / 2)) (ps R H n))) ≡ outcomeLeft R n []
+module _ {rule : ChannelRule} {C : Container} {S : Framing} (R : RecordingOf C S) (G : Spanning S) (H : Honest rule R) (n : ℕ) where
+  none-left : framesLeft R n ≡ [] → given (listed (ps R G H n) (tailLeft R n) (chosen (some (R .d / 2)) (ps R G H n))) ≡ outcomeLeft R n []
   unfolding chosen given listed outcomeLeft
-  none-left e = rw (chosen-no (R .d) (hasFrame (ps R H n)) (near R H n) (good-no R H n e))
+  none-left e = rw (chosen-no (R .d) (hasFrame (ps R G H n)) (near R G H n) (good-no R G H n e))
 
-  some-left : (s : Span) (ss : List Span) → framesLeft R n ≡ s ∷ ss → Unpacks s → given (listed (ps R H n) (tailLeft R n) (chosen (some (R .d / 2)) (ps R H n))) ≡ outcomeLeft R n (s ∷ ss)
+  some-left : (s : Span) (ss : List Span) → framesLeft R n ≡ s ∷ ss → Unpacks s → given (listed (ps R G H n) (tailLeft R n) (chosen (some (R .d / 2)) (ps R G H n))) ≡ outcomeLeft R n (s ∷ ss)
   unfolding chosen given listed outcomeLeft
-  some-left s ss e u = rw (chosen-yes (R .d) (hasFrame (ps R H n)) (near R H n) (good-yes R H n s ss e u) (some-piece R H n s ss e), spans-left R H n, e, unfinished-left R H n)
+  some-left s ss e u = rw (chosen-yes (R .d) (hasFrame (ps R G H n)) (near R G H n) (good-yes R G H n s ss e u) (some-piece R G H n s ss e), spans-left R G H n, e, unfinished-left R G H n)
 
-  listed-left : given (listed (ps R H n) (tailLeft R n) (chosen (some (R .d / 2)) (ps R H n))) ≡ outcomeLeft R n (framesLeft R n)
-  listed-left = go (framesLeft R n) refl (left-unpack R H n)
+  listed-left : given (listed (ps R G H n) (tailLeft R n) (chosen (some (R .d / 2)) (ps R G H n))) ≡ outcomeLeft R n (framesLeft R n)
+  listed-left = go (framesLeft R n) refl (left-unpack R G H n)
     where
-      go : (ss : List Span) → framesLeft R n ≡ ss → All Unpacks ss → given (listed (ps R H n) (tailLeft R n) (chosen (some (R .d / 2)) (ps R H n))) ≡ outcomeLeft R n ss
+      go : (ss : List Span) → framesLeft R n ≡ ss → All Unpacks ss → given (listed (ps R G H n) (tailLeft R n) (chosen (some (R .d / 2)) (ps R G H n))) ≡ outcomeLeft R n ss
       go [] e a = none-left e
       go (s ∷ ss) e (all-cons u a) = some-left s ss e u
 
   -- ---- the file
 
-  pieces-of : pieces (judged (pdusIn R (recordsLeft R n))) ≡ ps R H n
-  unfolding pieces judged judgedBy kindIn
-  pieces-of = ap (λ (l : List Pdu). run counting noCounts (judgedBy (kindIn R (recordsLeft R n)) l)) (pdus-in R (recordsLeft R n))
+  pieces-of : pieces (judgedBy rule (pdusIn R (recordsLeft R n))) ≡ ps R G H n
+  unfolding pieces
+  pieces-of = rw (in-judged rule R (recordsLeft R n))
 
-  module _ (lo : 16 ≤ n) where
-    cut-header : cut R n ≡ R .header ++ take (n - 16) (flat (rows (R .records)))
-    unfolding cut file
+  module _ (L : Lawful C) (lo : C .head ≤ n) where
+    rest : List ℕ
+    rest = take (n - C .head) (flat (rows (R .records)))
+
+    cut-header : cut R n ≡ R .header ++ rest
+    unfolding cut file rest
     cut-header = take-past n (R .header) (flat (rows (R .records))) (omega (arith, H .header .0)) ∙ rw (H .header .0)
 
-    cut-datalink : datalink (cut R n) ≡ datalink (R .header)
-    cut-datalink = rw cut-header (header-datalink (R .header) (take (n - 16) (flat (rows (R .records)))) (H .header .0))
+    cut-file : C .isFile (cut R n) ≡ true
+    cut-file = rw cut-header (L .file-front (R .header) rest (H .header .0) ∙ H .header .1)
 
-    cut-btsnoop : isBtsnoop (cut R n) ≡ true
-    cut-btsnoop = rw cut-header (header-btsnoop (R .header) (take (n - 16) (flat (rows (R .records)))) (H .header .0) ∙ H .header .1)
+    cut-link : C .linkType (cut R n) ≡ C .linkType (R .header)
+    cut-link = rw cut-header (L .link-front (R .header) rest (H .header .0))
 
-    cut-rows : records (cut R n) ≡ rows (recordsLeft R n)
+    cut-size : C .size (cut R n) ≡ C .size (R .header)
+    cut-size = rw cut-header (L .sizes-front (R .header) rest (H .header .0))
+
+    cut-packet : C .packet (cut R n) ≡ C .packet (R .header)
+    cut-packet = rw cut-header (L .packets-front (R .header) rest (H .header .0))
+
+    cut-rows : records C (cut R n) ≡ rows (recordsLeft R n)
     unfolding records
-    cut-rows = cut-records R n (H .header .0) lo (H .whole)
+    cut-rows = ap (λ (s : List ℕ → ℕ). recordsIn s (drop (C .head) (cut R n))) cut-size ∙ cut-records R L n (H .header .0) lo (H .whole)
 
-    cut-pieces : filePieces (cut R n) ≡ ps R H n
-    unfolding filePieces pdusIn
-    cut-pieces = rw (cut-datalink, cut-rows) pieces-of
+    cut-pieces : filePieces C rule (cut R n) ≡ ps R G H n
+    unfolding filePieces packetsIn pdusIn
+    cut-pieces = rw (cut-packet, cut-rows) pieces-of
 
-    cut-tail : tailOffset (cut R n) ≡ tailLeft R n
+    pub cut-tail : tailOffset C (cut R n) ≡ tailLeft R n
     unfolding tailOffset tailLeft
     cut-tail = rw cut-rows
 
-    cut-read : outcome (cut R n) (some (R .d / 2)) tolerant ≡ listed (ps R H n) (tailLeft R n) (chosen (some (R .d / 2)) (ps R H n))
-    unfolding outcome endsWell read
-    cut-read = rw (cut-btsnoop, cut-datalink, H .header .2, cut-pieces, cut-tail)
+    cut-read : (o : Options) → o .rule ≡ rule → o .channel ≡ some (R .d / 2) → endsWell C (o .tail) (cut R n) ≡ true → outcome C (cut R n) o ≡ listed (ps R G H n) (tailLeft R n) (chosen (some (R .d / 2)) (ps R G H n))
+    unfolding outcome read
+    cut-read o er ec e = rw (cut-file, cut-link, H .header .2, e, er, ec, cut-pieces, cut-tail)
 
     cut-length : length (cut R n) ≤ n
     unfolding cut
@@ -306,23 +290,27 @@ module _ (R : Recording) (H : Honest R) (n : ℕ) where
     unfolding cut
     cut-small = rw (length-take n (file R)) (omega (arith, H .small))
 
-    -- import of the cut gives what is left
-    pub cut-imported : (work : ℕ) → 8 * n ≤ work → imported (cut R n) work (some (R .d / 2)) tolerant ≡ outcomeLeft R n (framesLeft R n)
+    -- import of the cut gives what is left, where its tail rule lets it end
+    pub cut-imported : (o : Options) → o .rule ≡ rule → o .channel ≡ some (R .d / 2) → endsWell C (o .tail) (cut R n) ≡ true → (work : ℕ) → 8 * n ≤ work → imported C (cut R n) work o ≡ outcomeLeft R n (framesLeft R n)
     unfolding imported fits workSuffices
-    cut-imported work w = rw (le-leb (length (cut R n)) 1048576 cut-small, le-leb (8 * length (cut R n)) work (omega (arith, cut-length)), cut-read) listed-left
+    cut-imported o er ec e work w = rw (le-leb (length (cut R n)) 1048576 cut-small, le-leb (8 * length (cut R n)) work (omega (arith, cut-length)), cut-read o er ec e) listed-left
 
 -- ---- the claim
 
-left-met : (R : Recording) (n : ℕ) (ss : List Span) (out : List ℕ) → length (spanList ss) ≤ length out →
+left-met : {C : Container} {S : Framing} (R : RecordingOf C S) (n : ℕ) (ss : List Span) (out : List ℕ) → length (spanList ss) ≤ length out →
     (answer (outcomeLeft R n ss) (length out) ≡ answerLeft R n ss) × (output (outcomeLeft R n ss) out ≡ spanList ss ++ drop (length (spanList ss)) out)
 unfolding outcomeLeft answer output answerLeft filled spanList
 left-met R n [] out h = (refl, refl)
 left-met R n (s ∷ ss) out h = (rw le-leb, rw le-leb)
 
--- whatever meets import's definition meets the claim
-pub cut-claim : (lent : List ℕ) (work : ℕ) (channel : Option ℕ) (tail : Tail) (out : List ℕ) (a : Answer) (out′ : List ℕ) → Meets (imported lent work channel tail) out a out′ → CutClaim lent work channel tail out a out′
-unfolding listLeft
-cut-claim lent work channel tail out a out′ m R H n lo hi el ec et w room =
-    let i : imported lent work channel tail ≡ outcomeLeft R n (framesLeft R n) = rw (el, ec, et) (cut-imported R H n lo work w) in
+-- whatever meets import's definition meets the claim: for every container that keeps the laws, every framing of such wires, both channel rules
+pub cut-claim-of : {C : Container} {S : Framing} → Lawful C → Spanning S → (lent : List ℕ) (work : ℕ) (o : Options) (out : List ℕ) (a : Answer) (out′ : List ℕ) → Meets (imported C lent work o) out a out′ → CutClaimOf C S lent work o out a out′
+unfolding listLeft endsWell
+cut-claim-of {C} L G lent work o out a out′ m R H n lo hi el ec et w room =
+    let i : imported C lent work o ≡ outcomeLeft R n (framesLeft R n) = rw el (cut-imported R G H n L lo o refl ec (rw et) work w) in
     let k = left-met R n (framesLeft R n) out room in
     record { answers = m .answers ∙ rw i (k .0); writes = m .writes ∙ rw i (k .1) }
+
+-- of packed frames
+pub cut-claim : {C : Container} → Lawful C → (lent : List ℕ) (work : ℕ) (o : Options) (out : List ℕ) (a : Answer) (out′ : List ℕ) → Meets (imported C lent work o) out a out′ → CutClaim C lent work o out a out′
+cut-claim L = cut-claim-of L packed-spans

@@ -2,7 +2,7 @@
 use Prim.Native.Nat.{ℕ, _+_}
 use mathlib.Core.Path.{_≡_, refl, sym, ap, _∙_}
 use mathlib.Core.Bool.{true}
-use mathlib.Core.List.{List, [], _∷_, _++_, map, List·Memᴰ}
+use mathlib.Core.List.{List, [], _∷_, _++_, map, List·Memᴰ, append-nil}
 use mathlib.Core.Option.{Option, none, some}
 use native.Mathlib.Omega.{arith}
 use lib.ListN.{length}
@@ -10,14 +10,16 @@ use borrow.Author.Tests.{le-leb}
 use Rattle.laws.specs.Lists.{All, all-nil, all-cons}
 use Rattle.laws.specs.Numbers.{le16}
 use Rattle.laws.specs.Keys.{Key, splitK, eq-eqK, ne-eqK}
-use Rattle.laws.specs.Keyed.{put, step, run}
+use Rattle.laws.specs.Keyed.{put, step, run, after, run-append}
 use Rattle.items.specs.declared.Direction.{Direction}
-use Rattle.btsnoop.specs.Header.{datalink}
-use Rattle.btsnoop.specs.Packets.{Packet, packetOf, orNone, packets}
+use Rattle.container.specs.Container.{Container}
+use Rattle.container.specs.Packets.{Packet, orNone, packets}
 use Rattle.l2cap.specs.Pdus.{Pdu, joined, isComplete, stillOpen, pduOf, completed, packetKey, reassembly, pdus}
-use Rattle.cut.specs.Recording.{Link, Mark, free, part, last, Record, Recording, rows}
-use Rattle.cut.specs.Left.{Sent, orPassed, sent, sentIn, Data, dataKey, linkKey, ifLast, dataOf}
-use Rattle.cut.specs.Honest.{pdusIn, MarkedPdu, marking, nothingOpen, markedPdus, Joins, first, further, Fragments, stop, other, more, end}
+use Rattle.cut.specs.Recording.{LinkOf, Mark, free, part, last, Record, RecordingOf, rows, Framing}
+use Rattle.cut.specs.Left.{recordsLeft, Sent, orPassed, sent, sentIn, Data, dataKey, linkKey, ifLast, dataOf, dataLeft}
+use Rattle.cut.specs.Honest.{pdusIn, MarkedPdu, pdusOf, marking, nothingOpen, markedPdus, Joins, first, further, Fragments, stop, other, more, end}
+use Rattle.cut.specs.Parts.{Front, map-append}
+use Rattle.cut.specs.Kept.{records-front}
 
 -- ---- in two parts
 
@@ -25,10 +27,10 @@ orPassed-append : (o : Option Packet) (k : Mark) (xs ys : List Sent) → orPasse
 orPassed-append none k xs ys = refl
 orPassed-append (some p) k xs ys = refl
 
-pub sent-append : (n : ℕ) (xs ys : List Record) → sent n (xs ++ ys) ≡ sent n xs ++ sent n ys
+pub sent-append : (read : List ℕ → Option Packet) (xs ys : List Record) → sent read (xs ++ ys) ≡ sent read xs ++ sent read ys
 unfolding sent
-sent-append n [] ys = refl
-sent-append n (r ∷ xs) ys = rw (sent-append n xs ys) (orPassed-append (packetOf n (r .bytes)) (r .mark) (sent n xs) (sent n ys))
+sent-append read [] ys = refl
+sent-append read (r ∷ xs) ys = rw (sent-append read xs ys) (orPassed-append (read (r .bytes)) (r .mark) (sent read xs) (sent read ys))
 
 ifLast-append : (p : Packet) (k : Mark) (xs ys : List Data) → ifLast p k (xs ++ ys) ≡ ifLast p k xs ++ ys
 ifLast-append p free xs ys = refl
@@ -41,16 +43,13 @@ data-append [] ys = refl
 data-append (x ∷ xs) ys = rw (data-append xs ys) (ifLast-append (x .packet) (x .mark) (dataOf xs) (dataOf ys))
 
 -- a front of a trace is a trace
-pub fragments-front : {R : Recording} {σ : Key → Option (List ℕ)} (xs ys : List Sent) → Fragments R σ (xs ++ ys) → Fragments R σ xs
+pub fragments-front : {C : Container} {S : Framing} {R : RecordingOf C S} {σ : Key → Option (List ℕ)} (xs ys : List Sent) → Fragments R σ (xs ++ ys) → Fragments R σ xs
 fragments-front [] ys t = stop
 fragments-front (x ∷ xs) ys (other e t) = other e (fragments-front xs ys t)
 fragments-front (x ∷ xs) ys (more g n t) = more g n (fragments-front xs ys t)
 fragments-front (x ∷ xs) ys (end g w o t) = end g w o (fragments-front xs ys t)
 
 -- ---- marks do not matter to reassembly
-
-abbrev pub pdusOf : List MarkedPdu → List Pdu
-pdusOf qs = map (λ q. q .pdu) qs
 
 packetsOf : List Sent → List Packet
 packetsOf xs = map (λ x. x .packet) xs
@@ -69,14 +68,41 @@ unfolding packetsOf
 orNone-packets none k xs = refl
 orNone-packets (some p) k xs = refl
 
-sent-packets : (n : ℕ) (rs : List Record) → packets (packetOf n) (rows rs) ≡ packetsOf (sent n rs)
+sent-packets : (read : List ℕ → Option Packet) (rs : List Record) → packets read (rows rs) ≡ packetsOf (sent read rs)
 unfolding packets sent packetsOf
-sent-packets n [] = refl
-sent-packets n (r ∷ rs) = rw (sent-packets n rs) (orNone-packets (packetOf n (r .bytes)) (r .mark) (sent n rs))
+sent-packets read [] = refl
+sent-packets read (r ∷ rs) = rw (sent-packets read rs) (orNone-packets (read (r .bytes)) (r .mark) (sent read rs))
 
-pub pdus-in : (R : Recording) (rs : List Record) → pdusIn R rs ≡ pdusOf (markedPdus (sentIn R rs))
+pub pdus-in : {C : Container} {S : Framing} (R : RecordingOf C S) (rs : List Record) → pdusIn R rs ≡ pdusOf (markedPdus (sentIn R rs))
 unfolding pdusIn pdus markedPdus
-pdus-in R rs = rw (sent-packets (datalink (R .header)) rs, unmarked nothingOpen (sent (datalink (R .header)) rs))
+pdus-in {C} R rs = rw (sent-packets (C .packet (R .header)) rs, unmarked nothingOpen (sent (C .packet (R .header)) rs))
+
+-- the PDUs of a front are a front, with marks and without
+pub marked-append : (xs ys : List Sent) → markedPdus (xs ++ ys) ≡ markedPdus xs ++ run marking (after marking nothingOpen xs) ys
+unfolding markedPdus
+marked-append xs ys = run-append marking nothingOpen xs ys
+
+pub marked-front : {C : Container} {S : Framing} (R : RecordingOf C S) {rs ss : List Record} → Front rs ss → Front (markedPdus (sentIn R rs)) (markedPdus (sentIn R ss))
+marked-front {C} R {rs} {ss} f = record {
+  back = run marking (after marking nothingOpen (sentIn R rs)) (sentIn R (f .back));
+  whole = rw (f .whole, sent-append (C .packet (R .header)) rs (f .back)) (marked-append (sentIn R rs) (sentIn R (f .back)));
+}
+
+pub pdus-front : {C : Container} {S : Framing} (R : RecordingOf C S) {rs ss : List Record} → Front rs ss → Front (pdusIn R rs) (pdusIn R ss)
+pdus-front R {rs} {ss} f =
+    let g : Front (markedPdus (sentIn R rs)) (markedPdus (sentIn R ss)) = marked-front R f in
+    record { back = pdusOf (g .back); whole = rw (pdus-in R ss, pdus-in R rs, g .whole) (map-append (λ q. q .pdu) (markedPdus (sentIn R rs)) (g .back)) }
+
+-- the PDUs that one packet more completes
+abbrev pub marking-out : List Sent → Sent → List Pdu
+marking-out a x = completed (joined (after marking nothingOpen a (packetKey (x .packet))) (x .packet)) (x .packet)
+
+pub pdus-more : (a : List Sent) (x : Sent) → pdusOf (markedPdus (a ++ (x ∷ []))) ≡ pdusOf (markedPdus a) ++ marking-out a x
+unfolding run
+pdus-more a x =
+    let m : Key → Option (List ℕ) = after marking nothingOpen a in
+    let ps : List Pdu = completed (joined (m (packetKey (x .packet))) (x .packet)) (x .packet) in
+    rw (marked-append a (x ∷ []), map-append (λ q. q .pdu) (markedPdus a) (map (λ p. record { pdu = p; mark = x .mark }) ps ++ []), pdus-marked (x .mark) ps [], append-nil ps)
 
 -- ---- the data PDUs
 
@@ -127,7 +153,7 @@ free-data [] qs = refl
 free-data (p ∷ ps) qs = free-data ps qs
 
 -- those that come out are those that the trace carries
-pub trace-data : {R : Recording} (m : Key → Option (List ℕ)) {σ : Key → Option (List ℕ)} {xs : List Sent} → ((k : Key) → Under (m k) (σ k)) → Fragments R σ xs → dataIn (run marking m xs) ≡ dataOf xs
+pub trace-data : {C : Container} {S : Framing} {R : RecordingOf C S} (m : Key → Option (List ℕ)) {σ : Key → Option (List ℕ)} {xs : List Sent} → ((k : Key) → Under (m k) (σ k)) → Fragments R σ xs → dataIn (run marking m xs) ≡ dataOf xs
 unfolding dataIn dataOf run completed stillOpen pduOf
 trace-data m u stop = refl
 trace-data m {σ} u (other {p = p} {xs = xs} e t) =
@@ -141,14 +167,37 @@ trace-data m {σ} u (end {p = p} {xs = xs} {b = b} {i = i} g w o t) =
     (ap (λ (l : List Data). record { link = p .link; rx = p .rx; time = p .time; information = i } ∷ l)
     (trace-data (put m (packetKey p) none) (under-put m σ (packetKey p) none u) t))
 
+pub dataIn-append : (xs ys : List MarkedPdu) → dataIn (xs ++ ys) ≡ dataIn xs ++ dataIn ys
+unfolding dataIn
+dataIn-append [] ys = refl
+dataIn-append (q ∷ xs) ys = rw (dataIn-append xs ys) (ifData-append (q .pdu) (q .mark) (dataIn xs) (dataIn ys))
+  where
+    ifData-append : (p : Pdu) (k : Mark) (a b : List Data) → ifData p k (a ++ b) ≡ ifData p k a ++ b
+    ifData-append p free a b = refl
+    ifData-append p part a b = refl
+    ifData-append p (last i) a b = refl
+
+-- ---- the trace of a cut
+
+module _ {C : Container} {S : Framing} (R : RecordingOf C S) (n : ℕ) (fs : Fragments R nothingOpen (sentIn R (R .records))) where
+  pub cut-trace : Fragments R nothingOpen (sentIn R (recordsLeft R n))
+  cut-trace =
+      let f : Front (recordsLeft R n) (R .records) = records-front R n in
+      let s : sentIn R (R .records) ≡ sentIn R (recordsLeft R n) ++ sentIn R (f .back) = ap (sentIn R) (f .whole) ∙ sent-append (C .packet (R .header)) (recordsLeft R n) (f .back) in
+      fragments-front (sentIn R (recordsLeft R n)) (sentIn R (f .back)) (rw s at fs)
+
+  pub cut-data : dataIn (markedPdus (sentIn R (recordsLeft R n))) ≡ dataLeft R n
+  unfolding markedPdus dataLeft
+  cut-data = trace-data nothingOpen under-none cut-trace
+
 -- each is of a link direction
-pub record OnLink (ls : List Link) (x : Data) : Type 0 where
-  pub link : Link
+pub record OnLink {S : Framing} (ls : List (LinkOf S)) (x : Data) : Type 0 where
+  pub link : LinkOf S
   pub direction : Direction
   pub listed : List·Memᴰ link ls
   pub is : dataKey x ≡ linkKey link direction
 
-pub trace-links : {R : Recording} {σ : Key → Option (List ℕ)} {xs : List Sent} → Fragments R σ xs → All (OnLink (R .links)) (dataOf xs)
+pub trace-links : {C : Container} {S : Framing} {R : RecordingOf C S} {σ : Key → Option (List ℕ)} {xs : List Sent} → Fragments R σ xs → All (OnLink (R .links)) (dataOf xs)
 unfolding dataOf pduOf
 trace-links stop = all-nil
 trace-links (other e t) = trace-links t

@@ -1,9 +1,9 @@
 -- Wires that stand one after another, cut anywhere: the rule on a buffer gives those whose 3C has come and holds the rest.
--- A wire is any 3E .. 3C with no 3C inside and at most 65,536 bytes; whether it unpacks does not matter here.
+-- A wire is any 3E .. 3C with no 3C inside and at most 65,536 bytes.
 use Prim.Native.Nat.{ℕ, zero, suc, _+_, _-_, _≤_, _<_}
 use mathlib.Core.Path.{_≡_, refl, sym, ap, _∙_}
 use mathlib.Core.Logic.{_≢_}
-use mathlib.Core.Bool.{false}
+use mathlib.Core.Bool.{true, false}
 use mathlib.Core.List.{List, [], _∷_, _++_, append-assoc, append-nil, append-cancel-left}
 use native.Mathlib.Omega.{arith}
 use native.Mathlib.Nat.{zero-add}
@@ -13,8 +13,10 @@ use lib.Dec.{leb, ltb}
 use borrow.Author.Tests.{ne-eqb, le-leb, lt-leb, lt-ltb, le-ltb}
 use Rattle.laws.specs.Choice.{split≤, splitB}
 use Rattle.laws.specs.Lists.{flat, All, all-nil, all-cons}
+use Rattle.mdr.specs.Frame.{unpacksOf}
 use Rattle.spans.specs.Scan.{spansOf, restOf, capped}
 use Rattle.spans.specs.Bytewise.{feed, emit, held, emitted, held-append, emitted-append, quiet-nil, quiet-held, next-is, out-is}
+use Rattle.cut.specs.Recording.{Framing}
 use Rattle.cut.specs.Left.{closedIn, midFrame}
 use Rattle.cut.specs.Parts.{take-past, all-take}
 
@@ -23,6 +25,11 @@ NoEnd b = All (λ (x : ℕ). x ≢ 0x3C) b
 
 pub data Wire : List ℕ → Type 0 where
   wired : {b : List ℕ} → NoEnd b → length b ≤ 65534 → Wire (0x3E ∷ (b ++ (0x3C ∷ [])))
+
+-- a framing whose frames are such wires, and unpack: what the claim needs of it
+pub record Spanning (S : Framing) : Type 0 where
+  pub wires : (f : S .Form) → S .Allowed f → Wire (S .onWire f)
+  pub unpacks : (f : S .Form) → S .Allowed f → unpacksOf (S .onWire f) ≡ true
 
 -- a beginning of one without its end
 pub data Begun : List ℕ → Type 0 where

@@ -14,7 +14,7 @@ use Rattle.words.specs.Front.{Front, front-refl, front-then, front-word}
 use Rattle.table.specs.Table.{lookup, sumOf}
 use Rattle.table.specs.Chain.{chained-none, headed-none, bucketsOf, buckets-some, buckets-fit, Filled}
 use Rattle.table.specs.Index.{bucketAt}
-use Rattle.btsnoop.specs.Packets.{Packet}
+use Rattle.container.specs.Packets.{Packet}
 use Rattle.btsnoop.specs.PacketTable.{packetAt, packetsFrom, dataOf, Tabled}
 use Rattle.btsnoop.specs.PacketFrames.{packets-next, packets-none, data-mono, tabled-less, two-ways, packet-front, packets-front, tabled-front}
 use Rattle.l2cap.specs.Pdus.{Pdu, packetKey, reassembly, pdus}

@@ -11,7 +11,7 @@ use Rattle.laws.specs.Stores.{Writes, writes-long, Emitting, emit-start, emit-t
 use native.Mathlib.Numerals.{add-one}
 use Rattle.words.specs.Words.{word, word-of-bytes}
 use Rattle.words.specs.Front.{Front, front-then, front-sets, front-refl}
-use Rattle.btsnoop.specs.Packets.{Packet}
+use Rattle.container.specs.Packets.{Packet}
 use Rattle.btsnoop.specs.PacketTable.{packetAt, packetsFrom}
 use Rattle.btsnoop.specs.PacketFrames.{packets-next, packets-none, packets-snoc, packet-front, packets-front, tabled-less, tabled-front}
 use Rattle.l2cap.specs.Links.{soonest, soonest-from, soonest-bucket, soonest-skip, Linked, Next}

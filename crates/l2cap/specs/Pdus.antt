@@ -8,7 +8,7 @@ use lib.Dec.{leb}
 use Rattle.laws.specs.Keys.{Key}
 use Rattle.laws.specs.Keyed.{Machine, run}
 use Rattle.laws.specs.Numbers.{le16}
-use Rattle.btsnoop.specs.Packets.{Packet}
+use Rattle.container.specs.Packets.{Packet}
 
 pub record Pdu : Type 0 where
   pub link : ℕ

@@ -13,7 +13,7 @@ use Rattle.table.specs.Table.{Slot, none as no-row, some as row, lookup, sumOf}
 use Rattle.table.specs.Index.{Indexed, SeekPre, EnterPre}
 use Rattle.table.specs.Chain.{bucketsOf}
 use Rattle.table.specs.declared.Index.{Index}
-use Rattle.btsnoop.specs.Packets.{Packet}
+use Rattle.container.specs.Packets.{Packet}
 use Rattle.btsnoop.specs.PacketTable.{packetAt, packetsFrom, dataOf, Tabled}
 use Rattle.l2cap.specs.Pdus.{joined, stillOpen, completed, pduOf}
 use Rattle.l2cap.specs.PduTable.{pdusFrom, paysOf}

@@ -11,12 +11,13 @@ use Rattle.laws.specs.Answers.{Answer, accepted, refused, Outcome, answer, outp
 use Rattle.items.specs.Items.{rxOf}
 use Rattle.items.specs.declared.Direction.{Direction}
 use Rattle.items.specs.declared.Direction.the-variants.{Rx, Tx}
-use Rattle.outcome.specs.Import.{Tail, strict, tolerant, fits, workSuffices, imported}
+use Rattle.btsnoop.specs.Records.{btsnoop}
+use Rattle.outcome.specs.Import.{Tail, strict, tolerant, Options, bySource, fits, workSuffices, imported}
 use Rattle.cut.specs.Claim.{CutClaim}
 use Rattle.streams.specs.Streams.{channelOf}
 use Rattle.streams.specs.declared.Channel.{Channel}
 use Rattle.streams.specs.declared.Channel.the-variants.{Any, Only}
-use Rattle.capture.specs.Calls.{toldImported, ruleOf, Imports}
+use Rattle.capture.specs.Calls.{toldImported, tailOf, Imports}
 use Rattle.capture.specs.declared.Imported.{Imported}
 use Rattle.capture.specs.declared.Tail.{Tail as TailCase}
 use Rattle.capture.specs.declared.Tail.the-variants.{Strict, Tolerant}
@@ -39,14 +40,17 @@ unfoldable pub channelNumber : ℕ → Option ℕ
 channelNumber n = cond (leb n 255) (some n) none
 
 -- 0 is strict, any other tolerant
-unfoldable pub ruleNumber : ℕ → Tail
-ruleNumber n = cond (eqb n 0) strict tolerant
+unfoldable pub tailNumber : ℕ → Tail
+tailNumber n = cond (eqb n 0) strict tolerant
+
+abbrev pub optionsNumber : ℕ → ℕ → Options
+optionsNumber channel tail = bySource (channelNumber channel) (tailNumber tail)
 
 -- Answer and output by the definition; work is unchanged after 1 and 2; and the claim of the cut.
-pub record ImportCalls (f w out : List ℕ) (channel rule : ℕ) (v : List ℕ) (r : ℕ) (w′ out′ v′ : List ℕ) : Type 0 where
-  pub calls : Calls (imported f (length w) (channelNumber channel) (ruleNumber rule)) out out′ v r v′
+pub record ImportCalls (f w out : List ℕ) (channel tail : ℕ) (v : List ℕ) (r : ℕ) (w′ out′ v′ : List ℕ) : Type 0 where
+  pub calls : Calls (imported btsnoop f (length w) (optionsNumber channel tail)) out out′ v r v′
   pub spared : (fits f && workSuffices f (length w)) ≡ false → w′ ≡ w
-  pub cut : CutClaim f (length w) (channelNumber channel) (ruleNumber rule) out (answer (imported f (length w) (channelNumber channel) (ruleNumber rule)) (length out)) out′
+  pub cut : CutClaim btsnoop f (length w) (optionsNumber channel tail) out (answer (imported btsnoop f (length w) (optionsNumber channel tail)) (length out)) out′
 
 -- a name's direction by number
 pub named-calls :
@@ -61,11 +65,11 @@ named-calls ms counter way d e wire out n out′ m v s p v′ q =
     }
 
 pub import-calls :
-    (f w out : List ℕ) (channel rule : ℕ) (c : Channel) (t : TailCase) → channelOf c ≡ channelNumber channel → ruleOf t ≡ ruleNumber rule →
+    (f w out : List ℕ) (channel tail : ℕ) (c : Channel) (t : TailCase) → channelOf c ≡ channelNumber channel → tailOf t ≡ tailNumber tail →
     (i : Imported) (w′ out′ : List ℕ) → Imports f w c t out i w′ out′ → (v : List ℕ) (r : ℕ) (v′ : List ℕ) → Tells (toldImported i) v r v′ →
-    ImportCalls f w out channel rule v r w′ out′ v′
-import-calls f w out channel rule c t ec et i w′ out′ m v r v′ s =
-    let p : toldImported i ≡ answer (imported f (length w) (channelNumber channel) (ruleNumber rule)) (length out) = rw (ec, et) at (m .meets .answers) in
+    ImportCalls f w out channel tail v r w′ out′ v′
+import-calls f w out channel tail c t ec et i w′ out′ m v r v′ s =
+    let p : toldImported i ≡ answer (imported btsnoop f (length w) (optionsNumber channel tail)) (length out) = rw (ec, et) at (m .meets .answers) in
     record {
       calls = record { writes = rw (ec, et) at (m .meets .writes); tells = rw p at s };
       spared = m .spared;
@@ -88,13 +92,13 @@ pub channel-any : (n : ℕ) → 255 < n → channelOf Any ≡ channelNumber n
 unfolding channelOf channelNumber
 channel-any n h = rw (lt-leb n 255 h)
 
-pub rule-strict : (n : ℕ) → n ≡ 0 → ruleOf Strict ≡ ruleNumber n
-unfolding ruleNumber
-rule-strict n e = rw (eq-eqb n 0 e)
+pub tail-strict : (n : ℕ) → n ≡ 0 → tailOf Strict ≡ tailNumber n
+unfolding tailNumber
+tail-strict n e = rw (eq-eqb n 0 e)
 
-pub rule-tolerant : (n : ℕ) → (n ≡ 0 → ⊥) → ruleOf Tolerant ≡ ruleNumber n
-unfolding ruleNumber
-rule-tolerant n e = rw (ne-eqb n 0 e)
+pub tail-tolerant : (n : ℕ) → (n ≡ 0 → ⊥) → tailOf Tolerant ≡ tailNumber n
+unfolding tailNumber
+tail-tolerant n e = rw (ne-eqb n 0 e)
 
 pub bit-true : (b t : Bool) → b ≡ t → b ≡ true → 1 ≡ bit t
 bit-true b t e q = rw (sym e ∙ q)

@@ -5,7 +5,7 @@ ghost use mathlib.Core.List.{[], _∷_};
 ghost use Prim.Native.Nat.{_≤_};
 ghost use lib.ListN.{set, take};
 ghost use Rattle.btsnoop.specs.Listing.{toldListed};
-ghost use Rattle.capture.specs.Calls.{toldImported, ruleOf};
+ghost use Rattle.capture.specs.Calls.{toldImported, tailOf};
 ghost use Rattle.fixtures.specs.Plan.{planOf};
 ghost use Rattle.fixtures.specs.Told.{toldPlanned};
 ghost use Rattle.items.specs.Items.{rxOf};
@@ -17,7 +17,7 @@ ghost use Rattle.names.specs.Told.{toldNamed};
 ghost use Rattle.order.specs.Order.{captureOrder, toldOrdered};
 ghost use Rattle.streams.specs.Streams.{channelOf};
 ghost use Rattle.lumbryth.specs.Calls.{numberOf, valuesOf, stored, Calls, Shows, Tells};
-ghost use Rattle.lumbryth.specs.Imports.{bit, wayOf, channelNumber, ruleNumber, ImportCalls};
+ghost use Rattle.lumbryth.specs.Imports.{bit, wayOf, channelNumber, tailNumber, ImportCalls};
 ghost use Rattle.lumbryth.specs.RecordCalls.{RecordsCalls};
 ghost use Rattle.lumbryth.specs.Stretches.{ToldIn, StretchCalls};
 
@@ -254,7 +254,7 @@ fn channel_of(channel: u32) -> streams::Channel
 
 // The tail rule by number: 0 is strict, any other tolerant.
 fn tail_of(tolerant: u32) -> capture::Tail
-    ensures { λ r. ⌜ ruleOf r ≡ ruleNumber tolerant ⌝ }
+    ensures { λ r. ⌜ tailOf r ≡ tailNumber tolerant ⌝ }
 {
     if tolerant == 0 {
         return capture::Tail::Strict;

@@ -14,16 +14,19 @@ use Rattle.items.specs.Items.{Span, item, spanItem, spanList}
 use Rattle.mdr.specs.Frame.{judged as judgedFrame, unpackOf, unpacksOf}
 use Rattle.mdr.specs.Sum.{checksumOf}
 use Rattle.btsnoop.specs.Header.{isBtsnoop, datalink, isDatalink}
-use Rattle.btsnoop.specs.Records.{recordSize, isWhole, recordsIn, records, tailOffset}
-use Rattle.btsnoop.specs.Packets.{milliseconds, fragment, hciPacket, monitorPacket, packetOf, packets}
+use Rattle.container.specs.Packets.{fragment, h4Packet, packets}
+use Rattle.container.specs.Container.{isWhole, recordsIn, records, tailOffset, packetsIn}
+use Rattle.btsnoop.specs.Records.{recordSize, btsnoop}
+use Rattle.btsnoop.specs.Packets.{milliseconds, hciPacket, monitorPacket, packetOf}
 use Rattle.l2cap.specs.Pdus.{joined, isComplete, stillOpen, pduOf, completed, pdus}
 use Rattle.channels.specs.Signals.{commandSize, isCommand, commands, body, signalOf, signalsIn, pduSignals, signals}
 use Rattle.channels.specs.Channels.{any, names, named, asksFor, admits, admittedAfter, admitted, isTried, asksRfcomm, asksSession}
+use Rattle.channels.specs.Tried.{triedBy}
 use Rattle.rfcomm.specs.Frames.{isSabm, isUih, shortLength, infoLength, infoStart, creditOf, frameOf}
-use Rattle.rfcomm.specs.Pieces.{uihKind, frameKind, kindOf, judged, counted, pieceOf, brought, pieces}
+use Rattle.rfcomm.specs.Pieces.{uihKind, frameKind, kindBy, judgedFrom, judgedBy, counted, pieceOf, brought, pieces}
 use Rattle.spans.specs.Scan.{seek, spansN, restN, spansOf, restOf, capped}
 use Rattle.spans.specs.Spans.{spans, unfinished, onDlci}
-use Rattle.outcome.specs.Import.{Tail, strict, tolerant, onChannel, first, hasFrame, chosen, Found, found, missing, listed, filePieces, read, endsWell, outcome, given, fits, workSuffices, placesSuffice, imported, importedIn}
+use Rattle.outcome.specs.Import.{Tail, strict, tolerant, bySource, onChannel, first, hasFrame, chosen, Found, found, missing, listed, filePieces, read, endsWell, outcome, given, fits, workSuffices, placesSuffice, imported, importedIn}
 
 abbrev pub sample : List ℕ
 sample =
@@ -37,10 +40,10 @@ abbrev frame : List ℕ
 frame = 0x3E ∷ 0x01 ∷ 0x00 ∷ 0x00 ∷ 0x00 ∷ 0x00 ∷ 0x00 ∷ 0x01 ∷ 0x3C ∷ []
 
 pub example :
-    (outcome sample none strict ≡ found 18 (record { rx = 1; time = 0; wire = frame } ∷ []) 0 62) ×
-    (outcome (take 61 sample) none strict ≡ missing 5 (16 ∷ [])) ×
-    (outcome (take 61 sample) none tolerant ≡ missing 6 [])
-unfolding outcome isBtsnoop datalink isDatalink endsWell read tailOffset records recordsIn chop chopFrom isWhole recordSize be32 be64 le16 eqK filePieces packets packetOf milliseconds fragment hciPacket monitorPacket pdus run after joined isComplete stillOpen pduOf completed commandSize isCommand commands body signalOf signalsIn pduSignals signals any names named asksFor admits admittedAfter admitted isTried asksRfcomm asksSession isSabm isUih shortLength infoLength infoStart creditOf frameOf uihKind frameKind kindOf judged counted pieceOf brought pieces seek spansN restN spansOf restOf capped spans unfinished onDlci count nub mem onChannel first hasFrame chosen listed unpacksOf unpackOf judgedFrame isGiven checksumOf
+    (outcome btsnoop sample (bySource none strict) ≡ found 18 (record { rx = 1; time = 0; wire = frame } ∷ []) 0 62) ×
+    (outcome btsnoop (take 61 sample) (bySource none strict) ≡ missing 5 (16 ∷ [])) ×
+    (outcome btsnoop (take 61 sample) (bySource none tolerant) ≡ missing 6 [])
+unfolding outcome isBtsnoop datalink isDatalink endsWell read tailOffset records recordsIn chop chopFrom isWhole recordSize be32 be64 le16 eqK filePieces packetsIn packets packetOf milliseconds fragment h4Packet hciPacket monitorPacket pdus run after joined isComplete stillOpen pduOf completed commandSize isCommand commands body signalOf signalsIn pduSignals signals any names named asksFor admits admittedAfter admitted isTried asksRfcomm asksSession isSabm isUih shortLength infoLength infoStart creditOf frameOf uihKind frameKind kindBy triedBy judgedFrom judgedBy counted pieceOf brought pieces seek spansN restN spansOf restOf capped spans unfinished onDlci count nub mem onChannel first hasFrame chosen listed unpacksOf unpackOf judgedFrame isGiven checksumOf
 example = (refl, refl, refl)
 
 -- the header of another datalink, 1000
@@ -49,13 +52,13 @@ other = take 14 sample ++ (0x03 ∷ 0xE8 ∷ [])
 
 -- 2: work, or places for stretches; 3; 4; 5; 6: no record, or another channel; 7
 pub refusals :
-    (imported sample 495 none strict ≡ refuses 2 []) ×
-    (importedIn sample 496 1 none strict ≡ refuses 2 []) ×
-    (imported (take 15 sample) 120 none strict ≡ refuses 3 []) ×
-    (imported other 128 none strict ≡ refuses 4 (1000 ∷ [])) ×
-    (imported (take 61 sample) 488 none strict ≡ refuses 5 (16 ∷ [])) ×
-    (imported (take 16 sample) 128 none strict ≡ refuses 6 []) ×
-    (imported sample 496 (some 8) strict ≡ refuses 6 []) ×
-    (answer (imported sample 496 (some 9) strict) 22 ≡ refused 7 (23 ∷ []))
-unfolding outcome isBtsnoop datalink isDatalink endsWell read tailOffset records recordsIn chop chopFrom isWhole recordSize be32 be64 le16 eqK filePieces packets packetOf milliseconds fragment hciPacket monitorPacket pdus run after joined isComplete stillOpen pduOf completed commandSize isCommand commands body signalOf signalsIn pduSignals signals any names named asksFor admits admittedAfter admitted isTried asksRfcomm asksSession isSabm isUih shortLength infoLength infoStart creditOf frameOf uihKind frameKind kindOf judged counted pieceOf brought pieces seek spansN restN spansOf restOf capped spans unfinished onDlci count nub mem onChannel first hasFrame chosen listed unpacksOf unpackOf judgedFrame isGiven checksumOf imported importedIn fits workSuffices placesSuffice given answer item spanItem spanList le32 le64
+    (imported btsnoop sample 495 (bySource none strict) ≡ refuses 2 []) ×
+    (importedIn btsnoop sample 496 1 (bySource none strict) ≡ refuses 2 []) ×
+    (imported btsnoop (take 15 sample) 120 (bySource none strict) ≡ refuses 3 []) ×
+    (imported btsnoop other 128 (bySource none strict) ≡ refuses 4 (1000 ∷ [])) ×
+    (imported btsnoop (take 61 sample) 488 (bySource none strict) ≡ refuses 5 (16 ∷ [])) ×
+    (imported btsnoop (take 16 sample) 128 (bySource none strict) ≡ refuses 6 []) ×
+    (imported btsnoop sample 496 (bySource (some 8) strict) ≡ refuses 6 []) ×
+    (answer (imported btsnoop sample 496 (bySource (some 9) strict)) 22 ≡ refused 7 (23 ∷ []))
+unfolding outcome isBtsnoop datalink isDatalink endsWell read tailOffset records recordsIn chop chopFrom isWhole recordSize be32 be64 le16 eqK filePieces packetsIn packets packetOf milliseconds fragment h4Packet hciPacket monitorPacket pdus run after joined isComplete stillOpen pduOf completed commandSize isCommand commands body signalOf signalsIn pduSignals signals any names named asksFor admits admittedAfter admitted isTried asksRfcomm asksSession isSabm isUih shortLength infoLength infoStart creditOf frameOf uihKind frameKind kindBy triedBy judgedFrom judgedBy counted pieceOf brought pieces seek spansN restN spansOf restOf capped spans unfinished onDlci count nub mem onChannel first hasFrame chosen listed unpacksOf unpackOf judgedFrame isGiven checksumOf imported importedIn fits workSuffices placesSuffice given answer item spanItem spanList le32 le64
 refusals = (refl, refl, refl, refl, refl, refl, refl, refl)

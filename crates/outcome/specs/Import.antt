@@ -10,16 +10,28 @@ use Rattle.laws.specs.Choice.{splitB}
 use Rattle.laws.specs.Answers.{Answer, Outcome, gives, refuses, Meets}
 use Rattle.items.specs.Items.{Span, spanList}
 use Rattle.mdr.specs.Frame.{unpacksOf}
-use Rattle.btsnoop.specs.Header.{isBtsnoop, datalink, isDatalink}
-use Rattle.btsnoop.specs.Records.{records, tailOffset}
-use Rattle.btsnoop.specs.Packets.{packetOf, packets}
+use Rattle.container.specs.Container.{Container, tailOffset, packetsIn}
 use Rattle.l2cap.specs.Pdus.{pdus}
 use Rattle.channels.specs.Channels.{any}
-use Rattle.rfcomm.specs.Pieces.{Piece, judged, pieces}
+use Rattle.channels.specs.Tried.{ChannelRule, source}
+use Rattle.rfcomm.specs.Pieces.{Piece, judgedBy, pieces}
 use Rattle.spans.specs.Spans.{spans, unfinished, onDlci}
 
 pub data Tail : Type 0 where
   strict tolerant : Tail
+
+-- what the caller chooses, beside the file and the buffers
+pub record Options : Type 0 where
+  -- a channel (0 to 255, or none)
+  pub channel : Option ℕ
+  -- a tail rule (strict or tolerant)
+  pub tail : Tail
+  -- a channel rule (the source's, or Bluetooth Core's: document 02, job 10)
+  pub rule : ChannelRule
+
+-- document 01's import: by the source's channel rule
+abbrev pub bySource : Option ℕ → Tail → Options
+bySource channel tail = record { channel = channel; tail = tail; rule = source }
 
 -- a given channel is the DLCI divided by 2
 unfoldable pub onChannel : Option ℕ → ℕ → Bool
@@ -48,26 +60,29 @@ unfoldable pub listed : List Piece → ℕ → Option ℕ → Found
 listed ps tail none = missing 6 []
 listed ps tail (some d) = found d (spans (onDlci d ps)) (unfinished (onDlci d ps)) tail
 
--- the pieces that a file's whole records bring
-unfoldable pub filePieces : List ℕ → List Piece
-filePieces f = pieces (judged (pdus (packets (packetOf (datalink f)) (records f))))
+-- ---- a file of a container
 
-unfoldable pub read : List ℕ → Option ℕ → Found
-read f channel = listed (filePieces f) (tailOffset f) (chosen channel (filePieces f))
+module _ (C : Container) where
+  -- the pieces that a file's whole records bring, by a channel rule
+  unfoldable pub filePieces : ChannelRule → List ℕ → List Piece
+  filePieces rule f = pieces (judgedBy rule (pdus (packetsIn C f)))
 
--- 5, strict only: a record passes the end
-unfoldable pub endsWell : Tail → List ℕ → Bool
-endsWell strict f = eqb (tailOffset f) (length f)
-endsWell tolerant f = true
+  unfoldable pub read : List ℕ → Options → Found
+  read f o = listed (filePieces (o .rule) f) (tailOffset C f) (chosen (o .channel) (filePieces (o .rule) f))
 
--- 3, 4, 5, 6
-unfoldable pub outcome : List ℕ → Option ℕ → Tail → Found
-outcome f channel tail =
-    cond (isBtsnoop f)
-    (cond (isDatalink (datalink f))
-    (cond (endsWell tail f) (read f channel) (missing 5 (tailOffset f ∷ [])))
-    (missing 4 (datalink f ∷ [])))
-    (missing 3 [])
+  -- 5, strict only: a record passes the end
+  unfoldable pub endsWell : Tail → List ℕ → Bool
+  endsWell strict f = eqb (tailOffset C f) (length f)
+  endsWell tolerant f = true
+
+  -- 3 (pcap: 21), 4 (22), 5, 6
+  unfoldable pub outcome : List ℕ → Options → Found
+  outcome f o =
+      cond (C .isFile f)
+      (cond (C .isTaken (C .linkType f))
+      (cond (endsWell (o .tail) f) (read f o) (missing 5 (tailOffset C f ∷ [])))
+      (missing (C .untaken) (C .linkType f ∷ [])))
+      (missing (C .foreign) [])
 
 unfoldable pub given : Found → Outcome
 given (found d ss u tail) = gives (d ∷ length ss ∷ u ∷ tail ∷ length (spanList ss) ∷ []) (spanList ss)
@@ -81,25 +96,26 @@ fits f = leb (length f) 1048576
 unfoldable pub workSuffices : List ℕ → ℕ → Bool
 workSuffices f work = leb (8 * length f) work
 
--- 1 to 6; 7 is checked last, as for every call that writes
-unfoldable pub imported : List ℕ → ℕ → Option ℕ → Tail → Outcome
-imported f work channel tail =
-    cond (fits f)
-    (cond (workSuffices f work) (given (outcome f channel tail)) (refuses 2 []))
-    (refuses 1 [])
-
 -- 2 too: fewer places lent for stretches than the file length divided by 24
 unfoldable pub placesSuffice : List ℕ → ℕ → Bool
 placesSuffice f places = leb (length f / 24) places
 
--- the same with a lent list of stretches, of so many places
-unfoldable pub importedIn : List ℕ → ℕ → ℕ → Option ℕ → Tail → Outcome
-importedIn f work places channel tail =
-    cond (fits f)
-    (cond (placesSuffice f places) (imported f work channel tail) (refuses 2 []))
-    (refuses 1 [])
+module _ (C : Container) where
+  -- 1 to 6; 7 is checked last, as for every call that writes
+  unfoldable pub imported : List ℕ → ℕ → Options → Outcome
+  imported f work o =
+      cond (fits f)
+      (cond (workSuffices f work) (given (outcome C f o)) (refuses 2 []))
+      (refuses 1 [])
 
--- with enough places it is the same on every input
-pub same-in : (f : List ℕ) (work places : ℕ) (channel : Option ℕ) (tail : Tail) → placesSuffice f places ≡ true → importedIn f work places channel tail ≡ imported f work channel tail
-unfolding importedIn imported
-same-in f work places channel tail h = splitB (fits f) (λ e. rw (e, h)) (λ e. rw e)
+  -- the same with a lent list of stretches, of so many places
+  unfoldable pub importedIn : List ℕ → ℕ → ℕ → Options → Outcome
+  importedIn f work places o =
+      cond (fits f)
+      (cond (placesSuffice f places) (imported f work o) (refuses 2 []))
+      (refuses 1 [])
+
+  -- with enough places it is the same on every input
+  pub same-in : (f : List ℕ) (work places : ℕ) (o : Options) → placesSuffice f places ≡ true → importedIn f work places o ≡ imported f work o
+  unfolding importedIn imported
+  same-in f work places o h = splitB (fits f) (λ e. rw (e, h)) (λ e. rw e)

@@ -21,7 +21,7 @@ use Rattle.l2cap.specs.PduFrames.{Lent, reassembled-lent, pdus-next, pdus-none,
 use Rattle.channels.specs.Signals.{Signal, signals}
 use Rattle.channels.specs.ChannelTable.{Tells}
 use Rattle.channels.specs.Passing.{Signalled, Tries, signalled-front}
-use Rattle.rfcomm.specs.Pieces.{Kind, asks, opens, carries, passed, kindOf, Judged, judged, Counts, counted, Piece, pieceOf, brought, counting, noCounts, pieces}
+use Rattle.rfcomm.specs.Pieces.{Kind, asks, opens, carries, passed, kindOf, judged, told, judged-is, Counts, counted, Piece, pieceOf, brought, counting, noCounts, pieces}
 use Rattle.rfcomm.specs.PieceTable.{pieceAt, piecesFrom, infosOf, Within, Pieced}
 use Rattle.rfcomm.specs.CountTable.{valueOf, UpPre, Counted, counted-start, counted-agree, counted-none, counted-session, counted-link}
 use Rattle.rfcomm.specs.PieceRows.{rowOf, row-long, PutPre, partPiece, row-len, row-piece, row-within, within-front, pieces-front, infos-front, pieces-snoc}
@@ -305,10 +305,6 @@ pub record ReadPieces (f w : List ℕ) (made : ℕ) (u : List ℕ) (r : ℕ) : T
   pub pieced : Pieced f u r (pieces (judged (pdusFrom f w (2 * (length f / 4)) 0 made)))
   pub size : length u ≡ length w
 
--- a PDU with its kind
-abbrev pub told : List Signal → Pdu → Judged
-told ss p = record { pdu = p; kind = kindOf ss p }
-
 pub record Gathering (f : List ℕ) (ps : List Pdu) (w₀ w : List ℕ) (made rows : ℕ) (t : Taken) (j : ℕ) : Type 0 where
   pub all : j ≤ made
   pub signalled : Signalled f w made ps rows
@@ -322,7 +318,7 @@ pub record Gathering (f : List ℕ) (ps : List Pdu) (w₀ w : List ℕ) (made ro
   pub size : length w ≡ length w₀
 
 pub gather-start : (f w : List ℕ) (made rows : ℕ) → PiecesPre f w made rows → Gathering f (pdusFrom f w (2 * (length f / 4)) 0 made) w w made rows (record { counts = 0; pieces = 0 }) 0
-unfolding piecesFrom infosOf paysOf pieces judged
+unfolding piecesFrom infosOf paysOf pieces
 gather-start f w made rows p =
     let z : made - 0 ≡ made = omega arith in
     record {
@@ -334,7 +330,7 @@ gather-start f w made rows p =
       took = omega arith;
       within = λ i h. absurd (omega arith);
       few = omega arith;
-      same = rw z;
+      same = rw (z, judged-is (pdusFrom f w (2 * (length f / 4)) 0 made));
       size = refl;
     }
 

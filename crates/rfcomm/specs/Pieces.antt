@@ -1,7 +1,8 @@
 -- Sessions and links for each handle, and the pieces of information with the stretch that each belongs to.
 use Prim.Native.Nat.{ℕ, zero, suc, _+_}
 use mathlib.Core.Bool.{Bool, cond, _&&_}
-use mathlib.Core.List.{List, [], _∷_, map}
+use mathlib.Core.Path.{_≡_, refl}
+use mathlib.Core.List.{List, [], _∷_, _++_, map}
 use lib.ListN.{length}
 use lib.Dec.{ltb, eqb}
 use Rattle.laws.specs.Keys.{Key}
@@ -9,6 +10,7 @@ use Rattle.laws.specs.Keyed.{Machine, run}
 use Rattle.l2cap.specs.Pdus.{Pdu}
 use Rattle.channels.specs.Signals.{Signal, signals}
 use Rattle.channels.specs.Channels.{isTried, asksSession}
+use Rattle.channels.specs.Tried.{ChannelRule, source, triedBy}
 use Rattle.rfcomm.specs.Frames.{Uih, Frame, sabm, uih, other, frameOf}
 
 -- what a PDU is once it is judged
@@ -30,16 +32,43 @@ frameKind (sabm e) = opens e
 frameKind (uih u) = uihKind u
 frameKind other = passed
 
-unfoldable pub kindOf : List Signal → Pdu → Kind
-kindOf ss p = cond (asksSession p) asks (cond (isTried ss p) (frameKind (frameOf (p .payload))) passed)
+-- what a PDU is by the PDUs up to and with it, and by all
+unfoldable pub kindBy : ChannelRule → List Pdu → List Pdu → Pdu → Kind
+kindBy rule upTo all p = cond (asksSession p) asks (cond (triedBy rule upTo all p) (frameKind (frameOf (p .payload))) passed)
 
 pub record Judged : Type 0 where
   pub pdu : Pdu
   pub kind : Kind
 
--- channels are judged by the signals of the whole file
+-- each PDU at its place, after those before
+unfoldable pub judgedFrom : ChannelRule → List Pdu → List Pdu → List Pdu → List Judged
+judgedFrom rule all before [] = []
+judgedFrom rule all before (p ∷ ps) = record { pdu = p; kind = kindBy rule (before ++ (p ∷ [])) all p } ∷ judgedFrom rule all (before ++ (p ∷ [])) ps
+
+-- a file's PDUs, judged
+unfoldable pub judgedBy : ChannelRule → List Pdu → List Judged
+judgedBy rule ps = judgedFrom rule ps [] ps
+
+-- by the source's rule
 unfoldable pub judged : List Pdu → List Judged
-judged ps = map (λ p. record { pdu = p; kind = kindOf (signals ps) p }) ps
+judged ps = judgedBy source ps
+
+-- ---- by the source's rule the place of a PDU does not matter, only the signals of the whole file
+
+unfoldable pub kindOf : List Signal → Pdu → Kind
+kindOf ss p = cond (asksSession p) asks (cond (isTried ss p) (frameKind (frameOf (p .payload))) passed)
+
+abbrev pub told : List Signal → Pdu → Judged
+told ss p = record { pdu = p; kind = kindOf ss p }
+
+from-source : (all before ps : List Pdu) → judgedFrom source all before ps ≡ map (told (signals all)) ps
+unfolding judgedFrom kindBy triedBy kindOf
+from-source all before [] = refl
+from-source all before (p ∷ ps) = rw (from-source all (before ++ (p ∷ [])) ps)
+
+pub judged-is : (ps : List Pdu) → judged ps ≡ map (told (signals ps)) ps
+unfolding judged judgedBy
+judged-is ps = from-source ps [] ps
 
 -- sessions of a handle, and links of that handle for each DLCI
 pub record Counts : Type 0 where

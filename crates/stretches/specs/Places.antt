@@ -8,13 +8,15 @@ use lib.ListN.{length}
 use borrow.Author.Tests.{le-leb, lt-leb}
 use Rattle.laws.specs.Choice.{splitB, no-way}
 use Rattle.laws.specs.Answers.{Answer, Outcome, refuses, Meets, meets-refused, meets-as}
+use Rattle.btsnoop.specs.Records.{btsnoop}
+use Rattle.btsnoop.proofs.Laws.{lawful}
 use Rattle.outcome.specs.Import.{fits, workSuffices, placesSuffice, imported, importedIn, same-in}
 use Rattle.cut.specs.Claim.{CutClaim}
 use Rattle.cut.specs.Theorem.{cut-claim}
 use Rattle.split.specs.declared.Plan.{Plan}
-use Rattle.streams.specs.Streams.{channelOf, planOf}
+use Rattle.streams.specs.Streams.{planOf}
 use Rattle.streams.specs.declared.Channel.{Channel}
-use Rattle.capture.specs.Calls.{toldImported, ruleOf, Imports}
+use Rattle.capture.specs.Calls.{toldImported, optionsOf, Imports}
 use Rattle.capture.specs.declared.Imported.{Imported}
 use Rattle.capture.specs.declared.Imported.the-variants.{FileLong, WorkShort}
 use Rattle.capture.specs.declared.Tail.{Tail}
@@ -25,18 +27,18 @@ suffices f work places = fits f && (workSuffices f work && placesSuffice f place
 
 -- Answer and output by the definition; work is unchanged after 1 and 2, and no stretch is listed; and with enough places the claim of the cut.
 pub record ImportsIn (f w : List ℕ) (places : ℕ) (channel : Channel) (tail : Tail) (out : List ℕ) (r : Imported) (listed : ℕ) (w′ out′ : List ℕ) : Type 0 where
-  pub meets : Meets (importedIn f (length w) places (channelOf channel) (ruleOf tail)) out (toldImported r) out′
+  pub meets : Meets (importedIn btsnoop f (length w) places (optionsOf channel tail)) out (toldImported r) out′
   pub spared : suffices f (length w) places ≡ false → w′ ≡ w
   pub none : suffices f (length w) places ≡ false → listed ≡ 0
   pub few : listed ≤ places
-  pub cut : placesSuffice f places ≡ true → CutClaim f (length w) (channelOf channel) (ruleOf tail) out (toldImported r) out′
+  pub cut : placesSuffice f places ≡ true → CutClaim btsnoop f (length w) (optionsOf channel tail) out (toldImported r) out′
 
 module _ (f w : List ℕ) (places : ℕ) (channel : Channel) (tail : Tail) (out : List ℕ) where
   abbrev O : Outcome
-  O = importedIn f (length w) places (channelOf channel) (ruleOf tail)
+  O = importedIn btsnoop f (length w) places (optionsOf channel tail)
 
-  cut-in : (r : Imported) (out′ : List ℕ) → Meets O out (toldImported r) out′ → placesSuffice f places ≡ true → CutClaim f (length w) (channelOf channel) (ruleOf tail) out (toldImported r) out′
-  cut-in r out′ m h = cut-claim f (length w) (channelOf channel) (ruleOf tail) out (toldImported r) out′ (rw (same-in f (length w) places (channelOf channel) (ruleOf tail) h) at m)
+  cut-in : (r : Imported) (out′ : List ℕ) → Meets O out (toldImported r) out′ → placesSuffice f places ≡ true → CutClaim btsnoop f (length w) (optionsOf channel tail) out (toldImported r) out′
+  cut-in r out′ m h = cut-claim lawful f (length w) (optionsOf channel tail) out (toldImported r) out′ (rw (same-in btsnoop f (length w) places (optionsOf channel tail) h) at m)
 
   refused-in : (r : Imported) → Meets O out (toldImported r) out → ImportsIn f w places channel tail out r 0 w out
   refused-in r m = record { meets = m; spared = λ e. refl; none = λ e. refl; few = omega arith; cut = cut-in r out m }
@@ -58,7 +60,7 @@ module _ (f w : List ℕ) (places : ℕ) (channel : Channel) (tail : Tail) (out 
   in-met h g k r v out′ m listed few w′ =
       let q : placesSuffice f places ≡ true = le-leb (length f / 24) places k in
       let s : suffices f (length w) places ≡ true = rw (le-leb (length f) 1048576 h, le-leb (8 * length f) (length w) g, le-leb (length f / 24) places k) in
-      let p = meets-as O (imported f (length w) (channelOf channel) (ruleOf tail)) out (same-in f (length w) places (channelOf channel) (ruleOf tail) q) (m .meets) in
+      let p = meets-as O (imported btsnoop f (length w) (optionsOf channel tail)) out (same-in btsnoop f (length w) places (optionsOf channel tail) q) (m .meets) in
       record { meets = p; spared = λ e. no-way s e; none = λ e. no-way s e; few = few; cut = cut-in r out′ p }
 
 -- the plan's number of pieces

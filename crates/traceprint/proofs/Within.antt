@@ -2,7 +2,6 @@
 use Prim.Native.Nat.{ℕ, _+_, _-_, _<_, _≤_}
 use mathlib.Core.Path.{_≡_, sym, _∙_}
 use mathlib.Core.List.{List, [], _∷_, _++_}
-use mathlib.Core.Option.{Option}
 use native.Mathlib.Omega.{arith}
 use lib.Dec.{leb}
 use lib.ListN.{length, drop, length-append}
@@ -14,16 +13,16 @@ use Rattle.items.specs.Items.{Listed, wellFormed, illFormed, Span, spansIn, nam
 use Rattle.items.specs.Walks.{stepAt, end-past}
 use Rattle.items.specs.declared.Step.{Step}
 use Rattle.items.specs.declared.Step.the-variants.{Whole, Passes, End}
-use Rattle.outcome.specs.Import.{Found, found, missing, fits, workSuffices, outcome, imported}
+use Rattle.btsnoop.specs.Records.{btsnoop}
+use Rattle.outcome.specs.Import.{Found, found, missing, Options, fits, workSuffices, outcome, imported}
 use Rattle.outcome.specs.Import as import
 use Rattle.fixtures.specs.Plan.{plans, planOf}
 use Rattle.fixtures.specs.Plan as plan
 use Rattle.fixtures.specs.Told.{toldPlanned}
 use Rattle.fixtures.specs.declared.Planned.{Planned}
 use Rattle.fixtures.specs.declared.Planned.the-variants.{Wrote}
-use Rattle.streams.specs.Streams.{channelOf}
 use Rattle.streams.specs.declared.Channel.{Channel}
-use Rattle.capture.specs.Calls.{ruleOf, Imports}
+use Rattle.capture.specs.Calls.{optionsOf, Imports}
 use Rattle.capture.specs.declared.Imported.{Imported}
 use Rattle.capture.specs.declared.Imported.the-variants.{Spans}
 use Rattle.capture.specs.declared.Tail.{Tail}
@@ -92,19 +91,19 @@ unfolding import.given
 found-last (found d′ ss u′ t′) d n u t k w e = cc
 found-last (missing m vs) d n u t k w e = not-given e
 
-imported-last : (f : List ℕ) (work : ℕ) (channel : Option ℕ) (tail : import.Tail) (d n u t k : ℕ) (w : List ℕ) → imported f work channel tail ≡ gives (d ∷ n ∷ u ∷ t ∷ k ∷ []) w → k ≡ length w
+imported-last : (f : List ℕ) (work : ℕ) (o : Options) (d n u t k : ℕ) (w : List ℕ) → imported btsnoop f work o ≡ gives (d ∷ n ∷ u ∷ t ∷ k ∷ []) w → k ≡ length w
 unfolding imported
-imported-last f work channel tail d n u t k w e =
+imported-last f work o d n u t k w e =
     splitB (fits f)
     (λ a. splitB (workSuffices f work)
-    (λ b. found-last (outcome f channel tail) d n u t k w (rw (a, b) at e))
+    (λ b. found-last (outcome btsnoop f o) d n u t k w (rw (a, b) at e))
     (λ b. not-given (rw (a, b) at e)))
     (λ a. not-given (rw a at e))
 
 pub import-within : (f work : List ℕ) (channel : Channel) (tail : Tail) (out : List ℕ) (r : Imported) (work′ out′ : List ℕ) → Imports f work channel tail out r work′ out′ → (d n u t k : ℕ) → r ≡ Spans d n u t k → k ≤ length out′
 import-within f work channel tail out r work′ out′ i d n u t k e =
-    let g = accepts (imported f (length work) (channelOf channel) (ruleOf tail)) out (d ∷ n ∷ u ∷ t ∷ k ∷ []) out′ (rw e at (i .meets)) in
-    let q = imported-last f (length work) (channelOf channel) (ruleOf tail) d n u t k (g .bytes) (g .gift) in
+    let g = accepts (imported btsnoop f (length work) (optionsOf channel tail)) out (d ∷ n ∷ u ∷ t ∷ k ∷ []) out′ (rw e at (i .meets)) in
+    let q = imported-last f (length work) (optionsOf channel tail) d n u t k (g .bytes) (g .gift) in
     omega (arith, g .room)
 
 -- and the last that planning answers

@@ -1,4 +1,4 @@
-use Rattle.lumbryth.specs.Imports.{rule-strict, rule-tolerant}
+use Rattle.lumbryth.specs.Imports.{tail-strict, tail-tolerant}
 use borrow.Author.Needs.{needs}
 use native.Mathlib.Omega.{arith}
 use Rattle.lumbryth.proofs.tail_of.Statement.{statement}
@@ -8,11 +8,11 @@ use Rattle.lumbryth.proofs.tail_of.Lts as lts
 
 -- src/lib.rt:257:9
 returns : tie.Need-returns
-returns c = search rule-strict
+returns c = search tail-strict
 
 -- src/lib.rt:253:1
 returns-2 : tie.Need-returns-2
-returns-2 c = search rule-tolerant
+returns-2 c = search tail-tolerant
 
 pub tail-of-spec : {M : Type 1} → statement M
 tail-of-spec = tie.close (tie.spec returns returns-2)

@@ -1,0 +1,4 @@
+pub mod Same
+pub mod Examples
+pub mod Recorded
+pub mod Spelled

@@ -1,0 +1,4 @@
+pub mod Header
+pub mod Records
+pub mod Packets
+pub mod Pcap
