@@ -11,8 +11,8 @@ use Rattle.laws.specs.Keys.{Key, eqK, eq-eqK, ne-eqK}
 use Rattle.words.specs.Words.{word}
 use Rattle.words.specs.Front.{front-refl}
 use Rattle.table.specs.Table.{Slot, none, some, lookup, upd, Stored, findIn, lookup-found, lookup-nothing}
-use Rattle.table.specs.Index.{EnterPre, Entered}
-use Rattle.table.specs.declared.Index.{Index}
+use Rattle.tree.specs.Tree.{EnterPre, Entered}
+use Rattle.tree.specs.declared.Tree.{Tree}
 use Rattle.table.specs.declared.Row.{Row}
 use Rattle.table.specs.declared.Row.the-variants.{At, Nothing}
 use Rattle.items.specs.Items.{rxOf}
@@ -140,7 +140,7 @@ module _ (w : List ℕ) (b n k v : ℕ) where
       }
 
 -- and the index
-module _ (w : List ℕ) (x : Index) (n k v : ℕ) (p : EnterPre w x n) (g : Standing) (s : g ≡ standingOf (lookup w (x .rows) n k)) where
+module _ (w : List ℕ) (x : Tree) (n k v : ℕ) (p : EnterPre w x n) (g : Standing) (s : g ≡ standingOf (lookup w (x .rows) n k)) where
   pub raised-in-new : g ≡ Unnamed → (u : List ℕ) (r : ℕ) → Entered w x n k v 0 u r → RaisedIn w x n k v u r
   raised-in-new q u r e = record { raised = raised-new w (x .rows) n k v g s q u r (e .stored); indexed = e .indexed }
 

@@ -11,9 +11,8 @@ use Rattle.laws.specs.Choice.{split≤}
 use Rattle.words.specs.Words.{word}
 use Rattle.words.specs.Front.{Front, front-refl, front-then, front-less, front-word}
 use Rattle.table.specs.Table.{lookup, Agree}
-use Rattle.table.specs.Chain.{bucketsOf, buckets-some, buckets-fit, Filled}
-use Rattle.table.specs.Index.{Indexed, Stands, SeekPre, EnterPre, stands-less, stands-same, indexed-none}
-use Rattle.table.specs.declared.Index.{Index}
+use Rattle.tree.specs.Tree.{Indexed, Stands, SeekPre, EnterPre, stands-less, stands-same, indexed-none}
+use Rattle.tree.specs.declared.Tree.{Tree}
 use Rattle.items.specs.Items.{rxOf}
 use Rattle.items.specs.declared.Direction.{Direction}
 use Rattle.l2cap.specs.Pdus.{Pdu}
@@ -152,11 +151,11 @@ module _ (f w₀ : List ℕ) (row b n₀ : ℕ) (p : NotePre f w₀ row b n₀) 
           }
 
 -- and the index
-pub record NotingIn (f w₀ : List ℕ) (row : ℕ) (x : Index) (n₀ : ℕ) (w : List ℕ) (n at : ℕ) : Type 0 where
+pub record NotingIn (f w₀ : List ℕ) (row : ℕ) (x : Tree) (n₀ : ℕ) (w : List ℕ) (n at : ℕ) : Type 0 where
   pub noting : Noting f w₀ row (x .rows) n₀ w n at
   pub indexed : Indexed w x n
 
-pub noting-enter : (f w₀ : List ℕ) (row : ℕ) (x : Index) (n₀ : ℕ) → NotePreIn f w₀ row x n₀ → (w : List ℕ) (n at : ℕ) → NotingIn f w₀ row x n₀ w n at → at < word w₀ (row + 4) → EnterPre w x n
+pub noting-enter : (f w₀ : List ℕ) (row : ℕ) (x : Tree) (n₀ : ℕ) → NotePreIn f w₀ row x n₀ → (w : List ℕ) (n at : ℕ) → NotingIn f w₀ row x n₀ w n at → at < word w₀ (row + 4) → EnterPre w x n
 noting-enter f w₀ row x n₀ p w n at v h = record {
   stands = stands-less w x (n₀ + word w₀ (row + 4) / 8 + 1) (n + 1) (omega (arith, v .noting .few)) (stands-same w w₀ x (n₀ + word w₀ (row + 4) / 8 + 1) (v .noting .size) (p .stands));
   indexed = v .indexed;
@@ -167,19 +166,11 @@ noting-enter f w₀ row x n₀ p w n at v h = record {
 -- the channels and their index have room for so many
 channel-stands : (f w : List ℕ) (n : ℕ) → 16 ≤ length f → length f ≤ 1048576 → 8 * length f ≤ length w → 8 * n + 16 ≤ length f → Stands w (channelIndex (length f / 4)) n
 unfolding channelIndex
-channel-stands f w n some small room few =
-    let q : ℕ = length f / 4 in
-    record {
-      rows = omega arith;
-      chain = omega arith;
-      room = omega (arith, buckets-fit (length f / 4 - length f / 4 / 2) (omega arith));
-      some = buckets-some (length f / 4 - length f / 4 / 2);
-      few = omega arith;
-    }
+channel-stands f w n some small room few = record { rows = omega arith; room = omega arith; few = omega arith }
 
-pub index-is : (q m : ℕ) → m ≡ bucketsOf (q - q / 2) → record { rows = 3 * q; chain = 7 * q; heads = 7 * q + q / 2; m = m } ≡ channelIndex q
+pub index-is : (q : ℕ) → record { rows = 3 * q; links = 7 * q } ≡ channelIndex q
 unfolding channelIndex
-index-is q m e = rw e
+index-is q = refl
 
 pub record Running (f w₀ : List ℕ) (made : ℕ) (w : List ℕ) (rows i : ℕ) : Type 0 where
   pub within : i ≤ made
@@ -189,7 +180,7 @@ pub record Running (f w₀ : List ℕ) (made : ℕ) (w : List ℕ) (rows i : ℕ
   pub tells : Telling (signals (pdusFrom f w₀ (2 * (length f / 4)) 0 made)) (lookup w (3 * (length f / 4)) rows) (signals (pdusFrom f w₀ (2 * (length f / 4)) i (made - i)))
 
 -- and the index
-pub record RunningIn (f w₀ : List ℕ) (made : ℕ) (x : Index) (w : List ℕ) (rows i : ℕ) : Type 0 where
+pub record RunningIn (f w₀ : List ℕ) (made : ℕ) (x : Tree) (w : List ℕ) (rows i : ℕ) : Type 0 where
   pub running : Running f w₀ made w rows i
   pub indexed : Indexed w x rows
 
@@ -243,7 +234,7 @@ module _ (f w₀ : List ℕ) (made : ℕ) (ps : List Pdu) (p : Reassembled f w�
     }
 
     -- the same for the table with its index
-    pub running-note : (q : ℕ) → q ≡ length f / 4 → (x : Index) → x ≡ channelIndex q → Indexed w x rows → NotePreIn f w (2 * q + 7 * i) x rows
+    pub running-note : (q : ℕ) → q ≡ length f / 4 → (x : Tree) → x ≡ channelIndex q → Indexed w x rows → NotePreIn f w (2 * q + 7 * i) x rows
     unfolding channelIndex
     running-note q eq x ex ix = rw (ex, eq) (record {
       pre = running-pre;
@@ -251,7 +242,7 @@ module _ (f w₀ : List ℕ) (made : ℕ) (ps : List Pdu) (p : Reassembled f w�
       stands = channel-stands f w (rows + word w (2 * (length f / 4) + 7 * i + 4) / 8 + 1) (omega (arith, p .few)) (p .small) (omega (arith, p .room, v .size)) (omega (arith, few-more, row-size));
     })
 
-    pub running-noted : (q : ℕ) → q ≡ length f / 4 → (x : Index) → x ≡ channelIndex q → (u : List ℕ) (r : ℕ) → PduNotedIn f w (2 * q + 7 * i) x rows u r → Running f w₀ made u r (i + 1)
+    pub running-noted : (q : ℕ) → q ≡ length f / 4 → (x : Tree) → x ≡ channelIndex q → (u : List ℕ) (r : ℕ) → PduNotedIn f w (2 * q + 7 * i) x rows u r → Running f w₀ made u r (i + 1)
     unfolding channelIndex
     running-noted q eq x ex u r n = running-turn u r (rw (ex, eq) at (n .noted))
 
@@ -301,7 +292,7 @@ module _ (w : List ℕ) (b n side cid : ℕ) where
         (rw (admits-grade (lookup w b n (side * 65536 + cid)), standing-named (lookup w b n (side * 65536 + cid)) g p v q .0, standing-named (lookup w b n (side * 65536 + cid)) g p v q .1, and-false (leb 0x40 cid))
         (sym (or-false (ltb 0 v))))
 
-module _ (w : List ℕ) (q n side cid : ℕ) (t : Tries w q n) (x : Index) (ex : x ≡ channelIndex q) where
+module _ (w : List ℕ) (q n side cid : ℕ) (t : Tries w q n) (x : Tree) (ex : x ≡ channelIndex q) where
   pub tries-seek : SeekPre w x n
   tries-seek = rw ex (record { stands = t .stands; indexed = t .indexed })
 
@@ -316,29 +307,5 @@ module _ (w : List ℕ) (q n side cid : ℕ) (t : Tries w q n) (x : Index) (ex :
 
 -- ---- the table empty, and then all PDUs
 
-module _ (f w : List ℕ) (made : ℕ) (p : Reassembled f w made (pdusFrom f w (2 * (length f / 4)) 0 made)) (q : ℕ) (eq : q ≡ length f / 4) (x : Index) (ex : x ≡ channelIndex q) where
-  pub clear-room : 4 * (x .heads + x .m) ≤ length w
-  unfolding channelIndex
-  clear-room = rw (ex, eq) (omega (arith, p .few, p .room, buckets-fit (length f / 4 - length f / 4 / 2) (omega (arith, p .few))))
-
-  module _ (u : List ℕ) (c : Filled w (x .heads) (x .m) 0 u) where
-    clear-front : Front (12 * (length f / 4)) u w
-    unfolding channelIndex
-    clear-front = front-less (12 * (length f / 4)) (4 * (7 * (length f / 4) + length f / 4 / 2)) u w (omega arith) (rw (ex, eq) at (c .front))
-
-    clear-pdus : Reassembled f u made (pdusFrom f w (2 * (length f / 4)) 0 made)
-    clear-pdus = reassembled-front f u w made (pdusFrom f w (2 * (length f / 4)) 0 made) clear-front (c .size) p
-
-    pub clear-noted : NoneNoted f u made q
-    clear-noted = record {
-      quarter = eq;
-      pdus = rw (clear-pdus .list) clear-pdus;
-      indexed = rw ex at (indexed-none u x (c .is));
-    }
-
-    pub clear-read : (v : List ℕ) (r : ℕ) → ReadChannels f u made v r → ReadChannels f w made v r
-    clear-read v r g = record {
-      signalled = rw (clear-pdus .list) at (g .signalled);
-      front = front-then (12 * (length f / 4)) v u w (g .front) clear-front;
-      size = g .size ∙ c .size;
-    }
+pub none-noted : (f w : List ℕ) (made : ℕ) → Reassembled f w made (pdusFrom f w (2 * (length f / 4)) 0 made) → (q : ℕ) → q ≡ length f / 4 → NoneNoted f w made q
+none-noted f w made p q eq = record { quarter = eq; pdus = p; indexed = indexed-none w (channelIndex q) }

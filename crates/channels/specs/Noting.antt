@@ -7,8 +7,8 @@ use lib.ListN.{length}
 use lib.Dec.{ltb, eqb}
 use Rattle.words.specs.Front.{Front}
 use Rattle.table.specs.Table.{Slot, none, some, lookup}
-use Rattle.table.specs.Index.{Indexed}
-use Rattle.table.specs.declared.Index.{Index}
+use Rattle.tree.specs.Tree.{Indexed}
+use Rattle.tree.specs.declared.Tree.{Tree}
 use Rattle.channels.specs.Signals.{Signal, triple}
 use Rattle.channels.specs.Channels.{any, named, asksFor, admitted, admittedAfter}
 use Rattle.channels.specs.ChannelTable.{channelKey, saysNamed, saysAdmitted}
@@ -43,7 +43,7 @@ pub record Raised (w : List ℕ) (b n k v : ℕ) (u : List ℕ) (r : ℕ) : Type
   pub size : length u ≡ length w
 
 -- and the index knows of it
-pub record RaisedIn (w : List ℕ) (x : Index) (n k v : ℕ) (u : List ℕ) (r : ℕ) : Type 0 where
+pub record RaisedIn (w : List ℕ) (x : Tree) (n k v : ℕ) (u : List ℕ) (r : ℕ) : Type 0 where
   pub raised : Raised w (x .rows) n k v u r
   pub indexed : Indexed u x r
 
@@ -62,6 +62,6 @@ pub record Noted (w : List ℕ) (b n : ℕ) (said : Said) (u : List ℕ) (r : �
   pub front : Front (4 * b) u w
   pub size : length u ≡ length w
 
-pub record NotedIn (w : List ℕ) (x : Index) (n : ℕ) (said : Said) (u : List ℕ) (r : ℕ) : Type 0 where
+pub record NotedIn (w : List ℕ) (x : Tree) (n : ℕ) (said : Said) (u : List ℕ) (r : ℕ) : Type 0 where
   pub noted : Noted w (x .rows) n said u r
   pub indexed : Indexed u x r

@@ -8,8 +8,8 @@ use lib.ListN.{length, drop}
 use Rattle.words.specs.Words.{word}
 use Rattle.words.specs.Front.{Front, front-word, front-less}
 use Rattle.table.specs.Table.{lookup, long-agree, lookup-agree}
-use Rattle.table.specs.Index.{Indexed, Stands, stands-same, indexed-agree}
-use Rattle.table.specs.declared.Index.{Index}
+use Rattle.tree.specs.Tree.{Indexed, Stands, stands-same, indexed-agree}
+use Rattle.tree.specs.declared.Tree.{Tree}
 use Rattle.l2cap.specs.Pdus.{Pdu}
 use Rattle.l2cap.specs.PduTable.{pduAt, pdusFrom, Inside, Reassembled}
 use Rattle.l2cap.specs.PduFrames.{Lent, link-at, rx-at, cid-at, reassembled-front}
@@ -40,7 +40,7 @@ pub record NotePre (f w : List ℕ) (row b n : ℕ) : Type 0 where
   pub room : 4 * (b + 4 * n) + 2 * word w (row + 4) + 16 ≤ length w
 
 -- and the index has room for it too
-pub record NotePreIn (f w : List ℕ) (row : ℕ) (x : Index) (n : ℕ) : Type 0 where
+pub record NotePreIn (f w : List ℕ) (row : ℕ) (x : Tree) (n : ℕ) : Type 0 where
   pub pre : NotePre f w row (x .rows) n
   pub indexed : Indexed w x n
   pub stands : Stands w x (n + word w (row + 4) / 8 + 1)
@@ -51,7 +51,7 @@ pub record PduNoted (f w : List ℕ) (row b n : ℕ) (u : List ℕ) (r : ℕ) : 
   pub front : Front (4 * b) u w
   pub size : length u ≡ length w
 
-pub record PduNotedIn (f w : List ℕ) (row : ℕ) (x : Index) (n : ℕ) (u : List ℕ) (r : ℕ) : Type 0 where
+pub record PduNotedIn (f w : List ℕ) (row : ℕ) (x : Tree) (n : ℕ) (u : List ℕ) (r : ℕ) : Type 0 where
   pub noted : PduNoted f w row (x .rows) n u r
   pub indexed : Indexed u x r
 
@@ -99,9 +99,9 @@ tries-front : (u w : List ℕ) (q n : ℕ) → 3 * q + 4 * n ≤ 5 * q → Front
 unfolding channelIndex
 tries-front u w q n few fr above l t = record {
   small = t .small;
-  indexed = indexed-agree u w (channelIndex q) n (omega arith)
+  indexed = indexed-agree w (channelIndex q) n (t .indexed) u
       (λ j h. long-agree u w (3 * q + 4 * j) (front-word (20 * q) u w (3 * q + 4 * j) (omega arith) fr) (front-word (20 * q) u w (3 * q + 4 * j + 1) (omega arith) fr))
-      (λ j h g. above j h) (t .stands .chain) (t .indexed);
+      (λ j h g. above j h);
   stands = stands-same u w (channelIndex q) n l (t .stands);
 }
 

@@ -6,7 +6,7 @@ ghost use lib.ListN.{length};
 ghost use lib.Dec.{leb, eqb};
 ghost use Rattle.laws.specs.Numbers.{le16};
 ghost use Rattle.table.specs.Table.{lookup};
-ghost use Rattle.table.specs.Index.{SeekPre, EnterPre};
+ghost use Rattle.tree.specs.Tree.{SeekPre, EnterPre};
 ghost use Rattle.items.specs.Items.{rxOf};
 ghost use Rattle.l2cap.specs.PduTable.{pduAt, pdusFrom, Reassembled};
 ghost use Rattle.l2cap.specs.PduFrames.{Lent};
@@ -18,12 +18,10 @@ ghost use Rattle.channels.specs.Noting.{standingOf, requestGrade, respon
 ghost use Rattle.channels.specs.Passing.{StepIs, PduStepPre, NotePreIn, PduNotedIn, NoneNoted, ReadChannels, Tries, Judged};
 use items::Direction;
 use l2cap::payload;
-use table::Index;
 use table::Row;
-use table::buckets;
-use table::enter;
-use table::fill;
-use table::seek;
+use tree::Tree;
+use tree::enter;
+use tree::seek;
 use words::Field;
 use words::field16;
 use words::get32;
@@ -198,7 +196,7 @@ enum Standing {
 }
 
 // What the table says of the channel of this key.
-fn look(w: &[u8], x: Index, rows: usize, key: u64) -> Standing
+fn look(w: &[u8], x: Tree, rows: usize, key: u64) -> Standing
     requires { ⌜ SeekPre (now w) x rows ⌝ }
     ensures { λ r. ⌜ r ≡ standingOf (lookup (now (w .entry)) (x .rows) rows key) ⌝ }
 {
@@ -220,7 +218,7 @@ fn request_grade(psm: u16) -> u32
 }
 
 // The grade that a response gives, of a success or not, to a request that named the channel of this key.
-fn response_grade(w: &[u8], x: Index, rows: usize, asked: u64, ok: bool) -> u32
+fn response_grade(w: &[u8], x: Tree, rows: usize, asked: u64, ok: bool) -> u32
     requires { ⌜ SeekPre (now w) x rows ⌝ }
     ensures { λ r. ⌜ r ≡ responseGrade ok (lookup (now (w .entry)) (x .rows) rows asked) ⌝ }
 {
@@ -237,7 +235,7 @@ fn response_grade(w: &[u8], x: Index, rows: usize, asked: u64, ok: bool) -> u32
 }
 
 // Notes that a channel is named, with a grade; its grade never falls. Returns the count of rows.
-fn raise(w: &mut [u8], x: Index, rows: usize, key: u64, v: u32) -> usize
+fn raise(w: &mut [u8], x: Tree, rows: usize, key: u64, v: u32) -> usize
     requires { ⌜ EnterPre (now w) x rows ⌝ }
     ensures { λ r. ⌜ RaisedIn (now (w .entry)) x rows key v (now (w .exit)) r ⌝ }
 {
@@ -252,7 +250,7 @@ fn raise(w: &mut [u8], x: Index, rows: usize, key: u64, v: u32) -> usize
 }
 
 // Notes what a command says. Returns the count of rows.
-fn note(w: &mut [u8], x: Index, rows: usize, said: Signal) -> usize
+fn note(w: &mut [u8], x: Tree, rows: usize, said: Signal) -> usize
     requires { ⌜ EnterPre (now w) x rows ⌝ }
     ensures { λ r. ⌜ NotedIn (now (w .entry)) x rows said (now (w .exit)) r ⌝ }
 {
@@ -315,7 +313,7 @@ fn pdu_step<'a>(file: &'a [u8], w: &'a [u8], row: usize, at: usize) -> Step
 }
 
 // Notes what the PDU whose row is at word row says. Returns the count of rows.
-fn note_pdu(file: &[u8], w: &mut [u8], row: usize, x: Index, rows: usize) -> usize
+fn note_pdu(file: &[u8], w: &mut [u8], row: usize, x: Tree, rows: usize) -> usize
     requires { ⌜ NotePreIn (now file) (now w) row x rows ⌝ }
     ensures { λ r. ⌜ PduNotedIn (now (file .entry)) (now (w .entry)) row x rows (now (w .exit)) r ⌝ }
 {
@@ -334,17 +332,14 @@ fn note_pdu(file: &[u8], w: &mut [u8], row: usize, x: Index, rows: usize) -> usi
     n
 }
 
-// Where the channels stand in work: their rows in two areas, the index in the last one, which is free until spans are split.
-fn index_of(q: usize) -> Index
+// Where the channels stand in work: their rows in two areas, their links in the last one, which is free until spans are split.
+fn index_of(q: usize) -> Tree
     requires { ⌜ q ≤ 1048576 ⌝ }
     ensures { λ r. ⌜ r ≡ channelIndex q ⌝ }
 {
-    let half = q / 2;
-    Index {
+    Tree {
         rows: 3 * q,
-        chain: 7 * q,
-        heads: 7 * q + half,
-        m: buckets(q - half),
+        links: 7 * q,
     }
 }
 
@@ -369,8 +364,6 @@ pub fn read_channels(file: &[u8], w: &mut [u8], made: usize) -> usize
     ensures { λ r. ⌜ ReadChannels (now (file .entry)) (now (w .entry)) made (now (w .exit)) r ⌝ }
 {
     let q = file.len() / 4;
-    let x = index_of(q);
-    fill(w, x.heads, x.m, 0);
     note_pdus(file, w, made, q)
 }
 

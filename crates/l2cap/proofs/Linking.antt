@@ -1,103 +1,209 @@
--- The packets are linked, from the last to the first.
+-- The packets are linked, from the last to the first: a table of the keys of those behind says which comes next.
 use mathlib.Core.Path.{_≡_, refl, sym, ap, _∙_}
 use mathlib.Core.List.{List}
-use Prim.Native.Nat.{ℕ, suc, _+_, _-_, _*_, _%_, _<_, _≤_}
+use mathlib.Core.Bool.{Bool, true, false, cond}
+use Prim.Native.Nat.{ℕ, zero, suc, _+_, _-_, _*_, _<_, _≤_}
 use native.Mathlib.Omega.{arith}
 use lib.ListN.{length}
+use lib.Dec.{eqb}
 use borrow.Author.Tests.{eq-eqb, ne-eqb}
 use Rattle.laws.specs.Choice.{split≡}
 use Rattle.words.specs.Words.{word, putWord, length-put, word-put-same, word-put-other}
-use Rattle.words.specs.Front.{Front, front-refl, front-put, front-then, front-word}
-use Rattle.table.specs.Chain.{Bucket, Filled, putLink, LinkPre, length-link, link-other}
-use Rattle.l2cap.specs.Links.{soonest, soonest-agree, LinkRoom, Unlinked, LinkedTo}
+use Rattle.words.specs.Front.{Front, front-refl, front-put, front-then, front-less, front-word}
+use Rattle.table.specs.Table.{findIn, lookup, upd, Slot, none, some, lookup-found, lookup-nothing, find-below, lookup-agree, long-agree}
+use Rattle.table.specs.declared.Row.{Row}
+use Rattle.table.specs.declared.Row.the-variants.{At, Nothing}
+use Rattle.tree.specs.Tree.{Indexed, Entered, Stands, EnterPre, SeekPre, indexed-none, indexed-agree, stands-less, stands-same}
+use Rattle.tree.specs.declared.Tree.{Tree}
+use Rattle.l2cap.specs.Links.{soonest, soonest-agree, tagAt, tag-empty, tag-full, LinkRoom, LinkedTo, nextIn}
+use Rattle.l2cap.specs.Steps.{indexOf, Look, SetOpen, LinkStep, LinkedStep}
 
-less : (k i : ℕ) → k < i + 1 → (k ≡ i → ⊥) → k < i
-less k i l q = split≡ k i (λ e. absurd (q e)) (λ e. omega arith)
+-- ---- the search
 
--- ---- the packets put into their buckets
+module _ (w : List ℕ) (q n x key k : ℕ) (ek : k ≡ key) (t : Tree) (et : t ≡ indexOf q) (f : Row) (ef : f ≡ findIn w (t .rows) k n) where
+  found : f ≡ findIn w (3 * q) key n
+  found = rw (et, ek) at ef
 
-abbrev bucketIn : List ℕ → ℕ → ℕ → ℕ
-bucketIn w m j = word w (6 * j) % m
+  pub next-none : f ≡ Nothing → x ≡ nextIn x (lookup w (3 * q) n key)
+  unfolding nextIn
+  next-none d = rw (lookup-nothing w (3 * q) key n (sym found ∙ d))
 
-pub record Linking (w₀ : List ℕ) (q m count : ℕ) (w : List ℕ) (i : ℕ) : Type 0 where
+  pub next-row : Look w q n → (i : ℕ) → f ≡ At i → 4 * (3 * q + 4 * i) + 16 ≤ length w
+  next-row p i d = omega (arith, find-below w (3 * q) key n i (sym found ∙ d), p .seek .stands .rows, p .seek .stands .room)
+
+  pub next-found : (i : ℕ) → f ≡ At i → (r : ℕ) → r ≡ word w (3 * q + 4 * i + 2) → r ≡ nextIn x (lookup w (3 * q) n key)
+  unfolding nextIn
+  next-found i d r e = e ∙ rw (lookup-found w (3 * q) key n i (sym found ∙ d))
+
+-- ---- one packet
+
+module _ (w : List ℕ) (q n i x : ℕ) (p : LinkStep w q n i) where
+  pub link-look : Look w q n
+  link-look = record { seek = record { stands = stands-less w (indexOf q) (n + 1) n (omega arith) (p .opens .enter .stands); indexed = p .opens .enter .indexed }; small = p .opens .small }
+
+  module _ (key : ℕ) (ek : key ≡ word w (6 * i)) (r : ℕ) (er : r ≡ nextIn x (lookup w (3 * q) n key)) (v : List ℕ) (ev : v ≡ putWord w (7 * q + i) r) where
+    off : (j : ℕ) → (7 * q + i ≡ j → ⊥) → word v j ≡ word w j
+    off j h = rw ev (word-put-other w (7 * q + i) r j h)
+
+    size-v : length v ≡ length w
+    size-v = rw ev (length-put w (7 * q + i) r)
+
+    below : (j : ℕ) → j < 7 * q → word v j ≡ word w j
+    below j h = off j (λ e. omega arith)
+
+    pub link-open : SetOpen v q n
+    link-open = record {
+      enter = record {
+        stands = stands-same v w (indexOf q) (n + 1) size-v (p .opens .enter .stands);
+        indexed = indexed-agree w (indexOf q) n (p .opens .enter .indexed) v
+            (λ j h. long-agree v w (3 * q + 4 * j) (below (3 * q + 4 * j) (omega (arith, p .opens .enter .stands .rows))) (below (3 * q + 4 * j + 1) (omega (arith, p .opens .enter .stands .rows))))
+            (λ j a b. off j (λ e. omega (arith, p .opens .enter .stands .rows)));
+      };
+      small = p .opens .small;
+    }
+
+    pub link-empty : (z : ℕ) → z ≡ word w (6 * i + 3) → z ≡ 0 → LinkedStep w q n i x v n
+    link-empty z ez h = record {
+      link = rw ev (word-put-same w (7 * q + i) r (omega (arith, p .low, p .room))) ∙ er ∙ rw ek;
+      says = λ d. absurd (d (sym ez ∙ h));
+      empty = λ d k. lookup-agree v w (3 * q) n k (λ j a b. below j (omega (arith, p .opens .enter .stands .rows)));
+      indexed = link-open .enter .indexed;
+      most = omega arith;
+      front = rw ev (front-put (4 * (3 * q)) w (7 * q + i) r (omega arith));
+      beyond = λ j a h. off j h;
+      size = size-v;
+    }
+
+    pub link-stepped : (z : ℕ) → z ≡ word w (6 * i + 3) → (z ≡ 0 → ⊥) → (y : ℕ) → y ≡ i + 1 → (u : List ℕ) (c : ℕ) → Entered v (indexOf q) n key y 0 u c → LinkedStep w q n i x u c
+    unfolding upd
+    link-stepped z ez nz y ey u c e = record {
+      link = e .beyond (7 * q + i) (omega (arith, p .opens .enter .stands .rows)) ∙ rw ev (word-put-same w (7 * q + i) r (omega (arith, p .low, p .room))) ∙ er ∙ rw ek;
+      empty = λ d. absurd (nz (ez ∙ d));
+      says = λ d k. e .stored .says k ∙ rw (ey, ek) (upd-agree k);
+      indexed = e .indexed;
+      most = e .stored .most;
+      front = front-then (4 * (3 * q)) u v w (e .stored .front) (rw ev (front-put (4 * (3 * q)) w (7 * q + i) r (omega arith)));
+      beyond = λ j a h. e .beyond j (omega (arith, p .opens .enter .stands .rows)) ∙ off j h;
+      size = e .stored .size ∙ size-v;
+    } where
+      upd-agree : (k : ℕ) → upd (lookup v (3 * q) n) (word w (6 * i)) (some (i + 1) 0) k ≡ upd (lookup w (3 * q) n) (word w (6 * i)) (some (i + 1) 0) k
+      upd-agree k = rw (lookup-agree v w (3 * q) n k (λ j a b. below j (omega (arith, p .opens .enter .stands .rows))))
+
+-- ---- all packets
+
+abbrev keyIn : List ℕ → ℕ → ℕ
+keyIn w j = word w (6 * j)
+
+pub record Linking (w₀ : List ℕ) (q count : ℕ) (w : List ℕ) (n i : ℕ) : Type 0 where
   pub within : i ≤ count
+  pub few : n + i ≤ count
   pub size : length w ≡ length w₀
-  pub front : Front (4 * (6 * q)) w w₀
-  pub heads : (h : ℕ) → h < m → word w (6 * q + h) ≡ suc (soonest (bucketIn w₀ m) h i (count - i))
-  pub links : (j : ℕ) → i ≤ j → j < count → word w (7 * q + j) ≡ suc (soonest (bucketIn w₀ m) (bucketIn w₀ m j) (suc j) (count - suc j))
+  pub front : Front (4 * (3 * q)) w w₀
+  pub indexed : Indexed w (indexOf q) n
+  pub heads : (k : ℕ) → nextIn (suc count) (lookup w (3 * q) n k) ≡ suc (soonest (tagAt w₀ k) k i (count - i))
+  pub links : (j : ℕ) → i ≤ j → j < count → word w (7 * q + j) ≡ suc (soonest (tagAt w₀ (keyIn w₀ j)) (keyIn w₀ j) (suc j) (count - suc j))
 
-module _ (w₀ : List ℕ) (q m count : ℕ) (g : Unlinked w₀ q m count) where
-  pub linking-start : Linking w₀ q m count w₀ count
-  unfolding soonest
+next-upd : (x k : ℕ) (s : ℕ → Slot) (y z j : ℕ) → nextIn x (upd s k (some y z) j) ≡ cond (eqb k j) y (nextIn x (s j))
+unfolding nextIn upd
+next-upd x k s y z j = go (eqb k j) where
+  go : (t : Bool) → nextIn x (cond t (some y z) (s j)) ≡ cond t y (nextIn x (s j))
+  go true = refl
+  go false = refl
+
+cond-suc : (t : Bool) (a b : ℕ) → cond t (suc a) (suc b) ≡ suc (cond t a b)
+cond-suc true a b = refl
+cond-suc false a b = refl
+
+module _ (w₀ : List ℕ) (q count : ℕ) (g : LinkRoom w₀ q count) where
+  pub linking-start : Linking w₀ q count w₀ 0 count
+  unfolding soonest lookup nextIn
   linking-start = record {
     within = omega arith;
+    few = omega arith;
     size = refl;
-    front = front-refl (4 * (6 * q)) w₀;
-    heads = λ h l. let z : count - count ≡ 0 = omega arith in rw z (g .heads h l);
+    front = front-refl (4 * (3 * q)) w₀;
+    indexed = indexed-none w₀ (indexOf q);
+    heads = λ k. let z : count - count ≡ 0 = omega arith in rw z;
     links = λ j lo hi. absurd (omega arith);
   }
 
-  turn : (w : List ℕ) (k : ℕ) → Linking w₀ q m count w (suc k) → (h : ℕ) → Bucket (word w (6 * k)) m h → Linking w₀ q m count (putLink w (7 * q) (6 * q) k h) k
-  unfolding soonest putLink
-  turn w k v h b =
-      let own : bucketIn w₀ m k ≡ h = rw (front-word (4 * (6 * q)) w w₀ (6 * k) (omega (arith, v .within, g .room .low)) (v .front)) at (sym (b .is)) in
-      let z : count - k ≡ suc (count - suc k) = omega (arith, v .within) in
-      let ap₀ : 7 * q + k ≡ 6 * q + h → ⊥ = (λ e. omega (arith, b .few, g .room .few)) in
-      record {
-        within = omega (arith, v .within);
-        size = length-link w (7 * q) (6 * q) k h ∙ v .size;
-        front = front-then (4 * (6 * q)) _ _ w₀ (front-put (4 * (6 * q)) _ (6 * q + h) (k + 1) (omega arith))
-            (front-then (4 * (6 * q)) _ w w₀ (front-put (4 * (6 * q)) w (7 * q + k) (word w (6 * q + h)) (omega arith)) (v .front));
-        heads = λ j l. rw z (split≡ j h
-            (λ e. rw (e, eq-eqb (bucketIn w₀ m k) h own) (word-put-same (putWord w (7 * q + k) (word w (6 * q + h))) (6 * q + h) (k + 1) (simp length-put (omega (arith, b .few, g .room .few, g .room .room, v .size))) ∙ (let y : k + 1 ≡ suc k = omega arith in y)))
-            (λ e. link-other w (7 * q) (6 * q) k h (6 * q + j) (λ x. omega (arith, l, g .room .few)) (λ x. e (omega arith)) ∙ v .heads j l ∙ rw (ne-eqb (bucketIn w₀ m k) j (λ x. e (sym x ∙ own)))));
-        links = λ j lo hi. split≡ j k
-            (λ e. rw e (word-put-other (putWord w (7 * q + k) (word w (6 * q + h))) (6 * q + h) (k + 1) (7 * q + k) (λ x. ap₀ (sym x)) ∙ word-put-same w (7 * q + k) (word w (6 * q + h)) (omega (arith, v .within, g .room .low, g .room .room, v .size)) ∙ v .heads h (b .few) ∙ rw own))
-            (λ e. link-other w (7 * q) (6 * q) k h (7 * q + j) (λ x. e (omega arith)) (λ x. omega (arith, b .few, g .room .few)) ∙ v .links j (more j k lo e) hi);
-      } where
-        more : (j k : ℕ) → k ≤ j → (j ≡ k → ⊥) → suc k ≤ j
-        more j k l q = split≡ j k (λ e. absurd (q e)) (λ e. omega arith)
-
-  module _ (w : List ℕ) (i : ℕ) (v : Linking w₀ q m count w i) (p : 0 < i) where
-    pub linking-row : (24 * (i - 1) + 24 ≤ length w) × (0 < m)
-    linking-row = (omega (arith, v .within, v .size, g .room .low, g .room .room), g .room .some)
-
-    pub linking-pre : (h : ℕ) → Bucket (word w (6 * (i - 1))) m h → LinkPre w (7 * q) (6 * q) (i - 1) h
-    linking-pre h b = record {
-      low = omega (arith, v .within, v .size, g .room .low, g .room .room);
-      high = omega (arith, b .few, g .room .few, v .size, g .room .room);
-      few = omega (arith, v .within, g .room .low, g .room .small);
+  module _ (w : List ℕ) (n i : ℕ) (v : Linking w₀ q count w n i) (p : 0 < i) where
+    pub linking-step : LinkStep w q n (i - 1)
+    linking-step = record {
+      opens = record {
+        enter = record {
+          stands = record { rows = omega (arith, v .few, g .low); room = omega (arith, v .few, g .low, g .room, v .size); few = omega (arith, v .few, g .low, g .small) };
+          indexed = v .indexed;
+        };
+        small = g .small;
+      };
+      low = omega (arith, v .within, g .low);
+      room = omega (arith, g .room, v .size);
     }
 
-    pub linking-turn : (h : ℕ) → Bucket (word w (6 * (i - 1))) m h → (u : List ℕ) → u ≡ putLink w (7 * q) (6 * q) (i - 1) h → Linking w₀ q m count u (i - 1)
-    linking-turn h b u e = let z : i ≡ suc (i - 1) = omega arith in rw e (turn w (i - 1) (rw z at v) h b)
+    module _ (x : ℕ) (ex : x ≡ count + 1) (u : List ℕ) (r : ℕ) (s : LinkedStep w q n (i - 1) x u r) where
+      more : (j : ℕ) → i - 1 ≤ j → (j ≡ i - 1 → ⊥) → i ≤ j
+      more j l d = split≡ j (i - 1) (λ e. absurd (d e)) (λ e. omega arith)
 
-  pub linking-end : (w : List ℕ) (i : ℕ) → Linking w₀ q m count w i → i ≤ 0 → LinkedTo w₀ q count w
-  linking-end w i v h = record {
+      own : word w (6 * (i - 1)) ≡ word w₀ (6 * (i - 1))
+      own = front-word (4 * (3 * q)) w w₀ (6 * (i - 1)) (omega (arith, v .within, g .low)) (v .front)
+
+      size-is : word w (6 * (i - 1) + 3) ≡ word w₀ (6 * (i - 1) + 3)
+      size-is = front-word (4 * (3 * q)) w w₀ (6 * (i - 1) + 3) (omega (arith, v .within, g .low)) (v .front)
+
+      next-is : (k : ℕ) → cond (eqb (tagAt w₀ k (i - 1)) k) (i - 1) (soonest (tagAt w₀ k) k i (count - i)) ≡ soonest (tagAt w₀ k) k (i - 1) (count - (i - 1))
+      unfolding soonest
+      next-is k =
+          let a : count - (i - 1) ≡ suc (count - i) = omega (arith, v .within) in
+          let b : suc (i - 1) ≡ i = omega arith in
+          rw (a, b)
+
+      head-is : (k : ℕ) → nextIn (suc count) (lookup u (3 * q) r k) ≡ suc (soonest (tagAt w₀ k) k (i - 1) (count - (i - 1)))
+      head-is k =
+          let b : i - 1 + 1 ≡ suc (i - 1) = omega arith in
+          split≡ (word w (6 * (i - 1) + 3)) 0
+          (λ z. let n : tagAt w₀ k (i - 1) ≡ k → ⊥ = (λ e. omega (arith, sym (tag-empty w₀ k (i - 1) (sym size-is ∙ z)) ∙ e)) in
+          ap (nextIn (suc count)) (s .empty z k) ∙ v .heads k ∙ ap suc (rw (ne-eqb (tagAt w₀ k (i - 1)) k n) at (next-is k)))
+          (λ z. let t : tagAt w₀ k (i - 1) ≡ word w₀ (6 * (i - 1)) = tag-full w₀ k (i - 1) (λ e. z (size-is ∙ e)) in
+          ap (nextIn (suc count)) (s .says z k) ∙ next-upd (suc count) (word w (6 * (i - 1))) (lookup w (3 * q) n) (i - 1 + 1) 0 k
+          ∙ rw (own, v .heads k, b) (cond-suc (eqb (word w₀ (6 * (i - 1))) k) (i - 1) (soonest (tagAt w₀ k) k i (count - i)) ∙ ap suc (rw t at (next-is k))))
+
+      link-is : word u (7 * q + (i - 1)) ≡ suc (soonest (tagAt w₀ (keyIn w₀ (i - 1))) (keyIn w₀ (i - 1)) (suc (i - 1)) (count - suc (i - 1)))
+      link-is =
+          let b : suc (i - 1) ≡ i = omega arith in
+          let c : x ≡ suc count = omega (arith, ex) in
+          s .link ∙ rw (own, c, b) (v .heads (word w₀ (6 * (i - 1))))
+
+      pub linking-turn : Linking w₀ q count u r (i - 1)
+      linking-turn = record {
+        within = omega (arith, v .within);
+        few = omega (arith, v .few, s .most);
+        size = s .size ∙ v .size;
+        front = front-then (4 * (3 * q)) u w w₀ (s .front) (v .front);
+        indexed = s .indexed;
+        heads = head-is;
+        links = λ j lo hi. split≡ j (i - 1)
+            (λ e. rw e link-is)
+            (λ e. s .beyond (7 * q + j) (omega arith) (λ z. e (omega arith)) ∙ v .links j (more j lo e) hi);
+      }
+
+  pub linking-end : (w : List ℕ) (n i : ℕ) → Linking w₀ q count w n i → i ≤ 0 → LinkedTo w₀ q count w
+  unfolding tagAt
+  linking-end w n i v h = record {
     linked = record {
-      bucket = λ k. k % m;
       count = count;
       most = omega arith;
-      low = g .room .low;
+      low = g .low;
       next = λ j l. v .links j (omega arith) l ∙ ap suc (same j l);
     };
     front = v .front;
     size = v .size;
   } where
-    key : (j : ℕ) → j < count → bucketIn w₀ m j ≡ bucketIn w m j
-    key j l = ap (λ (k : ℕ). k % m) (sym (front-word (4 * (6 * q)) w w₀ (6 * j) (omega (arith, g .room .low)) (v .front)))
+    key : (j : ℕ) → j < count → keyIn w₀ j ≡ keyIn w j
+    key j l = sym (front-word (4 * (3 * q)) w w₀ (6 * j) (omega (arith, g .low)) (v .front))
 
-    same : (j : ℕ) → j < count → soonest (bucketIn w₀ m) (bucketIn w₀ m j) (suc j) (count - suc j) ≡ soonest (bucketIn w m) (bucketIn w m j) (suc j) (count - suc j)
-    same j l = rw (← key j l) (soonest-agree (bucketIn w₀ m) (bucketIn w m) (bucketIn w₀ m j) (suc j) (count - suc j) (λ k lo hi. key k (omega arith)))
+    tag : (k j : ℕ) → j < count → tagAt w₀ k j ≡ tagAt w k j
+    tag k j l = rw (key j l, sym (front-word (4 * (3 * q)) w w₀ (6 * j + 3) (omega (arith, g .low)) (v .front)))
 
--- ---- both
-
-module _ (w : List ℕ) (q m count : ℕ) (g : LinkRoom w q m count) (v : List ℕ) (x : ℕ) (ex : x ≡ count + 1) (c : Filled w (6 * q) m x v) where
-  pub filled-unlinked : Unlinked v q m count
-  filled-unlinked = record {
-    room = record { low = g .low; some = g .some; few = g .few; small = g .small; room = rw (c .size) (g .room) };
-    heads = λ h l. c .is h l ∙ ex ∙ (let y : count + 1 ≡ suc count = omega arith in y);
-  }
-
-  pub filled-linked : (u : List ℕ) → LinkedTo v q count u → LinkedTo w q count u
-  filled-linked u l = record { linked = l .linked; front = front-then (4 * (6 * q)) u v w (l .front) (c .front); size = l .size ∙ c .size }
+    same : (j : ℕ) → j < count → soonest (tagAt w₀ (keyIn w₀ j)) (keyIn w₀ j) (suc j) (count - suc j) ≡ soonest (tagAt w (keyIn w j)) (keyIn w j) (suc j) (count - suc j)
+    same j l = rw (← key j l) (soonest-agree (tagAt w₀ (keyIn w₀ j)) (tagAt w (keyIn w₀ j)) (keyIn w₀ j) (suc j) (count - suc j) (λ k lo hi. tag (keyIn w₀ j) k (omega arith)))

@@ -10,9 +10,8 @@ use borrow.Author.Tests.{eq-eqb, ne-eqb, lt-ltb, le-ltb}
 use Rattle.laws.specs.Choice.{split≤}
 use Rattle.words.specs.Words.{word}
 use Rattle.table.specs.Table.{Slot, none as no-row, some as row, findIn, lookup, lookup-found, lookup-nothing, second, second-le, find-below}
-use Rattle.table.specs.Index.{SeekPre, EnterPre, Entered}
-use Rattle.table.specs.declared.Index.{Index}
-use Rattle.table.specs.Chain.{bucketsOf}
+use Rattle.tree.specs.Tree.{SeekPre, EnterPre, Entered}
+use Rattle.tree.specs.declared.Tree.{Tree}
 use Rattle.table.specs.declared.Row.{Row}
 use Rattle.table.specs.declared.Row.the-variants.{At, Nothing}
 use Rattle.l2cap.specs.Steps.{indexOf, Look, SetOpen, asOpen, openAt, longer, grown, nextAt, Small, Arrive}
@@ -40,14 +39,9 @@ as-got no-row a g e = never e
 as-got (row zero y) a g e = never e
 as-got (row (suc x) y) a g e = cc
 
--- ---- the buckets
-
-pub index-is : (q m : ℕ) → m ≡ bucketsOf q → _≡_ {A = Index} (record { rows = 3 * q; chain = 5 * q; heads = 6 * q; m = m }) (indexOf q)
-index-is q m e = rw e
-
 -- ---- the row of a key
 
-module _ (w : List ℕ) (q n : ℕ) (x : Index) (ex : x ≡ indexOf q) where
+module _ (w : List ℕ) (q n : ℕ) (x : Tree) (ex : x ≡ indexOf q) where
   pub look-seek : Look w q n → SeekPre w x n
   look-seek p = rw ex (p .seek)
 
@@ -62,7 +56,7 @@ module _ (w : List ℕ) (q n : ℕ) (x : Index) (ex : x ≡ indexOf q) where
     found = rw (ex, ye) at e
 
     pub look-row : Look w q n → (i : ℕ) → f ≡ At i → 4 * (3 * q + 4 * i) + 16 ≤ length w
-    look-row p i d = omega (arith, find-below w (3 * q) k n i (sym found ∙ d), p .seek .stands .rows, p .seek .stands .chain, p .seek .stands .room)
+    look-row p i d = omega (arith, find-below w (3 * q) k n i (sym found ∙ d), p .seek .stands .rows, p .seek .stands .room)
 
     pub look-none : f ≡ Nothing → Closed ≡ openAt w (3 * q) n k
     unfolding openAt asOpen

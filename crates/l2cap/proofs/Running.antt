@@ -12,8 +12,7 @@ use Rattle.laws.specs.Lists.{All}
 use Rattle.laws.specs.Keys.{eqK}
 use Rattle.words.specs.Front.{Front, front-refl, front-then, front-word}
 use Rattle.table.specs.Table.{lookup, sumOf}
-use Rattle.table.specs.Chain.{chained-none, headed-none, bucketsOf, buckets-some, buckets-fit, Filled}
-use Rattle.table.specs.Index.{bucketAt}
+use Rattle.tree.specs.Tree.{indexed-none}
 use Rattle.container.specs.Packets.{Packet}
 use Rattle.btsnoop.specs.PacketTable.{packetAt, packetsFrom, dataOf, Tabled}
 use Rattle.btsnoop.specs.PacketFrames.{packets-next, packets-none, data-mono, tabled-less, two-ways, packet-front, packets-front, tabled-front}
@@ -116,34 +115,21 @@ module _ (f w₀ : List ℕ) (q count : ℕ) (pre : Run f w₀ q count) where
 
 -- ---- before the first packet
 
-module _ (f w : List ℕ) (count : ℕ) (pre : Tabled f w count) (q : ℕ) (e : q ≡ length f / 4) (m : ℕ) (me : m ≡ bucketsOf q) where
-  many : m ≤ q
-  many = omega (arith, buckets-fit q (omega (arith, pre .total)))
+module _ (f w : List ℕ) (count : ℕ) (pre : Tabled f w count) (q : ℕ) (e : q ≡ length f / 4) where
+  pub link-room : LinkRoom w q count
+  link-room = record { low = omega (arith, pre .total); small = omega (arith, pre .small); room = omega (arith, pre .room) }
 
-  pub link-room : LinkRoom w q m count
-  link-room = record { low = omega (arith, pre .total); some = omega (arith, buckets-some q); few = many; small = omega (arith, pre .small); room = omega (arith, pre .room) }
+  module _ (v : List ℕ) (l : LinkedTo w q count v) where
+    low₀ : 24 * count ≤ 4 * (3 * q)
+    low₀ = omega (arith, pre .total)
 
-  module _ (x : List ℕ) (l : LinkedTo w q count x) where
-    pub fill-room : 4 * (6 * q + m) ≤ length x
-    fill-room = omega (arith, many, l .size, pre .room)
+    pub link-run : Run f v q count
+    link-run = record {
+      tabled = tabled-front (4 * (3 * q)) f v w count low₀ (l .front) (l .size) pre;
+      quarter = e;
+      linked = l .linked;
+      indexed = indexed-none v (indexOf q);
+    }
 
-    module _ (v : List ℕ) (c : Filled x (6 * q) m 0 v) where
-      low₀ : 24 * count ≤ 4 * (6 * q)
-      low₀ = omega (arith, pre .total)
-
-      fr : Front (4 * (6 * q)) v w
-      fr = front-then (4 * (6 * q)) v x w (c .front) (l .front)
-
-      pub fill-run : Run f v q count
-      fill-run = record {
-        tabled = tabled-front (4 * (6 * q)) f v w count low₀ fr (c .size ∙ l .size) pre;
-        quarter = e;
-        linked = linked-agree v x q count (λ j h. front-word (4 * (6 * q)) v x j (omega arith) (c .front)) (λ j h. c .beyond j (omega (arith, many))) (l .linked);
-        indexed = record {
-          chained = chained-none (bucketAt v (indexOf q)) v (5 * q);
-          headed = rw me at (headed-none (bucketAt v (indexOf q)) v (6 * q) m (c .is));
-        };
-      }
-
-      pub run-all : (u : List ℕ) (n : ℕ) → Reassembled f u n (pdus (packetsFrom f v 0 count)) → Reassembled f u n (pdus (packetsFrom f w 0 count))
-      run-all u n r = rw (packets-front (4 * (6 * q)) f v w 0 count (omega (arith, low₀)) fr) at r
+    pub run-all : (u : List ℕ) (n : ℕ) → Reassembled f u n (pdus (packetsFrom f v 0 count)) → Reassembled f u n (pdus (packetsFrom f w 0 count))
+    run-all u n r = rw (packets-front (4 * (3 * q)) f v w 0 count (omega (arith, low₀)) (l .front)) at r

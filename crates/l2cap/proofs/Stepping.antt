@@ -13,9 +13,8 @@ use Rattle.laws.specs.Choice.{split≡}
 use Rattle.laws.specs.Numbers.{le16}
 use Rattle.words.specs.Words.{word}
 use Rattle.words.specs.Front.{Front, front-then, front-word, front-less, front-refl}
-use Rattle.table.specs.Chain.{bucketsOf, buckets-some, buckets-fit}
 use Rattle.table.specs.Table.{some as row, lookup, upd, second, sumOf, Stored, Agree, lookup-agree, long-agree, sum-agree, second-le}
-use Rattle.table.specs.Index.{Stands, Entered, stands-less, indexed-agree}
+use Rattle.tree.specs.Tree.{Stands, Entered, stands-less, stands-same, indexed-agree}
 use Rattle.btsnoop.specs.PacketTable.{packetAt, dataOf}
 use Rattle.btsnoop.specs.PacketFrames.{data-next, data-front}
 use Rattle.l2cap.specs.Pdus.{joined, isComplete, stillOpen, completed}
@@ -183,16 +182,11 @@ module _ (f w : List ℕ) (q : ℕ) (t : Tables) (i : ℕ) (p : Step f w q t i) 
   small : q ≤ 1048576
   small = omega (arith, p .tabled .small, p .ready .quarter)
 
-  few : bucketsOf q ≤ q
-  few = buckets-fit q (omega (arith, p .tabled .total, p .ready .quarter))
-
   -- one row more has room, and so has its index
   stands : Stands w (indexOf q) (t .live + 1)
   stands = record {
     rows = omega (arith, p .tabled .total, p .ready .live, p .ready .quarter);
-    chain = omega (arith, p .tabled .total, p .ready .live, p .ready .quarter);
-    room = omega (arith, few, p .tabled .room, p .ready .quarter);
-    some = buckets-some q;
+    room = omega (arith, p .tabled .total, p .ready .live, p .tabled .room, p .ready .quarter);
     few = omega (arith, p .tabled .total, p .tabled .small, p .ready .live);
   }
 
@@ -236,7 +230,7 @@ module _ (f w : List ℕ) (q : ℕ) (t : Tables) (i : ℕ) (p : Step f w q t i) 
           placed = placed-agree f u v (2 * q) made top top (omega arith) ag (b .placed);
         };
         front = frn;
-        beyond = λ j h. en .beyond j (omega (arith, h, few)) ∙ b .beyond j h;
+        beyond = λ j h. en .beyond j (omega (arith, h, p .tabled .total, p .ready .live, p .ready .quarter)) ∙ b .beyond j h;
         size = so .size ∙ b .size;
         list = pdus-agree f u v (2 * q) 0 made made top (omega arith) ag frt (b .placed) ∙ b .list;
         map = next-map f u w (3 * q) (t .live) c i (4 * q) o (p .ready .sound) frn low says (b .counted) (b .own) ∙ rw (b .held, number-at f w i);
@@ -318,10 +312,10 @@ module _ (f w : List ℕ) (q : ℕ) (t : Tables) (i : ℕ) (p : Step f w q t i) 
         let up : (j : ℕ) → 3 * q ≤ j → word v j ≡ word w j = (λ j h. fin .above j (omega (arith, p .ready .made, p .tabled .total, p .ready .quarter))) in
         record {
           enter = record {
-            stands = record { rows = stands .rows; chain = stands .chain; room = rw (fin .size) (stands .room); some = stands .some; few = stands .few };
-            indexed = indexed-agree v w (indexOf q) (t .live) (omega arith)
+            stands = stands-same v w (indexOf q) (t .live + 1) (fin .size) stands;
+            indexed = indexed-agree w (indexOf q) (t .live) (p .ready .indexed) v
                 (λ j h. long-agree v w (3 * q + 4 * j) (up (3 * q + 4 * j) (omega arith)) (up (3 * q + 4 * j + 1) (omega arith)))
-                (λ j lo hi. up j (omega arith)) (omega (arith, stands .chain)) (p .ready .indexed);
+                (λ j lo hi. up j (omega arith));
           };
           small = small;
         }

@@ -14,7 +14,7 @@ use Rattle.words.specs.Front.{Front, front-then, front-sets, front-refl}
 use Rattle.container.specs.Packets.{Packet}
 use Rattle.btsnoop.specs.PacketTable.{packetAt, packetsFrom}
 use Rattle.btsnoop.specs.PacketFrames.{packets-next, packets-none, packets-snoc, packet-front, packets-front, tabled-less, tabled-front}
-use Rattle.l2cap.specs.Links.{soonest, soonest-from, soonest-bucket, soonest-skip, Linked, Next}
+use Rattle.l2cap.specs.Links.{soonest, soonest-from, soonest-bucket, soonest-skip, tagAt, tag-full, tag-key, Linked, Next}
 use Rattle.l2cap.specs.Steps.{numberOf, pieceOf, gathered, since, brought, Walk, Paste, Gather}
 
 -- ---- one packet
@@ -97,34 +97,40 @@ since-front n f u w k i upto h l a = ap (gathered k) (packets-front n f u w i (u
 -- ---- from a packet to the next of its bucket
 
 module _ (w : List ℕ) (q upto : ℕ) (l : Linked w q upto) (i : ℕ) where
-  link-is : i < upto → word w (7 * q + i) ≡ suc (soonest (λ j. l .bucket (word w (6 * j))) (l .bucket (word w (6 * i))) (suc i) (l .count - suc i))
+  link-is : i < upto → word w (7 * q + i) ≡ suc (soonest (tagAt w (word w (6 * i))) (word w (6 * i)) (suc i) (l .count - suc i))
   link-is h = l .next i (omega (arith, l .most))
 
   pub link-some : i < upto → 0 < word w (7 * q + i)
   link-some h = rw (link-is h) (omega arith)
 
   module _ (r : ℕ) (h : i < upto) (e : word w (7 * q + i) ≡ r + 1) where
-    link-to : r ≡ soonest (λ j. l .bucket (word w (6 * j))) (l .bucket (word w (6 * i))) (suc i) (l .count - suc i)
-    link-to = let z : r + 1 ≡ suc (soonest (λ j. l .bucket (word w (6 * j))) (l .bucket (word w (6 * i))) (suc i) (l .count - suc i)) = sym e ∙ link-is h in omega (arith, z)
+    link-to : r ≡ soonest (tagAt w (word w (6 * i))) (word w (6 * i)) (suc i) (l .count - suc i)
+    link-to = let z : r + 1 ≡ suc (soonest (tagAt w (word w (6 * i))) (word w (6 * i)) (suc i) (l .count - suc i)) = sym e ∙ link-is h in omega (arith, z)
 
     pub link-more : i < r
-    link-more = omega (arith, link-to, soonest-from (λ j. l .bucket (word w (6 * j))) (l .bucket (word w (6 * i))) (suc i) (l .count - suc i))
+    link-more = omega (arith, link-to, soonest-from (tagAt w (word w (6 * i))) (word w (6 * i)) (suc i) (l .count - suc i))
 
-    pub link-bucket : (k : ℕ) → l .bucket (word w (6 * i)) ≡ k → r < upto → l .bucket (word w (6 * r)) ≡ k
-    link-bucket k m u = rw link-to (soonest-bucket (λ j. l .bucket (word w (6 * j))) (l .bucket (word w (6 * i))) (suc i) (l .count - suc i) (rw (← link-to) (omega (arith, l .most)))) ∙ m
+    pub link-bucket : (k : ℕ) → word w (6 * i) ≡ k → r < upto → word w (6 * r) ≡ k
+    link-bucket k m u = tag-key w (word w (6 * i)) r (rw link-to (soonest-bucket (tagAt w (word w (6 * i))) (word w (6 * i)) (suc i) (l .count - suc i) (rw (← link-to) (omega (arith, l .most))))) ∙ m
 
 -- packets in between do not have the key
 pub since-jump :
-    (f w : List ℕ) (q upto key : ℕ) (l : Linked w q upto) (i r : ℕ) → i < upto → word w (7 * q + i) ≡ r + 1 → l .bucket (word w (6 * i)) ≡ l .bucket key →
+    (f w : List ℕ) (q upto key : ℕ) (l : Linked w q upto) (i r : ℕ) → i < upto → word w (7 * q + i) ≡ r + 1 → word w (6 * i) ≡ key →
     since f w key (i + 1) upto ≡ since f w key r upto
 since-jump f w q upto key l i r h e m =
     rw (link-to w q upto l i r h e, add-one)
-    (soonest-skip (λ j. since f w key j upto) (λ j. l .bucket (word w (6 * j))) (l .bucket (word w (6 * i))) (suc i) (l .count - suc i) skip) where
-      skip : (j : ℕ) → (l .bucket (word w (6 * j)) ≡ l .bucket (word w (6 * i)) → ⊥) → since f w key j upto ≡ since f w key (suc j) upto
+    (soonest-skip (λ j. since f w key j upto) (tagAt w (word w (6 * i))) (word w (6 * i)) (suc i) (l .count - suc i) skip) where
+      nothing : (j : ℕ) → (tagAt w (word w (6 * i)) j ≡ word w (6 * i) → ⊥) → j < upto → pieceOf key (packetAt f w j) ≡ []
+      nothing j n u =
+          split≡ (word w (6 * j + 3)) 0
+          (λ z. let b : brought w key j ≡ 0 = omega (arith, brought-le f w key j, z) in piece-is f w key j ∙ rw b)
+          (λ z. piece-other f w key j (λ x. n (tag-full w (word w (6 * i)) j z ∙ x ∙ sym m)))
+
+      skip : (j : ℕ) → (tagAt w (word w (6 * i)) j ≡ word w (6 * i) → ⊥) → since f w key j upto ≡ since f w key (suc j) upto
       skip j n =
           split≤ upto j
           (λ u. since-stop f w key j upto u ∙ sym (since-stop f w key (suc j) upto (omega arith)))
-          (λ u. since-cons f w key j upto u ∙ rw (piece-other f w key j (λ x. n (ap (l .bucket) x ∙ sym m)), add-one))
+          (λ u. since-cons f w key j upto u ∙ rw (nothing j n u, add-one))
 
 -- ---- a byte of what a key has
 
@@ -133,13 +139,13 @@ past a b j h = let z : length a + (j - length a) ≡ j = omega arith in rw z at 
 
 pub record Seeking (f w : List ℕ) (q first upto key at i j : ℕ) : Type 0 where
   pub linked : Linked w q upto
-  pub mine : i < upto → linked .bucket (word w (6 * i)) ≡ linked .bucket key
+  pub mine : i < upto → word w (6 * i) ≡ key
   pub less : j ≤ at
   pub same : getD (since f w key i upto) j 0 ≡ getD (since f w key first upto) at 0
 
 module _ (f w : List ℕ) (q first upto key at : ℕ) (pre : Walk f w q first upto key) where
   pub seek-start : Seeking f w q first upto key at first at
-  seek-start = record { linked = pre .linked; mine = λ h. ap (pre .linked .bucket) (pre .own); less = omega arith; same = refl }
+  seek-start = record { linked = pre .linked; mine = λ h. pre .own; less = omega arith; same = refl }
 
   module _ (i j : ℕ) (s : Seeking f w q first upto key at i j) where
     pub seek-row : i < upto → 24 * i + 24 ≤ length w
@@ -159,7 +165,7 @@ module _ (f w : List ℕ) (q first upto key at : ℕ) (pre : Walk f w q first up
         let p : length (pieceOf key (packetAt f w i)) ≡ n = piece-size n e h in
         record {
           linked = s .linked;
-          mine = link-bucket w q upto (s .linked) i r h ne (s .linked .bucket key) (s .mine h);
+          mine = link-bucket w q upto (s .linked) i r h ne key (s .mine h);
           less = omega (arith, s .less);
           same = ap (λ (x : List ℕ). getD x (j - n) 0) (sym (since-jump f w q upto key (s .linked) i r h ne (s .mine h))) ∙ sym (rw (since-cons f w key i upto h, past (pieceOf key (packetAt f w i)) (since f w key (i + 1) upto) j (omega arith), p)) ∙ s .same;
         }
@@ -213,7 +219,7 @@ word-behind vs w at j h = word-of-bytes (sets w at vs) w j (λ k lo hi. byte-beh
 
 pub record Gathering (f w₀ : List ℕ) (q first upto key need to : ℕ) (w : List ℕ) (i pos : ℕ) : Type 0 where
   pub linked : Linked w₀ q upto
-  pub mine : i < upto → linked .bucket (word w₀ (6 * i)) ≡ linked .bucket key
+  pub mine : i < upto → word w₀ (6 * i) ≡ key
   pub low : to ≤ pos
   pub ends : pos ≤ to + need
   pub front : Front (24 * upto) w w₀
@@ -226,7 +232,7 @@ module _ (f w₀ : List ℕ) (q first upto key need to : ℕ) (pre : Gather f w�
       let z : to + need - to ≡ need = omega arith in
       record {
         linked = pre .walk .linked;
-        mine = λ h. ap (pre .walk .linked .bucket) (pre .walk .own);
+        mine = λ h. pre .walk .own;
         low = omega arith;
         ends = omega arith;
         front = front-refl (24 * upto) w₀;
@@ -271,7 +277,7 @@ module _ (f w₀ : List ℕ) (q first upto key need to : ℕ) (pre : Gather f w�
             ap (take (to + need - pos)) (since-cons f w₀ key i upto h ∙ rw (since-jump f w₀ q upto key (g .linked) i x h (sym link₁ ∙ e) (g .mine h))) ∙ take-app (to + need - pos) (pieceOf key (packetAt f w₀ i)) (since f w₀ key x upto) ∙ rw lf in
             record {
               linked = g .linked;
-              mine = link-bucket w₀ q upto (g .linked) i x h (sym link₁ ∙ e) (g .linked .bucket key) (g .mine h);
+              mine = link-bucket w₀ q upto (g .linked) i x h (sym link₁ ∙ e) key (g .mine h);
               low = omega (arith, wrote .next, g .low);
               ends = omega (arith, wrote .next, short, g .ends);
               front = front-then (24 * upto) u w w₀ (rw (wrote .writes) (front-sets (24 * upto) (take (to + need - pos) (pieceOf key (packetAt f w₀ i))) w pos (omega (arith, pre .low, g .low)))) (g .front);

@@ -11,6 +11,7 @@ use borrow.Author.Tests.{eq-eqb, ne-eqb, eqb-true}
 use Rattle.laws.specs.Choice.{split≡}
 use Rattle.words.specs.Words.{word}
 use Rattle.words.specs.Front.{Front}
+use Rattle.table.specs.Table.{Slot, none, some}
 
 -- the first of m rows from i on whose bucket is h; i + m if there is none
 unfoldable pub soonest : (ℕ → ℕ) → ℕ → ℕ → ℕ → ℕ
@@ -49,28 +50,44 @@ soonest-skip g b h i (suc m) e =
 
 -- ---- the words in work
 
--- the packets below upto, and perhaps more, are linked; equal keys are in one bucket
+-- what packet j is to the key h: h if it has the key and brings bytes
+unfoldable pub tagAt : List ℕ → ℕ → ℕ → ℕ
+tagAt w h j = cond (eqb (word w (6 * j + 3)) 0) (suc h) (word w (6 * j))
+
+pub tag-empty : (w : List ℕ) (h j : ℕ) → word w (6 * j + 3) ≡ 0 → tagAt w h j ≡ suc h
+unfolding tagAt
+tag-empty w h j e = rw (eq-eqb (word w (6 * j + 3)) 0 e)
+
+pub tag-full : (w : List ℕ) (h j : ℕ) → (word w (6 * j + 3) ≡ 0 → ⊥) → tagAt w h j ≡ word w (6 * j)
+unfolding tagAt
+tag-full w h j e = rw (ne-eqb (word w (6 * j + 3)) 0 e)
+
+pub tag-key : (w : List ℕ) (h j : ℕ) → tagAt w h j ≡ h → word w (6 * j) ≡ h
+tag-key w h j e = split≡ (word w (6 * j + 3)) 0 (λ z. absurd (omega (arith, sym (tag-empty w h j z) ∙ e))) (λ z. sym (tag-full w h j z) ∙ e)
+
+-- the packets below upto, and perhaps more, are linked: each to the next one with its key that brings bytes
 pub record Linked (w : List ℕ) (q upto : ℕ) : Type 0 where
-  pub bucket : ℕ → ℕ
   pub count : ℕ
   pub most : upto ≤ count
   pub low : 6 * count ≤ q
-  pub next : (i : ℕ) → i < count → word w (7 * q + i) ≡ suc (soonest (λ j. bucket (word w (6 * j))) (bucket (word w (6 * i))) (suc i) (count - suc i))
+  pub next : (i : ℕ) → i < count → word w (7 * q + i) ≡ suc (soonest (tagAt w (word w (6 * i))) (word w (6 * i)) (suc i) (count - suc i))
 
 pub linked-less : (w : List ℕ) (q m n : ℕ) → m ≤ n → Linked w q n → Linked w q m
-linked-less w q m n h l = record { bucket = l .bucket; count = l .count; most = omega (arith, l .most); low = l .low; next = l .next }
+linked-less w q m n h l = record { count = l .count; most = omega (arith, l .most); low = l .low; next = l .next }
 
 -- links do not see what is written between the packets and them
 pub linked-agree : (u w : List ℕ) (q n : ℕ) → ((j : ℕ) → j < q → word u j ≡ word w j) → ((j : ℕ) → 7 * q ≤ j → word u j ≡ word w j) → Linked w q n → Linked u q n
+unfolding tagAt
 linked-agree u w q n a b l = record {
-  bucket = l .bucket;
   count = l .count;
   most = l .most;
   low = l .low;
   next = λ i h.
       b (7 * q + i) (omega arith) ∙ l .next i h
-      ∙ ap suc (rw (a (6 * i) (omega (arith, l .low))) (soonest-agree (λ j. l .bucket (word w (6 * j))) (λ j. l .bucket (word u (6 * j))) (l .bucket (word w (6 * i))) (suc i) (l .count - suc i) (λ j lo hi. sym (ap (l .bucket) (a (6 * j) (omega (arith, l .low)))))));
-}
+      ∙ ap suc (rw (a (6 * i) (omega (arith, l .low))) (soonest-agree (tagAt w (word w (6 * i))) (tagAt u (word w (6 * i))) (word w (6 * i)) (suc i) (l .count - suc i) (λ j lo hi. tag-agree (word w (6 * i)) j (omega (arith, l .low)))));
+} where
+  tag-agree : (h j : ℕ) → 6 * j + 6 ≤ q → tagAt w h j ≡ tagAt u h j
+  tag-agree h j l = rw (a (6 * j) (omega arith), a (6 * j + 3) (omega arith))
 
 -- ---- what the functions ask and promise
 
@@ -79,20 +96,18 @@ pub record Next (w : List ℕ) (q i : ℕ) : Type 0 where
   pub room : 4 * (7 * q + i) + 4 ≤ length w
   pub some : 0 < word w (7 * q + i)
 
--- room to link the packets: m buckets whose words stand from word 6 * q on
-pub record LinkRoom (w : List ℕ) (q m count : ℕ) : Type 0 where
+-- room to link the packets, with a table of their keys from word 3 * q on
+pub record LinkRoom (w : List ℕ) (q count : ℕ) : Type 0 where
   pub low : 6 * count ≤ q
-  pub some : 0 < m
-  pub few : m ≤ q
   pub small : q ≤ 1048576
   pub room : 32 * q ≤ length w
 
--- no packet is linked
-pub record Unlinked (w : List ℕ) (q m count : ℕ) : Type 0 where
-  pub room : LinkRoom w q m count
-  pub heads : (h : ℕ) → h < m → word w (6 * q + h) ≡ suc count
-
 pub record LinkedTo (w : List ℕ) (q count : ℕ) (u : List ℕ) : Type 0 where
   pub linked : Linked u q count
-  pub front : Front (4 * (6 * q)) u w
+  pub front : Front (4 * (3 * q)) u w
   pub size : length u ≡ length w
+
+-- the packet that a table says comes next under a key, plus one
+unfoldable pub nextIn : ℕ → Slot → ℕ
+nextIn x none = x
+nextIn x (some y z) = y

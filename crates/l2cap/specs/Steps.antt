@@ -9,17 +9,16 @@ use lib.Dec.{eqb, ltb}
 use Rattle.laws.specs.Numbers.{le16}
 use Rattle.words.specs.Words.{word, putWord}
 use Rattle.words.specs.Front.{Front}
-use Rattle.table.specs.Table.{Slot, none as no-row, some as row, lookup, sumOf}
-use Rattle.table.specs.Index.{Indexed, SeekPre, EnterPre}
-use Rattle.table.specs.Chain.{bucketsOf}
-use Rattle.table.specs.declared.Index.{Index}
+use Rattle.table.specs.Table.{Slot, none as no-row, some as row, lookup, sumOf, upd, some}
+use Rattle.tree.specs.Tree.{Indexed, SeekPre, EnterPre}
+use Rattle.tree.specs.declared.Tree.{Tree}
 use Rattle.container.specs.Packets.{Packet}
 use Rattle.btsnoop.specs.PacketTable.{packetAt, packetsFrom, dataOf, Tabled}
 use Rattle.l2cap.specs.Pdus.{joined, stillOpen, completed, pduOf}
 use Rattle.l2cap.specs.PduTable.{pdusFrom, paysOf}
 use Rattle.l2cap.specs.PduFrames.{Placed}
 use Rattle.l2cap.specs.Rekeyed.{putBy}
-use Rattle.l2cap.specs.Links.{Linked}
+use Rattle.l2cap.specs.Links.{Linked, nextIn}
 use Rattle.l2cap.specs.declared.Open.{Open}
 use Rattle.l2cap.specs.declared.Open.the-variants.{Closed, From}
 use Rattle.l2cap.specs.declared.Tables.{Tables}
@@ -71,8 +70,8 @@ pub record Need (B : List ℕ) (got r : ℕ) : Type 0 where
 -- ---- what is open
 
 -- where the open PDUs stand and their index
-abbrev pub indexOf : ℕ → Index
-indexOf q = record { rows = 3 * q; chain = 5 * q; heads = 6 * q; m = bucketsOf q }
+abbrev pub indexOf : ℕ → Tree
+indexOf q = record { rows = 3 * q; links = 5 * q }
 
 -- a row holds the number of the first packet and one more, or 0 if nothing is open, and the bytes so far
 unfoldable pub asOpen : Slot → Open
@@ -199,3 +198,22 @@ pub record Run (f w : List ℕ) (q count : ℕ) : Type 0 where
   pub quarter : q ≡ length f / 4
   pub linked : Linked w q count
   pub indexed : Indexed w (indexOf q) 0
+
+-- ---- the packets linked
+
+-- packet i can be linked, with the keys of those behind it in the table
+pub record LinkStep (w : List ℕ) (q rows i : ℕ) : Type 0 where
+  pub opens : SetOpen w q rows
+  pub low : 24 * i + 24 ≤ 4 * q
+  pub room : 32 * q ≤ length w
+
+-- packet i is linked to what the table says of its key; if it brings bytes, the table then says i
+pub record LinkedStep (w : List ℕ) (q rows i x : ℕ) (u : List ℕ) (r : ℕ) : Type 0 where
+  pub link : word u (7 * q + i) ≡ nextIn x (lookup w (3 * q) rows (word w (6 * i)))
+  pub says : (word w (6 * i + 3) ≡ 0 → ⊥) → (k : ℕ) → lookup u (3 * q) r k ≡ upd (lookup w (3 * q) rows) (word w (6 * i)) (some (i + 1) 0) k
+  pub empty : word w (6 * i + 3) ≡ 0 → (k : ℕ) → lookup u (3 * q) r k ≡ lookup w (3 * q) rows k
+  pub indexed : Indexed u (indexOf q) r
+  pub most : r ≤ rows + 1
+  pub front : Front (4 * (3 * q)) u w
+  pub beyond : (j : ℕ) → 7 * q ≤ j → (7 * q + i ≡ j → ⊥) → word u j ≡ word w j
+  pub size : length u ≡ length w

@@ -5,22 +5,18 @@ ghost use lib.ListN.{length, getD, take, drop};
 ghost use Rattle.laws.specs.Numbers.{le16};
 ghost use Rattle.laws.specs.Stores.{Writes};
 ghost use Rattle.words.specs.Words.{word};
-ghost use Rattle.table.specs.Chain.{Bucket};
-ghost use Rattle.table.specs.Index.{Entered};
+ghost use Rattle.table.specs.Table.{lookup};
+ghost use Rattle.tree.specs.Tree.{Entered};
 ghost use Rattle.btsnoop.specs.PacketTable.{packetAt, packetsFrom, Tabled};
 ghost use Rattle.l2cap.specs.Pdus.{pdus};
 ghost use Rattle.l2cap.specs.PduTable.{pduAt, Reassembled};
 ghost use Rattle.l2cap.specs.PduFrames.{Lent};
-ghost use Rattle.l2cap.specs.Links.{Next, LinkRoom, Unlinked, LinkedTo};
-ghost use Rattle.l2cap.specs.Steps.{pieceOf, since, brought, Walk, Paste, Gather, Need, indexOf, openAt, grown, nextAt, Small, Look, SetOpen, Arrive, putPdu, PutPdu, Finish, Finished, Step, Stepped, Run};
-use table::Index;
+ghost use Rattle.l2cap.specs.Links.{Next, LinkRoom, LinkedTo, nextIn};
+ghost use Rattle.l2cap.specs.Steps.{pieceOf, since, brought, Walk, Paste, Gather, Need, indexOf, openAt, grown, nextAt, Small, Look, SetOpen, Arrive, putPdu, PutPdu, Finish, Finished, Step, Stepped, Run, LinkStep, LinkedStep};
 use table::Row;
-use table::bucket;
-use table::buckets;
-use table::enter;
-use table::fill;
-use table::link;
-use table::seek;
+use tree::Tree;
+use tree::enter;
+use tree::seek;
 use words::copy_to;
 use words::get32;
 use words::get64;
@@ -176,15 +172,13 @@ fn narrow(x: usize) -> u32
 }
 
 // Where the open PDUs stand and their index, with q a quarter of the file's length.
-fn index_of(q: usize) -> Index
+fn index_of(q: usize) -> Tree
     requires { ⌜ q ≤ 1048576 ⌝ }
     ensures { λ r. ⌜ r ≡ indexOf q ⌝ }
 {
-    Index {
+    Tree {
         rows: 3 * q,
-        chain: 5 * q,
-        heads: 6 * q,
-        m: buckets(q),
+        links: 5 * q,
     }
 }
 
@@ -321,34 +315,47 @@ fn step(file: &[u8], w: &mut [u8], q: usize, t: Tables, i: usize) -> Tables
     }
 }
 
-// The bucket of packet i, of m.
-fn bucket_of(w: &[u8], i: usize, m: usize) -> usize
-    requires { ⌜ (24 * i + 24 ≤ length (now w)) × (0 < m) ⌝ }
-    ensures { λ r. ⌜ Bucket (word (now (w .entry)) (6 * i)) m r ⌝ }
+// The packet that the table says comes next under the key, plus one; none if it says nothing.
+fn next_of(w: &[u8], q: usize, rows: usize, key: u32, none: u32) -> u32
+    requires { ⌜ Look (now w) q rows ⌝ }
+    ensures { λ r. ⌜ r ≡ nextIn none (lookup (now (w .entry)) (3 * q) rows key) ⌝ }
 {
-    bucket(wide64(get32(w, 6 * i)), m as u64) as usize
+    let x = index_of(q);
+    let f = seek(w, x, rows, wide64(key));
+    let Row::At(i) = f else {
+        return none;
+    };
+    get32(w, 3 * q + 4 * i + 2)
 }
 
-// Links the packets of each of m buckets that are empty: from the last to the first.
-fn link_rows(w: &mut [u8], q: usize, m: usize, count: usize)
-    requires { ⌜ Unlinked (now w) q m count ⌝ }
+// Links packet i to the next one under its key that brings bytes, by the table of those behind it, and notes it in the table
+// if it brings bytes itself. Returns the count of rows.
+fn link_row(w: &mut [u8], q: usize, rows: usize, i: usize, none: u32) -> usize
+    requires { ⌜ LinkStep (now w) q rows i ⌝ }
+    ensures { λ r. ⌜ LinkedStep (now (w .entry)) q rows i none (now (w .exit)) r ⌝ }
+{
+    let key = get32(w, 6 * i);
+    let n = get32(w, 6 * i + 3);
+    let next = next_of(w, q, rows, key, none);
+    put32(w, 7 * q + i, next);
+    if n == 0 {
+        return rows;
+    }
+    set_open(w, q, rows, key, narrow(i + 1), 0)
+}
+
+// Links each packet to the next one under its key: from the last to the first.
+fn link_packets(w: &mut [u8], q: usize, count: usize)
+    requires { ⌜ LinkRoom (now w) q count ⌝ }
     ensures { λ _. ⌜ LinkedTo (now (w .entry)) q count (now (w .exit)) ⌝ }
 {
+    let none = narrow(count + 1);
+    let mut rows = 0;
     let mut i = count;
     while 0 < i {
         i -= 1;
-        let h = bucket_of(w, i, m);
-        link(w, 7 * q, 6 * q, i, h);
+        rows = link_row(w, q, rows, i, none);
     }
-}
-
-// Links the packets of each of m buckets. The words of the buckets stand from word 6 * q on, and are free afterwards.
-fn link_packets(w: &mut [u8], q: usize, m: usize, count: usize)
-    requires { ⌜ LinkRoom (now w) q m count ⌝ }
-    ensures { λ _. ⌜ LinkedTo (now (w .entry)) q count (now (w .exit)) ⌝ }
-{
-    fill(w, 6 * q, m, narrow(count + 1));
-    link_rows(w, q, m, count);
 }
 
 // The steps of all packets.
@@ -375,9 +382,7 @@ pub fn reassemble(file: &[u8], w: &mut [u8], count: usize) -> Tables
     ensures { λ r. ⌜ Reassembled (now (file .entry)) (now (w .exit)) (r .made) (pdus (packetsFrom (now (file .entry)) (now (w .entry)) 0 count)) ⌝ }
 {
     let q = file.len() / 4;
-    let m = buckets(q);
-    link_packets(w, q, m, count);
-    fill(w, 6 * q, m, 0);
+    link_packets(w, q, count);
     run(file, w, q, count)
 }
 

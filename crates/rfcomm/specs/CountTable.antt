@@ -1,5 +1,5 @@
 -- The table of counts in work: under 64 * link the sessions of a link, under 64 * link + DLCI its links on that DLCI.
-use Prim.Native.Nat.{ℕ, zero, suc, _+_, _-_, _*_, _<_, _≤_}
+use Prim.Native.Nat.{ℕ, zero, suc, _+_, _-_, _*_, _/_, _<_, _≤_}
 use mathlib.Core.Path.{_≡_, refl, sym, ap, _∙_}
 use mathlib.Core.Logic.{_≢_}
 use mathlib.Core.Bool.{Bool, true, false, cond}
@@ -13,7 +13,9 @@ use Rattle.laws.specs.Keys.{Key, eqK, splitK, eq-eqK, ne-eqK}
 use Rattle.laws.specs.Keyed.{put}
 use Rattle.words.specs.Words.{word}
 use Rattle.words.specs.Front.{Front}
-use Rattle.table.specs.Table.{Slot, none, some, lookup, upd, Stored, Agree, findIn, lookup-found, lookup-nothing, lookup-agree}
+use Rattle.table.specs.Table.{Slot, none, some, lookup, upd, Stored, Agree, findIn, find-below, lookup-found, lookup-nothing, lookup-agree}
+use Rattle.tree.specs.Tree.{SeekPre, EnterPre, Entered, stands-less}
+use Rattle.tree.specs.declared.Tree.{Tree}
 use Rattle.table.specs.declared.Row.{Row}
 use Rattle.table.specs.declared.Row.the-variants.{At, Nothing}
 use Rattle.rfcomm.specs.Pieces.{Counts, Kind, asks, opens, carries, passed, counted, noCounts}
@@ -30,9 +32,50 @@ pub count-none : (w : List ℕ) (b k n : ℕ) (f : Row) → f ≡ findIn w b k n
 unfolding valueOf
 count-none w b k n f p q = sym (ap valueOf (lookup-nothing w b k n (sym p ∙ q)))
 
+-- where n rows from word b on and their index stand: b is 6 areas
+unfoldable pub countIndex : ℕ → Tree
+countIndex b = record { rows = b; links = b + 4 * (b / 36) }
+
+pub record CountPre (w : List ℕ) (b n : ℕ) : Type 0 where
+  pub seek : SeekPre w (countIndex b) n
+  pub base : b ≤ 8388608
+
 pub record UpPre (w : List ℕ) (b n k : ℕ) : Type 0 where
-  pub room : 4 * (b + 4 * n) + 16 ≤ length w
+  pub enter : EnterPre w (countIndex b) n
+  pub base : b ≤ 8388608
   pub small : valueOf (lookup w b n k) < 65536
+
+pub up-count : (w : List ℕ) (b n k : ℕ) → UpPre w b n k → CountPre w b n
+up-count w b n k p = record { seek = record { stands = stands-less w (countIndex b) (n + 1) n (omega arith) (p .enter .stands); indexed = p .enter .indexed }; base = p .base }
+
+pub index-is : (b : ℕ) → record { rows = b; links = b + 4 * (b / 36) } ≡ countIndex b
+unfolding countIndex
+index-is b = refl
+
+module _ (w : List ℕ) (b n k : ℕ) (x : Tree) (ex : x ≡ countIndex b) where
+  pub count-seek : CountPre w b n → SeekPre w x n
+  count-seek p = rw ex (p .seek)
+
+  pub count-enter : UpPre w b n k → EnterPre w x n
+  count-enter p = rw ex (p .enter)
+
+  pub count-entered : (v : ℕ) → v ≡ valueOf (lookup w b n k) → (u : List ℕ) (r : ℕ) → Entered w x n k (v + 1) 0 u r → Entered w (countIndex b) n k (valueOf (lookup w b n k) + 1) 0 u r
+  count-entered v e u r d = rw (ex, e) at d
+
+  module _ (f : Row) (p : f ≡ findIn w (x .rows) k n) where
+    seen : f ≡ findIn w b k n
+    unfolding countIndex
+    seen = rw ex at p
+
+    pub count-row : CountPre w b n → (i : ℕ) → f ≡ At i → 4 * (b + 4 * i) + 16 ≤ length w
+    unfolding countIndex
+    count-row c i d = omega (arith, find-below w b k n i (sym seen ∙ d), c .seek .stands .rows, c .seek .stands .room)
+
+    pub seek-found : (i v : ℕ) → f ≡ At i → v ≡ word w (b + 4 * i + 2) → v ≡ valueOf (lookup w b n k)
+    seek-found i v q e = count-found w b k n i f v seen q e
+
+    pub seek-nothing : f ≡ Nothing → 0 ≡ valueOf (lookup w b n k)
+    seek-nothing q = count-none w b k n f seen q
 
 -- the counts that n rows at word b hold, after at most so many steps
 pub record Counted (m : Key → Counts) (w : List ℕ) (b n most : ℕ) : Type 0 where

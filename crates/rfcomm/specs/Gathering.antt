@@ -14,7 +14,7 @@ use Rattle.laws.specs.Keyed.{put, step, run}
 use Rattle.words.specs.Words.{word, long}
 use Rattle.words.specs.Front.{Front, front-refl, front-then, front-less, front-word}
 use Rattle.words.specs.Rows.{putWords, length-puts, front-puts, puts-above}
-use Rattle.table.specs.Table.{lookup, Stored, StoredAt, Agree}
+use Rattle.table.specs.Table.{lookup, Stored, Agree, long-agree}
 use Rattle.l2cap.specs.Pdus.{Pdu}
 use Rattle.l2cap.specs.PduTable.{pduAt, pdusFrom, paysOf, Inside, Reassembled}
 use Rattle.l2cap.specs.PduFrames.{Lent, reassembled-lent, pdus-next, pdus-none, pays-next, pays-agree, pdus-agree}
@@ -23,7 +23,8 @@ use Rattle.channels.specs.ChannelTable.{Tells}
 use Rattle.channels.specs.Passing.{Signalled, Tries, signalled-front}
 use Rattle.rfcomm.specs.Pieces.{Kind, asks, opens, carries, passed, kindOf, judged, told, judged-is, Counts, counted, Piece, pieceOf, brought, counting, noCounts, pieces}
 use Rattle.rfcomm.specs.PieceTable.{pieceAt, piecesFrom, infosOf, Within, Pieced}
-use Rattle.rfcomm.specs.CountTable.{valueOf, UpPre, Counted, counted-start, counted-agree, counted-none, counted-session, counted-link}
+use Rattle.tree.specs.Tree.{Indexed, SeekPre, EnterPre, Entered, Stands, stands-less, indexed-agree, indexed-none}
+use Rattle.rfcomm.specs.CountTable.{valueOf, countIndex, CountPre, UpPre, up-count, Counted, counted-start, counted-agree, counted-none, counted-session, counted-link}
 use Rattle.rfcomm.specs.PieceRows.{rowOf, row-long, PutPre, partPiece, row-len, row-piece, row-within, within-front, pieces-front, infos-front, pieces-snoc}
 use Rattle.rfcomm.specs.Judging.{kindShown, Carried, Borne, JudgePre, VerdictIs, carries-held}
 use Rattle.rfcomm.specs.declared.Part.{Part}
@@ -54,7 +55,7 @@ part-is w row b n i side k₁ k₂ s l cid start len e e₁ es e₂ el ec et en 
 
 pub record PiecePre (w : List ℕ) (row b n : ℕ) (i : Info) : Type 0 where
   pub whole : 4 * row + 28 ≤ length w
-  pub room : 4 * (b + 4 * n) ≤ length w
+  pub counts : CountPre w b n
   pub dlci : i .dlci < 64
   pub start : i .start < 4294967296
   pub len : i .len < 65536
@@ -86,6 +87,7 @@ pub record Ready (f w : List ℕ) (q rows : ℕ) (t : Taken) (j : ℕ) : Type 0 
   pub few : 48 + 32 * j ≤ length f
   pub room : 8 * length f ≤ length w
   pub values : (k : ℕ) → valueOf (lookup w (6 * q) (t .counts) k) ≤ j
+  pub indexed : Indexed w (countIndex (6 * q)) (t .counts)
   pub within : (i : ℕ) → i < t .pieces → Within f w (5 * q + 8 * i) (8 * q)
 
 -- what taking in a PDU does: the counts and the pieces by their definitions, whatever the signals are that the channels tell of
@@ -96,6 +98,7 @@ pub record TakenIn (f w : List ℕ) (q rows : ℕ) (t : Taken) (j : ℕ) (u : Li
       piecesFrom f u (5 * q) 0 (r .pieces) ≡ piecesFrom f w (5 * q) 0 (t .pieces) ++ brought (m (pduAt f w (2 * q + 7 * j) .link ∷ [])) (pduAt f w (2 * q + 7 * j)) (kindOf ss (pduAt f w (2 * q + 7 * j)))
   pub within : (i : ℕ) → i < r .pieces → Within f u (5 * q + 8 * i) (8 * q)
   pub few : 32 * r .pieces + infosOf u (5 * q) (r .pieces) ≤ 32 * t .pieces + infosOf w (5 * q) (t .pieces) + 32 + word w (2 * q + 7 * j + 4)
+  pub indexed : Indexed u (countIndex (6 * q)) (r .counts)
   pub more : r .counts ≤ t .counts + 1
   pub most : r .pieces ≤ t .pieces + 1
   pub front : Front (20 * q) u w
@@ -110,9 +113,14 @@ unfolding pduAt
 link-is f w at = refl
 
 module _ (f w : List ℕ) (q rows : ℕ) (t : Taken) (j : ℕ) (r : Ready f w q rows t j) where
+  stands : Stands w (countIndex (6 * q)) (t .counts + 1)
+  unfolding countIndex
+  stands = record { rows = omega (arith, r .counts, r .few, r .quarter); room = omega (arith, r .counts, r .few, r .quarter, r .room); few = omega (arith, r .counts, r .few, r .small) }
+
   pub up-pre : (k : ℕ) → UpPre w (6 * q) (t .counts) k
   up-pre k = record {
-    room = omega (arith, r .counts, r .few, r .quarter, r .room);
+    enter = record { stands = stands; indexed = r .indexed };
+    base = omega (arith, r .quarter, r .small);
     small = omega (arith, r .values k, r .few, r .small);
   }
 
@@ -120,7 +128,7 @@ module _ (f w : List ℕ) (q rows : ℕ) (t : Taken) (j : ℕ) (r : Ready f w q 
   take-pre i c = record {
     piece = record {
       whole = r .lent .room;
-      room = omega (arith, r .counts, r .few, r .quarter, r .room);
+      counts = up-count w (6 * q) (t .counts) 0 (up-pre 0);
       dlci = c .most;
       start = start-small;
       len = omega (arith, c .few);
@@ -159,6 +167,7 @@ module _ (f w : List ℕ) (q rows : ℕ) (t : Taken) (j : ℕ) (r : Ready f w q 
       list = λ m ss x c. rw (kind-as Passed e ss x, append-nil);
       within = r .within;
       few = omega arith;
+      indexed = r .indexed;
       more = omega arith;
       most = omega arith;
       front = front-refl (20 * q) w;
@@ -166,8 +175,9 @@ module _ (f w : List ℕ) (q rows : ℕ) (t : Taken) (j : ℕ) (r : Ready f w q 
       size = refl;
     }
 
-    module _ (side link : ℕ) (es : side ≡ word w (2 * q + 7 * j)) (el : link ≡ side / 2) (key : ℕ) (u : List ℕ) (n : ℕ) (at : StoredAt w (6 * q) (t .counts) key (valueOf (lookup w (6 * q) (t .counts) key) + 1) 0 u n) where
+    module _ (side link : ℕ) (es : side ≡ word w (2 * q + 7 * j)) (el : link ≡ side / 2) (key : ℕ) (u : List ℕ) (n : ℕ) (at : Entered w (countIndex (6 * q)) (t .counts) key (valueOf (lookup w (6 * q) (t .counts) key) + 1) 0 u n) where
       s : Stored w (6 * q) (t .counts) key (valueOf (lookup w (6 * q) (t .counts) key) + 1) 0 u n
+      unfolding countIndex
       s = at .stored
 
       my-link : pduAt f w (2 * q + 7 * j) .link ≡ link
@@ -182,6 +192,10 @@ module _ (f w : List ℕ) (q rows : ℕ) (t : Taken) (j : ℕ) (r : Ready f w q 
       kept-pieces : piecesFrom f u (5 * q) 0 (t .pieces) ≡ piecesFrom f w (5 * q) 0 (t .pieces)
       kept-pieces = pieces-front (24 * q) f u w (5 * q) 0 (t .pieces) (8 * q) pieces-room counts-front (omega arith) (λ i h. r .within i (omega arith))
 
+      beyond : (i : ℕ) → 7 * q ≤ i → word u i ≡ word w i
+      unfolding countIndex
+      beyond i h = at .beyond i (omega (arith, h, r .counts, r .few, r .quarter))
+
       counted-way : (y : Verdict) (k : Kind) → v ≡ y → kindShown f w y ≡ k → ((c : Counts) (p : Pdu) → brought c p k ≡ []) →
           ((m : Key → Counts) → Counted m w (6 * q) (t .counts) j → Counted (put m (link ∷ []) (counted (m (link ∷ [])) k)) u (6 * q) n (j + 1)) →
           TakenIn f w q rows t j u (record { counts = n; pieces = t .pieces })
@@ -190,10 +204,11 @@ module _ (f w : List ℕ) (q rows : ℕ) (t : Taken) (j : ℕ) (r : Ready f w q 
         list = λ m ss x c. rw (kind-as y e ss x ∙ ek, kept-pieces, nothing (m (pduAt f w (2 * q + 7 * j) .link ∷ [])) (pduAt f w (2 * q + 7 * j)), append-nil);
         within = λ i h. within-front (24 * q) f u w (5 * q + 8 * i) (8 * q) (omega (arith, pieces-room)) counts-front (r .within i h);
         few = rw (infos-front (24 * q) u w (5 * q) (t .pieces) (omega (arith, pieces-room)) counts-front) (omega arith);
+        indexed = at .indexed;
         more = s .most;
         most = omega arith;
         front = front-less (20 * q) (24 * q) u w (omega arith) counts-front;
-        above = λ i h. at .above i (omega (arith, r .counts, r .few, r .quarter));
+        above = λ i h. beyond i h;
         size = s .size;
       }
 
@@ -254,6 +269,12 @@ module _ (f w : List ℕ) (q rows : ℕ) (t : Taken) (j : ℕ) (r : Ready f w q 
           (puts-above (rowOf (partOf w (2 * q + 7 * j) (6 * q) (t .counts) i) (long w (2 * q + 7 * j + 5))) w (5 * q + 8 * t .pieces) k
           (omega (arith, row-room, row-long (partOf w (2 * q + 7 * j) (6 * q) (t .counts) i) (long w (2 * q + 7 * j + 5)))))
 
+      index-kept : Indexed u (countIndex (6 * q)) (t .counts)
+      unfolding countIndex
+      index-kept = indexed-agree w (countIndex (6 * q)) (t .counts) (r .indexed) u
+          (λ k h. long-agree u w (6 * q + 4 * k) (counts-kept (6 * q + 4 * k) (omega arith) (omega arith)) (counts-kept (6 * q + 4 * k + 1) (omega arith) (omega arith)))
+          (λ k lo hi. rw eu (puts-above (rowOf (partOf w (2 * q + 7 * j) (6 * q) (t .counts) i) (long w (2 * q + 7 * j + 5))) w (5 * q + 8 * t .pieces) k (omega (arith, row-room, row-long (partOf w (2 * q + 7 * j) (6 * q) (t .counts) i) (long w (2 * q + 7 * j + 5))))))
+
       -- the row means the piece that is defined
       piece-as : (m : Key → Counts) → Counted m w (6 * q) (t .counts) j →
           partPiece f w part (long w (2 * q + 7 * j + 5)) ≡ pieceOf (m (pduAt f w (2 * q + 7 * j) .link ∷ [])) (pduAt f w (2 * q + 7 * j)) (i .dlci) (take (i .len) (drop (i .start) (cond (eqb (i .joined) 1) w f)))
@@ -289,6 +310,7 @@ module _ (f w : List ℕ) (q rows : ℕ) (t : Taken) (j : ℕ) (r : Ready f w q 
             (λ l. within-front (4 * (5 * q + 8 * t .pieces)) f u w (5 * q + 8 * n) (8 * q) (omega arith) front-row (r .within n l))
             (λ l. let y : n ≡ t .pieces = omega arith in rw y (row-in));
         few = rw add-one (omega (arith, infos-front (4 * (5 * q + 8 * t .pieces)) u w (5 * q) (t .pieces) (omega arith) front-row, len-is, held .less));
+        indexed = index-kept;
         more = omega arith;
         most = omega arith;
         front = front-less (20 * q) (4 * (5 * q + 8 * t .pieces)) u w (omega arith) front-row;
@@ -310,6 +332,7 @@ pub record Gathering (f : List ℕ) (ps : List Pdu) (w₀ w : List ℕ) (made ro
   pub signalled : Signalled f w made ps rows
   pub states : Key → Counts
   pub counted : Counted states w (6 * (length f / 4)) (t .counts) j
+  pub indexed : Indexed w (countIndex (6 * (length f / 4))) (t .counts)
   pub counts : t .counts ≤ j
   pub took : t .pieces ≤ j
   pub within : (i : ℕ) → i < t .pieces → Within f w (5 * (length f / 4) + 8 * i) (8 * (length f / 4))
@@ -326,6 +349,7 @@ gather-start f w made rows p =
       signalled = p .signalled;
       states = noCounts;
       counted = counted-start w (6 * (length f / 4));
+      indexed = indexed-none w (countIndex (6 * (length f / 4)));
       counts = omega arith;
       took = omega arith;
       within = λ i h. absurd (omega arith);
@@ -348,6 +372,7 @@ module _ (f : List ℕ) (ps : List Pdu) (w₀ w : List ℕ) (made rows : ℕ) (t
     few = omega (arith, g .signalled .pdus .few);
     room = g .signalled .pdus .room;
     values = g .counted .few;
+    indexed = g .indexed;
     within = g .within;
   })
 
@@ -373,6 +398,7 @@ module _ (f : List ℕ) (ps : List Pdu) (w₀ w : List ℕ) (made rows : ℕ) (t
           signalled = signalled-front f u w made ps rows (taken .front) (taken .above) (taken .size) (g .signalled);
           states = put (g .states) (pduAt f w (2 * (length f / 4) + 7 * j) .link ∷ []) (counted (g .states (pduAt f w (2 * (length f / 4) + 7 * j) .link ∷ [])) (kindOf (signals ps) (pduAt f w (2 * (length f / 4) + 7 * j))));
           counted = taken .counts (g .states) (signals ps) (g .signalled .tells) (g .counted);
+          indexed = taken .indexed;
           counts = omega (arith, taken .more, g .counts);
           took = omega (arith, taken .most, g .took);
           within = taken .within;

@@ -6,11 +6,12 @@ ghost use lib.Dec.{eqb};
 ghost use lib.ListN.{length};
 ghost use Rattle.rfcomm.specs.Frames.{isSabm, isUih};
 ghost use Rattle.rfcomm.specs.Reading.{UihPre, FrameIs, LengthIs};
-ghost use Rattle.rfcomm.specs.CountTable.{valueOf, UpPre};
+ghost use Rattle.rfcomm.specs.CountTable.{valueOf, countIndex, CountPre, UpPre};
 ghost use Rattle.rfcomm.specs.Judging.{placedUih, FrameVerdict, JudgePre, VerdictIs};
 ghost use Rattle.l2cap.specs.PduFrames.{Lent};
 ghost use Rattle.rfcomm.specs.PieceRows.{stretchOf, bytesOf, rowOf, PutPre};
-ghost use Rattle.table.specs.Table.{lookup, StoredAt};
+ghost use Rattle.table.specs.Table.{lookup};
+ghost use Rattle.tree.specs.Tree.{Entered};
 ghost use Rattle.words.specs.Rows.{putWords};
 ghost use Rattle.words.specs.Words.{long};
 ghost use Rattle.rfcomm.specs.Gathering.{partOf, PiecePre, TakePre, Ready, TakenIn, PiecesPre, ReadPieces};
@@ -18,8 +19,9 @@ use channels::asks;
 use channels::is_tried;
 use l2cap::payload;
 use table::Row;
-use table::find;
-use table::store;
+use tree::Tree;
+use tree::enter;
+use tree::seek;
 use words::get32;
 use words::get64;
 use words::put32;
@@ -141,12 +143,23 @@ pub fn read_frame(p: &[u8]) -> Frame
     Frame::Other
 }
 
+// Where the counts from word base on have their links: base is 6 areas, and rows and links share the seventh.
+fn index_of(base: usize) -> Tree
+    requires { ⌜ base ≤ 8388608 ⌝ }
+    ensures { λ r. ⌜ r ≡ countIndex base ⌝ }
+{
+    Tree {
+        rows: base,
+        links: base + 4 * (base / 36),
+    }
+}
+
 // How often a key was counted.
 fn count_of(w: &[u8], base: usize, rows: usize, key: u64) -> u32
-    requires { ⌜ 4 * (base + 4 * rows) ≤ length (now w) ⌝ }
+    requires { ⌜ CountPre (now w) base rows ⌝ }
     ensures { λ r. ⌜ r ≡ valueOf (lookup (now (w .entry)) base rows key) ⌝ }
 {
-    let x = find(w, base, rows, key);
+    let x = seek(w, index_of(base), rows, key);
     match x {
         Row::At(i) => get32(w, base + 4 * i + 2),
         Row::Nothing => 0,
@@ -156,10 +169,10 @@ fn count_of(w: &[u8], base: usize, rows: usize, key: u64) -> u32
 // Counts a key once more, and returns the count of rows.
 fn count_up(w: &mut [u8], base: usize, rows: usize, key: u64) -> usize
     requires { ⌜ UpPre (now w) base rows key ⌝ }
-    ensures { λ r. ⌜ StoredAt (now (w .entry)) base rows key (valueOf (lookup (now (w .entry)) base rows key) + 1) 0 (now (w .exit)) r ⌝ }
+    ensures { λ r. ⌜ Entered (now (w .entry)) (countIndex base) rows key (valueOf (lookup (now (w .entry)) base rows key) + 1) 0 (now (w .exit)) r ⌝ }
 {
     let n = count_of(w, base, rows, key);
-    store(w, base, rows, key, n + 1, 0)
+    enter(w, index_of(base), rows, key, n + 1, 0)
 }
 
 // A piece: its row's numbers but the time.

@@ -162,6 +162,11 @@ pub no-end : (b x : List ℕ) → 0 < length b → Quiet b → ended x ≡ false
 no-end [] x h q e = absurd (omega arith)
 no-end (a ∷ b) x h q e = (out-is (a ∷ b) x q ∙ inside a b x .0 ∙ rw e, next-is (a ∷ b) x q ∙ inside a b x .1 ∙ rw e)
 
+-- something held, and a 3C behind it: what is held and what stands through the 3C is a span
+pub closes : (b x : List ℕ) → 0 < length b → Quiet b → ended x ≡ true → (spansOf (b ++ x) ≡ (b ++ take (end x) x) ∷ spansOf (drop (end x) x)) × (restOf (b ++ x) ≡ restOf (drop (end x) x))
+closes [] x h q e = absurd (omega arith)
+closes (a ∷ b) x h q e = (out-is (a ∷ b) x q ∙ inside a b x .0 ∙ rw (e, spans-is (drop (end x) x)), next-is (a ∷ b) x q ∙ inside a b x .1 ∙ rw (e, rest-is (drop (end x) x)))
+
 -- ---- the two machines
 
 -- every buffer is quiet

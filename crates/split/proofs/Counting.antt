@@ -1,11 +1,11 @@
 -- The walk that counts.
 use Prim.Native.Nat.{ℕ, suc, _+_, _-_, _*_, _<_, _≤_}
-use mathlib.Core.Path.{_≡_, refl, sym, ap, _∙_, fun-ext}
+use mathlib.Core.Path.{_≡_, refl, sym, ap, subst, _∙_, fun-ext}
 use mathlib.Core.Bool.{Bool, true, false, cond, _||_}
 use mathlib.Core.List.{List, [], _∷_, _++_, append-nil, append-assoc, map}
 use native.Mathlib.Omega.{arith}
 use native.Mathlib.Numerals.{add-one}
-use lib.ListN.{length, take, drop, length-append}
+use lib.ListN.{length, take, drop, length-append, length-drop}
 use lib.Dec.{eqb, ltb}
 use borrow.Author.Tests.{eq-eqb}
 use Rattle.laws.specs.Choice.{splitB}
@@ -18,21 +18,22 @@ use Rattle.items.specs.Items.{Span, spanItem, spanList}
 use Rattle.items.specs.Writing.{length-span, spans-none, spans-more}
 use Rattle.mdr.specs.Frame.{unpacksOf}
 use Rattle.channels.specs.Channels.{any}
-use Rattle.spans.specs.Scan.{spansOf}
+use Rattle.spans.specs.Scan.{spansOf, restOf}
 use Rattle.spans.specs.Spans.{scanner, emptied, spans, unfinished}
 use Rattle.spans.specs.Parts.{tagged, tallyOne, tallyAll, Room, CountedIs}
 use Rattle.spans.specs.Bytewise.{AllQuiet, quiet-emptied}
 use Rattle.spans.specs.declared.Tally.{Tally}
 use Rattle.spans.specs.declared.Counted.{Counted}
-use Rattle.split.specs.Rows.{piece, dlciAt, tailAt, heldIn, heldOf, streamOf, streamTo, opened, Fits, joined, cappedLength, ahead, all, keysTo, liveTo, sign, Laid}
-use Rattle.split.specs.Walks.{JoinPre, Joined, Silent, HoldPre, HeldMore, Moved, OpenPre, CountPre, CountHeld, Stepped, CountIs}
+use Rattle.split.specs.Rows.{piece, dlciAt, tailAt, lenAt, bytesAt, heldIn, heldOf, streamOf, streamTo, opened, Fits, joined, cappedLength, ahead, all, keysTo, liveTo, sign, Laid}
+use Rattle.split.specs.Walks.{JoinPre, Joined, Silent, HoldPre, HeldMore, Moved, OpenPre, CountPre, CountHeld, CountAt, CountOn, Closes, CountClosed, Stepped, CountIs}
 use Rattle.split.specs.Fronts.{dlci-front, tail-front, keys-front, laid-front}
 use Rattle.split.specs.declared.Plan.{Plan}
 use Rattle.split.specs.declared.Sums.{Sums}
+use Rattle.split.specs.Last.{lastn}
 use Rattle.split.proofs.Lasts.{length-lastn}
 use Rattle.split.proofs.Counts.{sign-le}
-use Rattle.split.proofs.Tables.{laid-row}
-use Rattle.split.proofs.Steps.{own-fits, length-joined, joined-small, moved, step-live, quiet-moved, joined-long, joined-front, in-area, silent-spans, silent-moved, silent-live}
+use Rattle.split.proofs.Tables.{laid-row, length-bytes}
+use Rattle.split.proofs.Steps.{own-fits, length-joined, joined-small, moved, step-live, quiet-moved, joined-long, joined-front, in-area, silent-spans, silent-moved, silent-live, closed-spans, closed-rest, closed-long, closed-small, bare-joined}
 use Rattle.split.proofs.Aheads.{opened-none, ahead-none, next-run, next-after, next-keys, ahead-skip, opened-skip, fits-skip, keys-skip, live-skip}
 
 -- ---- what is counted of a list of spans
@@ -65,6 +66,9 @@ tally-frame t [] = splitB (t .frame) (λ e. rw e) (λ e. rw e)
 tally-frame t (s ∷ ss) = tally-frame (tallyOne t (s .wire)) ss ∙ splitB (t .frame) (λ e. rw e) (λ e. rw e (splitB (unpacksOf (s .wire)) (λ g. rw g) (λ g. rw g)))
 
 -- ---- a piece
+
+pub counted-part : (a b : List ℕ) (t : Tally) (c : Counted) → a ≡ b → CountedIs a t c → CountedIs b t c
+counted-part a b t c e k = subst (λ (l : List ℕ). CountedIs l t c) e k
 
 module _ (f w : List ℕ) (p : Plan) (i : ℕ) (s : Sums) (q : CountPre f w p i s) (h : ℕ) (eh : h ≡ heldOf w p i) where
   fits : heldOf w p i ≤ length (streamTo f w p i)
@@ -106,6 +110,40 @@ module _ (f w : List ℕ) (p : Plan) (i : ℕ) (s : Sums) (q : CountPre f w p i 
         live = omega (arith, lives);
       }
 
+  pub count-bare : h ≡ 0 → CountOn f w p i s h (s .tally) 0
+  count-bare e =
+      let z : joined f w p i ≡ bytesAt f w p i = bare-joined f w p i h eh e in
+      record { pre = q; holds = eh; within = omega arith; all = rw z; rest = rw z; fewer = q .fewer; bytes = omega (arith, ap length z, length-bytes f w p (q .laid) i (q .row)) }
+
+  module _ (t : Tally) (skip : ℕ) (g : CountOn f w p i s h t skip) where
+    pub on-at : CountAt f w p i skip t
+    on-at = record {
+      laid = q .laid;
+      row = q .row;
+      within = g .within;
+      room = record { fewer = g .fewer; bytes = omega (arith, g .bytes, q .bytes, q .row, q .laid .many, joined-small f w p i (q .laid) (q .row) fits .0) };
+    }
+
+    module _ (c : Counted) (k : CountedIs (drop skip (bytesAt f w p i)) t c) (r : ℕ) (ec : r ≡ cappedLength (c .rest)) (u : List ℕ) (eu : u ≡ putWord w (p .held + i) r) where
+      on-left : c .rest ≡ length (restOf (joined f w p i))
+      on-left = k .left ∙ ap length (sym (g .rest))
+
+      on-lives : liveTo u p (i + 1) + sign h ≡ s .unfinished + sign r
+      on-lives = rw (eh, q .live) (step-live f w p i (q .laid) (q .row) fits w u r (c .rest) refl (front-refl (p .area) w) on-left ec eu (q .own))
+
+      pub on-less : OpenPre (s .unfinished) r h
+      on-less = record { few = omega (arith, q .few, q .row, q .laid .many); less = omega (arith, on-lives) }
+
+      pub on-stepped : (o : ℕ) → o ≡ s .unfinished + sign r - sign h → Stepped f w p i s u (record { tally = c .tally; unfinished = o })
+      on-stepped o eo = record {
+        moves = moved f w p i (q .laid) (q .row) fits w u r (c .rest) refl (front-refl (p .area) w) on-left ec eu (q .own) (q .fits);
+        all = k .all ∙ sym (g .all);
+        fewer = k .fewer;
+        bytes = omega (arith, k .bytes, g .bytes, q .bytes, length-drop skip (bytesAt f w p i), length-bytes f w p (q .laid) i (q .row), joined-small f w p i (q .laid) (q .row) fits .0);
+        few = omega (arith, q .few, sign-le r);
+        live = omega (arith, on-lives);
+      }
+
   module _ (y : Silent f w p i h) (u : List ℕ) (r : ℕ) (m : HeldMore w p i h u r) where
     quiet-lives : liveTo u p (i + 1) + sign h ≡ s .unfinished + sign r
     quiet-lives = rw (q .live) (silent-live f w p i (q .laid) (q .row) (q .own) (q .fits) (q .quiet) h eh y u r m)
@@ -123,6 +161,32 @@ module _ (f w : List ℕ) (p : Plan) (i : ℕ) (s : Sums) (q : CountPre f w p i 
       few = omega (arith, q .few, sign-le r);
       live = omega (arith, quiet-lives);
     }
+
+-- a first 3C at e, behind what is held
+module _ (f w : List ℕ) (p : Plan) (i : ℕ) (s : Sums) (h e : ℕ) (g : CountClosed f w p i s h e) where
+  pub closed-room : s .tally .bytes + 15 + h + e < 4611686018427387904
+  closed-room = omega (arith, g .pre .bytes, g .pre .row, g .pre .laid .many, g .closes .high, closed-small f w p i (g .pre .laid) (g .pre .row) (g .pre .own) (g .pre .fits) (g .pre .quiet) h e (g .closes))
+
+  closed-tally : s .tally .frame ≡ true → tallyOne (s .tally) (lastn h (streamTo f w p i) ++ take (e + 1) (bytesAt f w p i)) ≡ record { count = s .tally .count + 1; bytes = s .tally .bytes + 15 + h + e; frame = true }
+  unfolding tallyOne
+  closed-tally z =
+      let k : s .tally .bytes + 14 + length (lastn h (streamTo f w p i) ++ take (e + 1) (bytesAt f w p i)) ≡ s .tally .bytes + 15 + h + e = omega (arith, closed-long f w p i (g .pre .laid) (g .pre .row) (g .pre .own) (g .pre .fits) (g .pre .quiet) h e (g .closes)) in
+      rw (k, z)
+
+  pub count-closed : s .tally .frame ≡ true → CountOn f w p i s h (record { count = s .tally .count + 1; bytes = s .tally .bytes + 15 + h + e; frame = true }) (e + 1)
+  unfolding tallyAll
+  count-closed z = record {
+    pre = g .pre;
+    holds = g .closes .holds;
+    within = omega (arith, g .closes .high);
+    all = ap (tallyAll (s .tally)) (closed-spans f w p i (g .pre .laid) (g .pre .row) (g .pre .own) (g .pre .fits) (g .pre .quiet) h e (g .closes)) ∙ ap (λ (t : Tally). tallyAll t (spansOf (drop (e + 1) (bytesAt f w p i)))) (closed-tally z);
+    rest = closed-rest f w p i (g .pre .laid) (g .pre .row) (g .pre .own) (g .pre .fits) (g .pre .quiet) h e (g .closes);
+    fewer = omega (arith, g .pre .fewer);
+    bytes = omega (arith, g .closes .high, g .closes .holds, length-joined f w p i (g .pre .laid) (g .pre .row) (own-fits f w p i (g .pre .own) (g .pre .fits)));
+  }
+
+  pub closed-held : CountHeld f w p i s h
+  closed-held = record { pre = g .pre; holds = g .closes .holds }
 
 -- ---- all pieces
 

@@ -14,7 +14,7 @@ use Rattle.words.specs.Front.{Front, front-refl, front-then, front-sets, front-
 use Rattle.rfcomm.specs.PieceTable.{infosOf}
 use Rattle.split.specs.Last.{lastn}
 use Rattle.split.specs.Rows.{keyAt, lenAt, startAt, inWork, bytesAt, streamOf, streamTo, Linked, Laid}
-use Rattle.split.specs.Walks.{Row, Chain, Earlier, TwoRows, PutPre, GatherPre}
+use Rattle.split.specs.Walks.{Row, Chain, Earlier, TwoRows, PutPre, GatherPre, OutPre, GatherOut}
 use Rattle.split.specs.Fronts.{key-front, bytes-front, laid-front}
 use Rattle.split.specs.declared.Plan.{Plan}
 use Rattle.split.proofs.Backs.{sets-back}
@@ -85,6 +85,28 @@ module _ (f w : List ℕ) (p : Plan) (j : ℕ) (t : Bool) (et : t ≡ inWork w p
 
     pub put-file : t ≡ false → (u : List ℕ) → u ≡ sets w to (take (s + skip + m - (s + skip)) (drop (s + skip) f)) → u ≡ sets w to (take m (drop skip (bytesAt f w p j)))
     put-file e u eu = let y : s + skip + m - (s + skip) ≡ m = omega arith in eu ∙ rw (y, part-of skip m (q .part), e, es)
+
+  module _ (l : Laid f w p) (o : j < p .n) (skip s n : ℕ) (es : s ≡ startAt w p j) (en : n ≡ lenAt w p j) (g : skip ≤ lenAt w p j) where
+    rest-of : take (s + n - (s + skip)) (drop (s + skip) (cond t w f)) ≡ drop skip (bytesAt f w p j)
+    rest-of =
+        let y : s + n - (s + skip) ≡ n - skip = omega arith in
+        rw (y, es) (sym (part-of skip (n - skip) (omega arith)) ∙ take-all (n - skip) (drop skip (bytesAt f w p j)) (omega (arith, length-drop skip (bytesAt f w p j), length-bytes f w p l j o)))
+
+    pub rest-work : t ≡ true → take (s + n - (s + skip)) (drop (s + skip) w) ≡ drop skip (bytesAt f w p j)
+    rest-work e = rw e at rest-of
+
+    pub rest-file : t ≡ false → take (s + n - (s + skip)) (drop (s + skip) f) ≡ drop skip (bytesAt f w p j)
+    rest-file e = rw e at rest-of
+
+    pub rest-long : length (drop skip (bytesAt f w p j)) ≡ lenAt w p j - skip
+    rest-long = length-drop skip (bytesAt f w p j) ∙ rw (length-bytes f w p l j o)
+
+  module _ (skip m to : ℕ) (out : List ℕ) (q : OutPre f w p j skip m out to) (s : ℕ) (es : s ≡ startAt w p j) where
+    pub out-work : t ≡ true → (u : List ℕ) → u ≡ sets out to (take (s + skip + m - (s + skip)) (drop (s + skip) w)) → u ≡ sets out to (take m (drop skip (bytesAt f w p j)))
+    out-work e u eu = let y : s + skip + m - (s + skip) ≡ m = omega arith in eu ∙ rw (y, part-of skip m (q .part), e, es)
+
+    pub out-file : t ≡ false → (u : List ℕ) → u ≡ sets out to (take (s + skip + m - (s + skip)) (drop (s + skip) f)) → u ≡ sets out to (take m (drop skip (bytesAt f w p j)))
+    out-file e u eu = let y : s + skip + m - (s + skip) ≡ m = omega arith in eu ∙ rw (y, part-of skip m (q .part), e, es)
 
 -- ---- the walk back
 
@@ -225,3 +247,89 @@ module _ (f w₀ : List ℕ) (p : Plan) (i h : ℕ) (q : GatherPre f w₀ p i h)
 
           pub chasing-hit : (u : List ℕ) → u ≡ sets w (p .area + left - m) (take m (drop (n - m) (bytesAt f w p (j - 1)))) → Chasing f w₀ p i h u r (left - m)
           chasing-hit u eu = chase u (j - 1) (left - m) r (gathering-hit f w₀ p i h w j left (v .gathers) q z t et e n m en em u eu) (λ l. v .mine l (chasing-more z)) (chasing-row .row) old (b .less)
+
+-- ---- the same walk, to a place in the output
+
+pub record Reaching (f w : List ℕ) (p : Plan) (i h : ℕ) (out₀ : List ℕ) (at : ℕ) (out : List ℕ) (j left : ℕ) : Type 0 where
+  pub low : j ≤ i
+  pub most : left ≤ h
+  pub come : left ≤ length (streamOf f w p j (keyAt w p i))
+  pub long : length out ≡ length out₀
+  pub done : sets out at (lastn left (streamOf f w p j (keyAt w p i))) ≡ sets out₀ at (lastn h (streamTo f w p i))
+
+pub record Fetching (f w : List ℕ) (p : Plan) (i h : ℕ) (out₀ : List ℕ) (at : ℕ) (out : List ℕ) (j left : ℕ) : Type 0 where
+  pub reaches : Reaching f w p i h out₀ at out j left
+  pub mine : (l : Linked w p) → 0 < j → l .bucket (keyAt w p (j - 1)) ≡ l .bucket (keyAt w p i)
+
+module _ (f w : List ℕ) (p : Plan) (i h : ℕ) (out₀ : List ℕ) (at : ℕ) (q : GatherOut f w p i h out₀ at) where
+  fetch : (out : List ℕ) (j left r : ℕ) → Reaching f w p i h out₀ at out j left → ((l : Linked w p) → l .bucket (keyAt w p j) ≡ l .bucket (keyAt w p i)) → j < p .n → r ≡ word w (p .chain + j) → r ≤ j → Fetching f w p i h out₀ at out r left
+  fetch out j left r g b n e o =
+      let s : streamOf f w p j (keyAt w p i) ≡ streamOf f w p r (keyAt w p i) = jump w p (q .laid .linked) i (λ k. streamOf f w p k (keyAt w p i)) (λ k z. stream-other f w p k (keyAt w p i) z) j r n (b (q .laid .linked)) e in
+      record {
+        reaches = record { low = omega (arith, g .low); most = g .most; come = rw s at (g .come); long = g .long; done = rw s at (g .done) };
+        mine = λ l z. jump-bucket w p l i j r n (b l) e z;
+      }
+
+  pub fetching-start : (r : ℕ) → Earlier w p i r → Fetching f w p i h out₀ at out₀ r h
+  fetching-start r b = fetch out₀ i h r (record { low = omega arith; most = omega arith; come = q .come; long = refl; done = refl }) (λ l. refl) (q .row) (b .at) (b .less)
+
+  module _ (out : List ℕ) (j left : ℕ) (v : Fetching f w p i h out₀ at out j left) where
+    pub fetching-end : left ≤ 0 → out ≡ sets out₀ at (lastn h (streamTo f w p i))
+    fetching-end l = rw (lastn-zero left (streamOf f w p j (keyAt w p i)) (omega arith)) at (v .reaches .done)
+
+    pub fetching-more : 0 < left → 0 < j
+    unfolding streamOf
+    fetching-more l = split≡ j 0 (λ e. let z = rw e at (v .reaches .come) in absurd (omega (arith, z))) (λ e. omega arith)
+
+    pub fetching-room : at + left ≤ length out
+    fetching-room = omega (arith, v .reaches .most, v .reaches .long, q .fits)
+
+    module _ (z : 0 < left) where
+      pub fetching-row : Row w p (j - 1)
+      fetching-row = laid-row f w p (j - 1) (q .laid) (omega (arith, fetching-more z, v .reaches .low, q .row))
+
+      pub fetching-rows : TwoRows w p (j - 1) i
+      fetching-rows = record { rows = fetching-row .rows; words = fetching-row .words; first = fetching-row .row; second = q .row }
+
+      pub fetching-chain : Chain w p (j - 1)
+      fetching-chain = laid-chain f w p (j - 1) (q .laid) (fetching-row .row)
+
+      back-by : suc (j - 1) ≡ j
+      back-by = omega (arith, fetching-more z)
+
+      module _ (r : ℕ) (b : Earlier w p (j - 1) r) (t : Bool) (et : t ≡ eqK (keyAt w p (j - 1)) (keyAt w p i)) where
+        pub fetching-miss : t ≡ false → Fetching f w p i h out₀ at out r left
+        fetching-miss e =
+            let g = v .reaches in
+            let s : streamOf f w p j (keyAt w p i) ≡ streamOf f w p (j - 1) (keyAt w p i) = rw back-by at (stream-other f w p (j - 1) (keyAt w p i) (λ y. no-way (eq-eqK (keyAt w p (j - 1)) (keyAt w p i) y) (sym et ∙ e))) in
+            fetch out (j - 1) left r
+            (record { low = omega (arith, g .low); most = g .most; come = rw s at (g .come); long = g .long; done = rw s at (g .done) })
+            (λ l. v .mine l (fetching-more z)) (fetching-row .row) (b .at) (b .less)
+
+        module _ (e : t ≡ true) (n m : ℕ) (en : n ≡ lenAt w p (j - 1)) (em : m ≡ min left n) where
+          pub fetching-put : OutPre f w p (j - 1) (n - m) m out (at + left - m)
+          fetching-put = record { laid = q .laid; row = fetching-row .row; part = omega arith; fits = omega (arith, fetching-room) }
+
+          pub fetching-hit : (u : List ℕ) → u ≡ sets out (at + left - m) (take m (drop (n - m) (bytesAt f w p (j - 1)))) → Fetching f w p i h out₀ at u r (left - m)
+          fetching-hit u eu =
+              let g = v .reaches in
+              let k : keyAt w p (j - 1) ≡ keyAt w p i = eqK-true (keyAt w p (j - 1)) (keyAt w p i) (sym et ∙ e) in
+              let S : List ℕ = streamOf f w p (j - 1) (keyAt w p i) in
+              let B : List ℕ = bytesAt f w p (j - 1) in
+              let s : streamOf f w p j (keyAt w p i) ≡ S ++ B = rw back-by at (stream-mine f w p (j - 1) (keyAt w p i) k) in
+              let o : length B ≡ n = length-bytes f w p (q .laid) (j - 1) (fetching-row .row) ∙ sym en in
+              let c : left ≤ length S + length B = rw (s, length-append) at (g .come) in
+              let x : take m (drop (n - m) B) ≡ drop (n - m) B = take-all m (drop (n - m) B) (simp length-drop (omega arith)) in
+              let y : lastn left (streamOf f w p j (keyAt w p i)) ≡ lastn (left - m) S ++ drop (n - m) B = rw (s, ← o) (lastn-append left m S B c (omega arith)) in
+              let d : length (lastn (left - m) S) ≡ left - m = length-lastn (left - m) S (omega arith) in
+              let a : at + left - m ≡ at + (left - m) = omega arith in
+              let eu′ : u ≡ sets out (at + (left - m)) (drop (n - m) B) = rw (x, a) at eu in
+              fetch u (j - 1) (left - m) r
+              (record {
+                low = omega (arith, g .low);
+                most = omega (arith, g .most);
+                come = omega arith;
+                long = ap length eu′ ∙ length-sets out (at + (left - m)) (drop (n - m) B) ∙ g .long;
+                done = rw eu′ (sym (rw d at (sets-back out at (lastn (left - m) S) (drop (n - m) B)))) ∙ rw y at (g .done);
+              })
+              (λ l. v .mine l (fetching-more z)) (fetching-row .row) (b .at) (b .less)

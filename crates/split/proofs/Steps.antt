@@ -7,26 +7,25 @@ use mathlib.Core.List.{List, [], _∷_, _++_}
 use native.Mathlib.Omega.{arith}
 use native.Mathlib.Numerals.{add-one}
 use lib.ListN.{length, take, drop, length-append}
-use lib.Seq.{sets, length-sets, take-all}
+use lib.Seq.{sets, length-sets, take-all, length-take-le}
 use lib.Dec.{eqb, ltb}
-use borrow.Author.Tests.{eq-eqb, ne-eqb}
-use Rattle.laws.specs.Choice.{no-way}
+use borrow.Author.Tests.{eq-eqb, ne-eqb, lt-ltb, le-ltb}
 use Rattle.laws.specs.Keys.{Key, eqK, splitK, eq-eqK, ne-eqK}
 use Rattle.laws.specs.Keyed.{step}
 use Rattle.laws.specs.Stores.{sets-append}
 use Rattle.words.specs.Words.{word, putWord, length-put, word-put-same, word-put-other}
 use Rattle.words.specs.Front.{Front, front-refl, front-then, front-less, front-put, front-sets, front-word}
 use Rattle.rfcomm.specs.PieceTable.{infosOf}
-use Rattle.spans.specs.Scan.{ended, spansOf, restOf, capped}
+use Rattle.spans.specs.Scan.{seek, ended, spansOf, restOf, capped}
 use Rattle.spans.specs.Spans.{scanner}
-use Rattle.spans.specs.Bytewise.{Quiet, AllQuiet, quiet-scanned, no-end}
+use Rattle.spans.specs.Bytewise.{Quiet, AllQuiet, quiet-scanned, no-end, closes}
 use Rattle.split.specs.Last.{lastn}
 use Rattle.split.specs.Rows.{rowOf, piece, dlciAt, tailAt, keyAt, lenAt, bytesAt, streamOf, heldIn, heldOf, streamTo, opened, Fits, joined, cappedLength, keysTo, liveTo, sign, Laid}
-use Rattle.split.specs.Walks.{PutPre, JoinPre, Joined, Silent, Says, HeldMore, Moved}
+use Rattle.split.specs.Walks.{PutPre, JoinPre, Joined, Silent, Closes, HeldMore, Moved}
 use Rattle.split.specs.Fronts.{dlci-front, tail-front, key-front, len-front, bytes-front, stream-front, held-front, keys-front, laid-front}
 use Rattle.split.specs.declared.Plan.{Plan}
 use Rattle.split.proofs.Backs.{part-sets}
-use Rattle.split.proofs.Lasts.{length-lastn, lastn-lastn, rest-long, capped-le, capped-back}
+use Rattle.split.proofs.Lasts.{length-lastn, lastn-zero, lastn-lastn, rest-long, capped-le, capped-back}
 use Rattle.split.proofs.Counts.{again}
 use Rattle.split.proofs.Tables.{piece-key, piece-bytes, stream-mine, stream-other, unseen, length-bytes, stream-infos, infos-mono}
 
@@ -189,14 +188,16 @@ module _ (f w : List ℕ) (p : Plan) (i : ℕ) (v : List ℕ) (n : ℕ) (j : Joi
 
 -- ---- a piece with no 3C, where something is held
 
-pub says-no : (f w : List ℕ) (p : Plan) (i h : ℕ) → Says f w p i h false
-says-no f w p i h = record { says = λ e. no-way e refl }
+positive : (h : ℕ) → (h ≡ 0 → ⊥) → 0 < h
+positive zero n = absurd (n refl)
+positive (suc h) n = omega arith
 
-pub says-yes : (f w : List ℕ) (p : Plan) (i h : ℕ) (t : Bool) → (h ≡ 0 → ⊥) → t ≡ ended (bytesAt f w p i) → t ≡ false → Says f w p i h true
-says-yes f w p i h t n e z = record { says = λ q. record { some = positive h n; ends = sym e ∙ z } } where
-  positive : (h : ℕ) → (h ≡ 0 → ⊥) → 0 < h
-  positive zero n = absurd (n refl)
-  positive (suc h) n = omega arith
+module _ (f w : List ℕ) (p : Plan) (i h e n : ℕ) (z : h ≡ 0 → ⊥) (ee : e ≡ seek 0x3C (bytesAt f w p i)) (en : n ≡ lenAt w p i) where
+  pub silent-is : Laid f w p → i < p .n → n ≤ e → Silent f w p i h
+  silent-is l o g = record { some = positive h z; ends = le-ltb (seek 0x3C (bytesAt f w p i)) (length (bytesAt f w p i)) (omega (arith, length-bytes f w p l i o)) }
+
+  pub closes-is : h ≡ heldOf w p i → e < n → Closes f w p i h e
+  closes-is eh g = record { holds = eh; some = positive h z; at = ee; high = omega arith }
 
 module _ (f w : List ℕ) (p : Plan) (i : ℕ) (l : Laid f w p) (o : i < p .n) (d : dlciAt w p i ≡ p .dlci) (x : Fits f w p i) (q : AllQuiet (opened f w p i)) (h : ℕ) (eh : h ≡ heldOf w p i) (y : Silent f w p i h) where
   both : (spansOf (joined f w p i) ≡ []) × (restOf (joined f w p i) ≡ joined f w p i)
@@ -219,3 +220,39 @@ module _ (f w : List ℕ) (p : Plan) (i : ℕ) (l : Laid f w p) (o : i < p .n) (
 
     pub silent-live : liveTo u p (i + 1) + sign h ≡ liveTo w p i + sign r
     silent-live = rw eh (step-live f w p i l o (own-fits f w p i d x) w u r (h + lenAt w p i) refl (front-refl (p .area) w) silent-rest (m .grown) (m .put) d)
+
+-- ---- a piece with a 3C, where something is held
+
+module _ (f w : List ℕ) (p : Plan) (i : ℕ) (l : Laid f w p) (o : i < p .n) (d : dlciAt w p i ≡ p .dlci) (x : Fits f w p i) (q : AllQuiet (opened f w p i)) (h e : ℕ) (y : Closes f w p i h e) where
+  closed-both : (spansOf (joined f w p i) ≡ (lastn h (streamTo f w p i) ++ take (e + 1) (bytesAt f w p i)) ∷ spansOf (drop (e + 1) (bytesAt f w p i))) × (restOf (joined f w p i) ≡ restOf (drop (e + 1) (bytesAt f w p i)))
+  unfolding joined opened
+  closed-both =
+      let k : e + 1 ≡ suc (seek 0x3C (bytesAt f w p i)) = omega (arith, y .at) in
+      rw (y .holds, k)
+      (closes (lastn (heldOf w p i) (streamTo f w p i)) (bytesAt f w p i)
+      (omega (arith, length-lastn (heldOf w p i) (streamTo f w p i) (own-fits f w p i d x), y .some, y .holds))
+      (rw (← own-key w p i d) at (q .at (tailAt w p i)))
+      (lt-ltb (seek 0x3C (bytesAt f w p i)) (length (bytesAt f w p i)) (omega (arith, y .at, y .high, length-bytes f w p l i o))))
+
+  pub closed-spans : spansOf (joined f w p i) ≡ (lastn h (streamTo f w p i) ++ take (e + 1) (bytesAt f w p i)) ∷ spansOf (drop (e + 1) (bytesAt f w p i))
+  closed-spans = closed-both .0
+
+  pub closed-rest : restOf (joined f w p i) ≡ restOf (drop (e + 1) (bytesAt f w p i))
+  closed-rest = closed-both .1
+
+  pub closed-come : h ≤ length (streamTo f w p i)
+  closed-come = rw (y .holds) (own-fits f w p i d x)
+
+  pub closed-long : length (lastn h (streamTo f w p i) ++ take (e + 1) (bytesAt f w p i)) ≡ h + (e + 1)
+  closed-long =
+      length-append (lastn h (streamTo f w p i)) (take (e + 1) (bytesAt f w p i))
+      ∙ rw (length-lastn h (streamTo f w p i) closed-come, length-take-le (e + 1) (bytesAt f w p i) (omega (arith, y .high, length-bytes f w p l i o)))
+
+  pub closed-small : h ≤ 1048576
+  closed-small = omega (arith, y .holds, length-joined f w p i l o (own-fits f w p i d x), joined-small f w p i l o (own-fits f w p i d x) .0)
+
+-- ---- a piece where nothing is held
+
+pub bare-joined : (f w : List ℕ) (p : Plan) (i h : ℕ) → h ≡ heldOf w p i → h ≡ 0 → joined f w p i ≡ bytesAt f w p i
+unfolding joined
+bare-joined f w p i h eh e = rw (lastn-zero (heldOf w p i) (streamTo f w p i) (sym eh ∙ e))

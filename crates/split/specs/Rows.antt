@@ -101,15 +101,6 @@ sign n = cond (ltb 0 n) 1 0
 
 -- ---- where the tables lie
 
--- the DLCI, 2 * link + direction, the CID, and sessions + 65536 * links, as a key
-abbrev pub keyOf : ℕ → ℕ → ℕ → ℕ → Key
-keyOf d side cid counts = d ∷ side / 2 ∷ cid ∷ counts % 65536 ∷ counts / 65536 ∷ side % 2 ∷ []
-
--- what a key comes to, to choose its bucket by
-unfoldable pub mix : Key → ℕ
-mix [] = 0
-mix (x ∷ k) = x + 31 * mix k
-
 -- one word for each piece says which piece of its bucket came before it; equal keys are in one bucket
 pub record Linked (w : List ℕ) (p : Plan) : Type 0 where
   pub bucket : Key → ℕ

@@ -2,20 +2,22 @@
 use Prim.Native.Nat.{ℕ, _+_, _-_, _*_, _<_, _≤_}
 use mathlib.Core.Path.{_≡_}
 use mathlib.Core.Bool.{Bool, true, false}
-use mathlib.Core.List.{List, [], _∷_}
-use lib.ListN.{length}
+use mathlib.Core.List.{List, [], _∷_, _++_}
+use lib.ListN.{length, take, drop}
 use lib.Seq.{sets}
 use Rattle.laws.specs.Keyed.{step}
 use Rattle.laws.specs.Stores.{Writes}
 use Rattle.words.specs.Words.{word, putWord}
 use Rattle.words.specs.Front.{Front}
-use Rattle.items.specs.Items.{Span, spanList}
+use Rattle.items.specs.Items.{Span, span, spanItem, spanList}
 use Rattle.mdr.specs.Frame.{unpacksOf}
 use Rattle.channels.specs.Channels.{any}
 use Rattle.rfcomm.specs.Pieces.{Piece}
-use Rattle.spans.specs.Scan.{ended, spansOf}
+use Rattle.spans.specs.Scan.{seek, ended, spansOf, restOf}
 use Rattle.spans.specs.Spans.{scanner, spans, unfinished}
-use Rattle.spans.specs.Parts.{tagged, tallyAll}
+use Rattle.spans.specs.Parts.{tagged, tallyAll, Room, WritePre as PartPre}
+use Rattle.spans.specs.declared.Tally.{Tally}
+use Rattle.split.specs.Last.{lastn}
 use Rattle.spans.specs.Bytewise.{AllQuiet}
 use Rattle.split.specs.Rows.{piece, dlciAt, lenAt, startAt, bytesAt, heldOf, streamTo, opened, Fits, joined, cappedLength, all, liveTo, sign, Linked, Laid}
 use Rattle.split.specs.declared.Plan.{Plan}
@@ -34,19 +36,13 @@ pub record Chain (w : List ℕ) (p : Plan) (i : ℕ) : Type 0 where
   pub chain : p .chain + p .n ≤ p .held
   pub linked : Linked w p
 
--- room to link the pieces: m buckets whose words stand from word heads on
-pub record LinkRoom (w : List ℕ) (p : Plan) (heads m : ℕ) : Type 0 where
+-- room to link the pieces: three words for each, from word links on
+pub record LinkRoom (w : List ℕ) (p : Plan) (links : ℕ) : Type 0 where
   pub rows : p .rows + 8 * p .n ≤ p .chain
   pub chain : p .chain + p .n ≤ p .held
-  pub over : p .held ≤ heads
-  pub words : 4 * (p .held + p .n) ≤ length w
-  pub room : 4 * (heads + m) ≤ length w
-  pub some : 0 < m
+  pub over : p .held ≤ links
+  pub room : 4 * (links + 3 * p .n) ≤ length w
   pub many : p .n ≤ 1048576
-
-pub record Unlinked (w : List ℕ) (p : Plan) (heads m : ℕ) : Type 0 where
-  pub room : LinkRoom w p heads m
-  pub zeros : (h : ℕ) → h < m → word w (heads + h) ≡ 0
 
 pub record LinkedTo (w : List ℕ) (p : Plan) (u : List ℕ) : Type 0 where
   pub linked : Linked u p
@@ -103,9 +99,6 @@ pub record Silent (f w : List ℕ) (p : Plan) (i h : ℕ) : Type 0 where
   pub some : 0 < h
   pub ends : ended (bytesAt f w p i) ≡ false
 
-pub record Says (f w : List ℕ) (p : Plan) (i h : ℕ) (r : Bool) : Type 0 where
-  pub says : r ≡ true → Silent f w p i h
-
 pub record HoldPre (w : List ℕ) (p : Plan) (i h : ℕ) : Type 0 where
   pub row : Row w p i
   pub small : h ≤ 1048576
@@ -143,6 +136,34 @@ pub record CountHeld (f w : List ℕ) (p : Plan) (i : ℕ) (s : Sums) (h : ℕ) 
   pub pre : CountPre f w p i s
   pub holds : h ≡ heldOf w p i
 
+-- the spans of piece i from skip on
+pub record CountAt (f w : List ℕ) (p : Plan) (i skip : ℕ) (t : Tally) : Type 0 where
+  pub laid : Laid f w p
+  pub row : i < p .n
+  pub within : skip ≤ lenAt w p i
+  pub room : Room t (lenAt w p i - skip)
+
+-- t has the spans that end before skip
+pub record CountOn (f w : List ℕ) (p : Plan) (i : ℕ) (s : Sums) (h : ℕ) (t : Tally) (skip : ℕ) : Type 0 where
+  pub pre : CountPre f w p i s
+  pub holds : h ≡ heldOf w p i
+  pub within : skip ≤ lenAt w p i
+  pub all : tallyAll (s .tally) (spansOf (joined f w p i)) ≡ tallyAll t (spansOf (drop skip (bytesAt f w p i)))
+  pub rest : restOf (joined f w p i) ≡ restOf (drop skip (bytesAt f w p i))
+  pub fewer : t .count ≤ t .bytes
+  pub bytes : t .bytes + 15 * (lenAt w p i - skip) ≤ s .tally .bytes + 15 * length (joined f w p i)
+
+-- something is held, and the first 3C of the piece stands at e
+pub record Closes (f w : List ℕ) (p : Plan) (i h e : ℕ) : Type 0 where
+  pub holds : h ≡ heldOf w p i
+  pub some : 0 < h
+  pub at : e ≡ seek 0x3C (bytesAt f w p i)
+  pub high : e < lenAt w p i
+
+pub record CountClosed (f w : List ℕ) (p : Plan) (i : ℕ) (s : Sums) (h e : ℕ) : Type 0 where
+  pub pre : CountPre f w p i s
+  pub closes : Closes f w p i h e
+
 pub record Stepped (f w : List ℕ) (p : Plan) (i : ℕ) (s : Sums) (u : List ℕ) (r : Sums) : Type 0 where
   pub moves : Moved f w p i u
   pub all : r .tally ≡ tallyAll (s .tally) (spansOf (joined f w p i))
@@ -173,9 +194,53 @@ pub record WritePre (f w : List ℕ) (p : Plan) (i : ℕ) (out : List ℕ) (at :
   pub quiet : AllQuiet (opened f w p i)
   pub room : at + length (itemsOf f w p i) ≤ length out
 
-pub record WriteHeld (f w : List ℕ) (p : Plan) (i : ℕ) (out : List ℕ) (at h : ℕ) : Type 0 where
-  pub pre : WritePre f w p i out at
-  pub holds : h ≡ heldOf w p i
+-- those of the spans of piece i from skip on
+abbrev pub itemsFrom : List ℕ → List ℕ → Plan → ℕ → ℕ → List ℕ
+itemsFrom f w p i skip = spanList (tagged (piece f w p i .rx) (piece f w p i .time) (spansOf (drop skip (bytesAt f w p i))))
+
+pub record WriteAt (f w : List ℕ) (p : Plan) (i skip rx time : ℕ) (out : List ℕ) (at : ℕ) : Type 0 where
+  pub laid : Laid f w p
+  pub row : i < p .n
+  pub within : skip ≤ lenAt w p i
+  pub room : PartPre (drop skip (bytesAt f w p i)) rx time out at
+
+pub record WriteOn (f w : List ℕ) (p : Plan) (i : ℕ) (out : List ℕ) (at skip : ℕ) : Type 0 where
+  pub laid : Laid f w p
+  pub row : i < p .n
+  pub own : dlciAt w p i ≡ p .dlci
+  pub fits : Fits f w p i
+  pub within : skip ≤ lenAt w p i
+  pub rest : restOf (joined f w p i) ≡ restOf (drop skip (bytesAt f w p i))
+  pub room : at + length (itemsFrom f w p i skip) ≤ length out
+
+pub record WroteOn (f w : List ℕ) (p : Plan) (i : ℕ) (out : List ℕ) (at skip : ℕ) (u : List ℕ) (r : ℕ) (out′ : List ℕ) : Type 0 where
+  pub moves : Moved f w p i u
+  pub writes : Writes out at (itemsFrom f w p i skip) r out′
+
+-- m bytes of the piece j from skip on, to a place in out
+pub record OutPre (f w : List ℕ) (p : Plan) (j skip m : ℕ) (out : List ℕ) (to : ℕ) : Type 0 where
+  pub laid : Laid f w p
+  pub row : j < p .n
+  pub part : skip + m ≤ lenAt w p j
+  pub fits : to + m ≤ length out
+
+pub record GatherOut (f w : List ℕ) (p : Plan) (i h : ℕ) (out : List ℕ) (at : ℕ) : Type 0 where
+  pub laid : Laid f w p
+  pub row : i < p .n
+  pub come : h ≤ length (streamTo f w p i)
+  pub fits : at + h ≤ length out
+
+-- the span of the h bytes held and the first k bytes of the piece
+unfoldable pub closedItem : List ℕ → List ℕ → Plan → ℕ → ℕ → ℕ → List ℕ
+closedItem f w p i h k = spanItem (span (piece f w p i .rx) (piece f w p i .time) (lastn h (streamTo f w p i) ++ take k (bytesAt f w p i)))
+
+pub record ClosePre (f w : List ℕ) (p : Plan) (i : ℕ) (out : List ℕ) (at h k : ℕ) : Type 0 where
+  pub laid : Laid f w p
+  pub row : i < p .n
+  pub come : h ≤ length (streamTo f w p i)
+  pub small : h ≤ 1048576
+  pub part : k ≤ lenAt w p i
+  pub room : at + 14 + h + k ≤ length out
 
 pub record WroteStep (f w : List ℕ) (p : Plan) (i : ℕ) (out : List ℕ) (at : ℕ) (u : List ℕ) (r : ℕ) (out′ : List ℕ) : Type 0 where
   pub moves : Moved f w p i u

@@ -1,32 +1,34 @@
 // The pieces of one DLCI split into spans: counted, or written as a list of items.
 //
-// Two words are stored for each piece: which piece of its bucket came before it, and how many bytes its key holds after it.
+// Two words are stored for each piece: which piece of its key came before it, and how many bytes its key holds after it.
 // The buffer of a key is then the last that many bytes of all that came under the key, and is put together where a 3C may
-// close something. Pieces of one key are in one bucket, so no other bucket is walked.
+// close something. No piece of another key is walked.
 ghost use mathlib.Core.Path.{_≡_};
 ghost use Prim.Native.Nat.{_+_, _-_, _%_, _≤_, _<_, min};
 ghost use lib.ListN.{length, take, drop};
 ghost use lib.Seq.{sets};
 ghost use Rattle.laws.specs.Keys.{eqK};
+ghost use Rattle.laws.specs.Stores.{Writes};
 ghost use Rattle.items.specs.Items.{rxOf};
-ghost use Rattle.spans.specs.Scan.{ended};
-ghost use Rattle.table.specs.Chain.{Bucket};
+ghost use Rattle.spans.specs.Scan.{seek};
+ghost use Rattle.spans.specs.Parts.{CountedIs, WroteIs};
 ghost use Rattle.split.specs.Last.{lastn};
-ghost use Rattle.split.specs.Rows.{keyOf, keyAt, mix, lenAt, inWork, bytesAt, heldOf, streamTo, cappedLength, sign, Laid};
-ghost use Rattle.split.specs.Walks.{Row, LinkRoom, Unlinked, LinkedTo, Chain, Earlier, TwoRows, StartIs, Placed, PutPre, GatherPre, JoinPre, Joined, Says, HoldPre, HeldMore, OpenPre, CountPre, CountHeld, Stepped, CountIs, WritePre, WriteHeld, WroteStep, ListPre, WriteIs};
+ghost use Rattle.split.specs.Rows.{keyAt, lenAt, inWork, bytesAt, heldOf, streamTo, cappedLength, sign, Laid};
+ghost use Rattle.split.specs.Walks.{Row, LinkRoom, LinkedTo, Chain, Earlier, TwoRows, StartIs, Placed, PutPre, GatherPre, JoinPre, Joined, HoldPre, HeldMore, OpenPre, CountPre, CountHeld, CountAt, CountOn, CountClosed, Stepped, CountIs, WritePre, WriteAt, WriteOn, WroteOn, OutPre, GatherOut, ClosePre, closedItem, WroteStep, ListPre, WriteIs};
+use classes::Rows;
+use classes::link_all;
 use items::Direction;
+use items::put_head;
 use spans::Counted;
 use spans::Tally;
 use spans::Wrote;
 use spans::count_part;
-use spans::has_end;
+use spans::first_end;
 use spans::write_part;
-use table::bucket;
-use table::fill;
-use table::link;
 use words::copy_to;
 use words::get32;
 use words::get64;
+use words::put_le;
 use words::put32;
 
 // Where the tables lie in work: the pieces, what links them and the lengths held by words, the area by bytes. And the DLCI.
@@ -110,67 +112,32 @@ fn held_before(w: &[u8], p: Plan, i: usize) -> usize
 
 // ---- the pieces linked, before all else
 
-// What a key comes to, to choose its bucket by.
-fn mixed(dlci: u32, side: u32, cid: u32, counts: u32) -> u64
-    ensures { λ r. ⌜ r ≡ mix (keyOf dlci side cid counts) ⌝ }
-{
-    let links = (counts / 65536) as u64 + 31 * ((side % 2) as u64);
-    let sessions = (counts % 65536) as u64 + 31 * links;
-    let channel = cid as u64 + 31 * sessions;
-    let link = (side / 2) as u64 + 31 * channel;
-    dlci as u64 + 31 * link
-}
-
-// The bucket of piece i, of m.
-fn bucket_of(w: &[u8], p: Plan, i: usize, m: usize) -> usize
-    requires { ⌜ (Row (now w) p i) × (0 < m) ⌝ }
-    ensures { λ r. ⌜ Bucket (mix (keyAt (now (w .entry)) p i)) m r ⌝ }
-{
-    let at = p.rows + 8 * i;
-    let x = mixed(
-        get32(w, at),
-        get32(w, at + 1),
-        get32(w, at + 2),
-        get32(w, at + 3),
-    );
-    bucket(x, m as u64) as usize
-}
-
-// Links the pieces of each of m buckets that are empty.
-fn link_rows(w: &mut [u8], p: Plan, heads: usize, m: usize)
-    requires { ⌜ Unlinked (now w) p heads m ⌝ }
+// Links each piece to the one before it that has the same key. The words from links on, three for each piece, are free afterwards.
+pub fn link_pieces(w: &mut [u8], p: Plan, links: usize)
+    requires { ⌜ LinkRoom (now w) p links ⌝ }
     ensures { λ _. ⌜ LinkedTo (now (w .entry)) p (now (w .exit)) ⌝ }
 {
     let n = p.n;
     let chain = p.chain;
-    let mut i = 0;
-    while i < n {
-        let h = bucket_of(w, p, i, m);
-        link(w, chain, heads, i, h);
-        i += 1;
-    }
+    let x = Rows {
+        at: p.rows,
+        n,
+        links,
+    };
+    link_all(w, x, chain, links + 2 * n);
 }
 
-// Links the pieces of each of m buckets. The words of the buckets stand from word heads on, and are free afterwards.
-pub fn link_pieces(w: &mut [u8], p: Plan, heads: usize, m: usize)
-    requires { ⌜ LinkRoom (now w) p heads m ⌝ }
-    ensures { λ _. ⌜ LinkedTo (now (w .entry)) p (now (w .exit)) ⌝ }
-{
-    fill(w, heads, m, 0);
-    link_rows(w, p, heads, m);
-}
-
-// Whether a piece has a 3C.
-fn piece_ends(file: &[u8], w: &[u8], p: Plan, i: usize) -> bool
+// The place of the first 3C in a piece; the length of the piece, if it has none.
+fn piece_end(file: &[u8], w: &[u8], p: Plan, i: usize) -> usize
     requires { ⌜ Placed (now file) (now w) p i ⌝ }
-    ensures { λ r. ⌜ r ≡ ended (bytesAt (now (file .entry)) (now (w .entry)) p i) ⌝ }
+    ensures { λ r. ⌜ r ≡ seek 0x3C (bytesAt (now (file .entry)) (now (w .entry)) p i) ⌝ }
 {
     let start = start_of(w, p, i);
     let end = start + length_of(w, p, i);
     if is_joined(w, p, i) {
-        return has_end(&w[start..end]);
+        return first_end(&w[start..end]);
     }
-    has_end(&file[start..end])
+    first_end(&file[start..end])
 }
 
 // ---- the buffer of a key, put together in the area
@@ -251,22 +218,6 @@ fn capped(n: usize) -> u32
     n as u32
 }
 
-// ---- a piece with no 3C, where something is held: only the length held grows
-
-// Whether something is held and piece i has no 3C.
-fn is_silent(file: &[u8], w: &[u8], p: Plan, i: usize, h: usize) -> bool
-    requires { ⌜ Placed (now file) (now w) p i ⌝ }
-    ensures { λ r. ⌜ Says (now (file .entry)) (now (w .entry)) p i h r ⌝ }
-{
-    if h == 0 {
-        return false;
-    }
-    if piece_ends(file, w, p, i) {
-        return false;
-    }
-    true
-}
-
 // Sets the length held after piece i, which comes behind h bytes.
 fn hold_more(w: &mut [u8], p: Plan, i: usize, h: usize) -> u32
     requires { ⌜ HoldPre (now w) p i h ⌝ }
@@ -325,21 +276,80 @@ fn count_joined(file: &[u8], w: &mut [u8], p: Plan, i: usize, s: Sums, h: usize)
     }
 }
 
+// Counts the spans of piece i from a place on, where it lies.
+fn count_at(file: &[u8], w: &[u8], p: Plan, i: usize, skip: usize, t: Tally) -> Counted
+    requires { ⌜ CountAt (now file) (now w) p i skip t ⌝ }
+    ensures { λ r. ⌜ CountedIs (drop skip (bytesAt (now (file .entry)) (now (w .entry)) p i)) t r ⌝ }
+{
+    let start = start_of(w, p, i);
+    let end = start + length_of(w, p, i);
+    let from = start + skip;
+    if is_joined(w, p, i) {
+        return count_part(&w[from..end], t);
+    }
+    count_part(&file[from..end], t)
+}
+
+// Counts the spans that piece i brings, where t has those that end before a place in it.
+fn count_on(
+    file: &[u8],
+    w: &mut [u8],
+    p: Plan,
+    i: usize,
+    s: Sums,
+    h: usize,
+    t: Tally,
+    skip: usize,
+) -> Sums
+    requires { ⌜ CountOn (now file) (now w) p i s h t skip ⌝ }
+    ensures { λ r. ⌜ Stepped (now (file .entry)) (now (w .entry)) p i s (now (w .exit)) r ⌝ }
+{
+    let c = count_at(file, w, p, i, skip, t);
+    let r = capped(c.rest);
+    put32(w, p.held + i, r);
+    let sum = c.tally;
+    Sums {
+        tally: sum,
+        unfinished: count_open(s.unfinished, r, h),
+    }
+}
+
+// Counts the spans that piece i brings, behind the h bytes held, by a first 3C at e. Once a span unpacks, lengths are enough.
+fn count_closed(file: &[u8], w: &mut [u8], p: Plan, i: usize, s: Sums, h: usize, e: usize) -> Sums
+    requires { ⌜ CountClosed (now file) (now w) p i s h e ⌝ }
+    ensures { λ r. ⌜ Stepped (now (file .entry)) (now (w .entry)) p i s (now (w .exit)) r ⌝ }
+{
+    let t = s.tally;
+    if t.frame {
+        let more = Tally {
+            count: t.count + 1,
+            bytes: t.bytes + 15 + h + e,
+            frame: true,
+        };
+        return count_on(file, w, p, i, s, h, more, e + 1);
+    }
+    count_joined(file, w, p, i, s, h)
+}
+
 // Counts the spans that piece i brings.
 fn count_piece(file: &[u8], w: &mut [u8], p: Plan, i: usize, s: Sums) -> Sums
     requires { ⌜ CountPre (now file) (now w) p i s ⌝ }
     ensures { λ r. ⌜ Stepped (now (file .entry)) (now (w .entry)) p i s (now (w .exit)) r ⌝ }
 {
     let h = held_before(w, p, i);
-    if is_silent(file, w, p, i, h) {
-        let r = hold_more(w, p, i, h);
-        let t = s.tally;
-        return Sums {
-            tally: t,
-            unfinished: count_open(s.unfinished, r, h),
-        };
+    let t = s.tally;
+    if h == 0 {
+        return count_on(file, w, p, i, s, h, t, 0);
     }
-    count_joined(file, w, p, i, s, h)
+    let e = piece_end(file, w, p, i);
+    if e < length_of(w, p, i) {
+        return count_closed(file, w, p, i, s, h, e);
+    }
+    let r = hold_more(w, p, i, h);
+    Sums {
+        tally: t,
+        unfinished: count_open(s.unfinished, r, h),
+    }
 }
 
 // Counts the spans of the DLCI, and its buffers that are not empty at the end.
@@ -382,29 +392,127 @@ fn direction_of(word: u32) -> Direction
     Direction::Tx
 }
 
-// Writes the spans that piece i brings, behind the h bytes held.
-fn write_joined(
+// Writes the spans of piece i from a place on, where it lies.
+fn write_at(
+    file: &[u8],
+    w: &[u8],
+    p: Plan,
+    i: usize,
+    skip: usize,
+    direction: Direction,
+    ms: u64,
+    out: &mut [u8],
+    at: usize,
+) -> Wrote
+    requires { ⌜ WriteAt (now file) (now w) p i skip (rxOf direction) ms (now out) at ⌝ }
+    ensures { λ r. ⌜ WroteIs (drop skip (bytesAt (now (file .entry)) (now (w .entry)) p i)) (rxOf direction) ms (now (out .entry)) at r (now (out .exit)) ⌝ }
+{
+    let start = start_of(w, p, i);
+    let end = start + length_of(w, p, i);
+    let from = start + skip;
+    if is_joined(w, p, i) {
+        return write_part(&w[from..end], direction, ms, out, at);
+    }
+    write_part(&file[from..end], direction, ms, out, at)
+}
+
+// Writes the spans that piece i brings from a place in it on, where those that end before it are written.
+fn write_on(
     file: &[u8],
     w: &mut [u8],
     p: Plan,
     i: usize,
     out: &mut [u8],
     at: usize,
-    h: usize,
+    skip: usize,
 ) -> usize
-    requires { ⌜ WriteHeld (now file) (now w) p i (now out) at h ⌝ }
-    ensures { λ r. ⌜ WroteStep (now (file .entry)) (now (w .entry)) p i (now (out .entry)) at (now (w .exit)) r (now (out .exit)) ⌝ }
+    requires { ⌜ WriteOn (now file) (now w) p i (now out) at skip ⌝ }
+    ensures { λ r. ⌜ WroteOn (now (file .entry)) (now (w .entry)) p i (now (out .entry)) at skip (now (w .exit)) r (now (out .exit)) ⌝ }
 {
     let row = p.rows + 8 * i;
     let direction = direction_of(get32(w, row + 1));
     let ms = get64(w, row + 6);
-    let n = join(file, w, p, i, h);
-    let area = p.area;
-    let end = area + n;
-    let c = write_part(&w[area..end], direction, ms, out, at);
+    let c = write_at(file, w, p, i, skip, direction, ms, out, at);
     let r = capped(c.rest);
     put32(w, p.held + i, r);
     c.at
+}
+
+// Copies m bytes of piece j, from skip on, to a place in out.
+fn put_out(
+    file: &[u8],
+    w: &[u8],
+    p: Plan,
+    j: usize,
+    skip: usize,
+    m: usize,
+    out: &mut [u8],
+    to: usize,
+)
+    requires { ⌜ OutPre (now file) (now w) p j skip m (now out) to ⌝ }
+    ensures { λ _. ⌜ now (out .exit) ≡ sets (now (out .entry)) to (take m (drop skip (bytesAt (now (file .entry)) (now (w .entry)) p j))) ⌝ }
+{
+    let start = start_of(w, p, j) + skip;
+    let end = start + m;
+    if is_joined(w, p, j) {
+        copy_to(&w[start..end], out, to);
+        return;
+    }
+    copy_to(&file[start..end], out, to);
+}
+
+// Puts the last h bytes of what came under the key of i before i to a place in out: piece by piece, the newest first.
+fn gather_out(file: &[u8], w: &[u8], p: Plan, i: usize, h: usize, out: &mut [u8], at: usize)
+    requires { ⌜ GatherOut (now file) (now w) p i h (now out) at ⌝ }
+    ensures { λ _. ⌜ now (out .exit) ≡ sets (now (out .entry)) at (lastn h (streamTo (now (file .entry)) (now (w .entry)) p i)) ⌝ }
+{
+    let mut j = earlier(w, p, i);
+    let mut left = h;
+    while 0 < left {
+        let k = j - 1;
+        j = earlier(w, p, k);
+        if same_key(w, p, k, i) {
+            let n = length_of(w, p, k);
+            let m = least(left, n);
+            put_out(file, w, p, k, n - m, m, out, at + left - m);
+            left -= m;
+        }
+    }
+}
+
+// The kind of an item, by the second word of a row.
+fn kind_of(word: u32) -> u16
+    ensures { λ r. ⌜ r ≡ 2 - word % 2 ⌝ }
+{
+    if word % 2 == 1 {
+        return 1;
+    }
+    2
+}
+
+// Writes the span of the h bytes held and the first k bytes of piece i.
+fn write_closed(
+    file: &[u8],
+    w: &[u8],
+    p: Plan,
+    i: usize,
+    out: &mut [u8],
+    at: usize,
+    h: usize,
+    k: usize,
+) -> usize
+    requires { ⌜ ClosePre (now file) (now w) p i (now out) at h k ⌝ }
+    ensures { λ r. ⌜ Writes (now (out .entry)) at (closedItem (now (file .entry)) (now (w .entry)) p i h k) r (now (out .exit)) ⌝ }
+{
+    let row = p.rows + 8 * i;
+    let kind = kind_of(get32(w, row + 1));
+    let ms = get64(w, row + 6);
+    let time = put_head(out, at, kind, 8 + h + k);
+    let body = put_le(out, time, ms, 8);
+    gather_out(file, w, p, i, h, out, body);
+    let rest = body + h;
+    put_out(file, w, p, i, 0, k, out, rest);
+    rest + k
 }
 
 // Writes the spans that piece i brings.
@@ -413,11 +521,16 @@ fn write_piece(file: &[u8], w: &mut [u8], p: Plan, i: usize, out: &mut [u8], at:
     ensures { λ r. ⌜ WroteStep (now (file .entry)) (now (w .entry)) p i (now (out .entry)) at (now (w .exit)) r (now (out .exit)) ⌝ }
 {
     let h = held_before(w, p, i);
-    if is_silent(file, w, p, i, h) {
-        hold_more(w, p, i, h);
-        return at;
+    if h == 0 {
+        return write_on(file, w, p, i, out, at, 0);
     }
-    write_joined(file, w, p, i, out, at, h)
+    let e = piece_end(file, w, p, i);
+    if e < length_of(w, p, i) {
+        let to = write_closed(file, w, p, i, out, at, h, e + 1);
+        return write_on(file, w, p, i, out, to, e + 1);
+    }
+    hold_more(w, p, i, h);
+    at
 }
 
 // Writes the list of the DLCI's spans, and returns its length.

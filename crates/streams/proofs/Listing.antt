@@ -8,7 +8,6 @@ use lib.ListN.{length}
 use Rattle.laws.specs.Answers.{Outcome, gives, Meets, meets-refused, meets-short, meets-wrote}
 use Rattle.laws.specs.Stores.{Writes}
 use Rattle.words.specs.Front.{Front, front-then, front-less}
-use Rattle.table.specs.Chain.{bucketsOf, buckets-some, buckets-fit}
 use Rattle.items.specs.Items.{spanList}
 use Rattle.rfcomm.specs.Pieces.{Piece}
 use Rattle.rfcomm.specs.PieceTable.{infosOf}
@@ -85,17 +84,14 @@ module _ (f w : List ℕ) (n : ℕ) (channel : Channel) (u : List ℕ) (c : Choi
 -- ---- the pieces linked first
 
 module _ (f w : List ℕ) (n : ℕ) (t : Tabled f w n) (p : Plan) (ep : p ≡ planOf (length f / 4) n 0) where
-  pub link-room : (m : ℕ) → m ≡ bucketsOf (length f / 4) → LinkRoom w p (7 * (length f / 4)) m
+  pub link-room : LinkRoom w p (7 * (length f / 4))
   unfolding planOf
-  link-room m e =
-      let s : 0 < length f / 4 = omega (arith, t .few) in
-      rw (ep, e) (record {
+  link-room =
+      rw ep (record {
         rows = omega (arith, t .few);
         chain = omega arith;
         over = omega (arith, t .few);
-        words = omega (arith, t .few, t .room);
-        room = omega (arith, buckets-fit (length f / 4) s, t .room);
-        some = buckets-some (length f / 4);
+        room = omega (arith, t .few, t .room);
         many = omega (arith, t .few, t .small);
       })
 

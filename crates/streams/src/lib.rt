@@ -10,7 +10,6 @@ use split::Sums;
 use split::count_spans;
 use split::link_pieces;
 use split::write_spans;
-use table::buckets;
 use words::get32;
 
 // The channel that is asked for: any, or one.
@@ -143,7 +142,6 @@ pub fn list_spans(file: &[u8], w: &mut [u8], n: usize, channel: Channel, out: &m
 {
     let q = file.len() / 4;
     let p = plan(q, n, 0);
-    let m = buckets(q);
-    link_pieces(w, p, 7 * q, m);
+    link_pieces(w, p, 7 * q);
     list_linked(file, w, n, channel, out)
 }

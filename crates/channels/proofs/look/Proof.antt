@@ -6,7 +6,7 @@ use Rattle.channels.proofs.look.Statement.{statement}
 use Rattle.channels.proofs.look.Tie as tie
 use Rattle.channels.proofs.look.Reads as reads
 use Rattle.channels.proofs.look.Lts as lts
-use Rattle.table.proofs.seek.Reads as seek-reads
+use Rattle.tree.proofs.seek.Reads as seek-reads
 use Rattle.words.proofs.get32.Reads as get32-reads
 
 -- src/lib.rt:205:9
@@ -31,15 +31,15 @@ mul-get32 c = omega (arith, found-below _ _ _ _ _ _ (c .before .before .before .
 
 -- src/lib.rt:209:30
 add-get32 : tie.Need-add-get32
-add-get32 c = omega (arith, found-below _ _ _ _ _ _ (c .before .before .before .before .seek .ensures) (c .before .before .found .given .1), c .before .before .before .before .before .before .pre .stands .rows, c .before .before .before .before .before .before .pre .stands .chain, c .before .before .before .before .before .before .pre .stands .room)
+add-get32 c = omega (arith, found-below _ _ _ _ _ _ (c .before .before .before .before .seek .ensures) (c .before .before .found .given .1), c .before .before .before .before .before .before .pre .stands .rows, c .before .before .before .before .before .before .pre .stands .room)
 
 -- src/lib.rt:209:30
 add-get32-2 : tie.Need-add-get32-2
-add-get32-2 c = omega (arith, found-below _ _ _ _ _ _ (c .before .before .before .before .seek .ensures) (c .before .before .found .given .1), c .before .before .before .before .before .before .pre .stands .rows, c .before .before .before .before .before .before .pre .stands .chain, c .before .before .before .before .before .before .pre .stands .room)
+add-get32-2 c = omega (arith, found-below _ _ _ _ _ _ (c .before .before .before .before .seek .ensures) (c .before .before .found .given .1), c .before .before .before .before .before .before .pre .stands .rows, c .before .before .before .before .before .before .pre .stands .room)
 
 -- src/lib.rt:209:21
 get32-requires : tie.Need-get32-requires
-get32-requires c κs = omega (arith, found-below _ _ _ _ _ _ (c .before .before .before .before .seek .ensures) (c .before .before .found .given .1), c .before .before .before .before .before .before .pre .stands .rows, c .before .before .before .before .before .before .pre .stands .chain, c .before .before .before .before .before .before .pre .stands .room)
+get32-requires c κs = omega (arith, found-below _ _ _ _ _ _ (c .before .before .before .before .seek .ensures) (c .before .before .found .given .1), c .before .before .before .before .before .before .pre .stands .rows, c .before .before .before .before .before .before .pre .stands .room)
 
 -- src/lib.rt:201:1
 returns-2 : tie.Need-returns-2

@@ -5,7 +5,7 @@ use Rattle.channels.proofs.raise.Tie as tie
 use Rattle.channels.proofs.raise.Reads as reads
 use Rattle.channels.proofs.raise.Lts as lts
 use Rattle.channels.proofs.look.Reads as look-reads
-use Rattle.table.proofs.enter.Reads as enter-reads
+use Rattle.tree.proofs.enter.Reads as enter-reads
 
 -- src/lib.rt:240:9
 look-requires : tie.Need-look-requires

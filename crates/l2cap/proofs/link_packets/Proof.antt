@@ -1,50 +1,67 @@
-use Rattle.l2cap.proofs.Linking.{filled-unlinked, filled-linked}
-use native.Mathlib.Omega.{arith}
+use Rattle.l2cap.proofs.Linking.{Linking, linking-start, linking-step, linking-turn, linking-end}
 use borrow.Author.Needs.{needs}
+use native.Mathlib.Omega.{arith}
 use Rattle.l2cap.proofs.link_packets.Statement.{statement}
 use Rattle.l2cap.proofs.link_packets.Tie as tie
 use Rattle.l2cap.proofs.link_packets.Reads as reads
 use Rattle.l2cap.proofs.link_packets.Lts as lts
-use Rattle.table.proofs.fill.Reads as fill-reads
-use Rattle.l2cap.proofs.link_rows.Reads as link-rows-reads
+use Rattle.l2cap.proofs.link_row.Reads as link-row-reads
 use Rattle.l2cap.proofs.narrow.Reads as narrow-reads
 
--- src/lib.rt:394:13
-mul-fill : tie.Need-mul-fill
-mul-fill c = search needs
+abbrev Inv-loop : tie.InvT-loop
+Inv-loop w₀ q count none rows₀ i₀ w rows i = Linking w₀ q count w rows i
 
--- src/lib.rt:394:30
-add-narrow : tie.Need-add-narrow
+abbrev μ-loop : tie.MeasureT-loop
+μ-loop w₀ q count none rows₀ i₀ w rows i = i
+
+-- src/lib.rt:347:23
+add-narrow : tie.Need-add-narrow Inv-loop μ-loop
 add-narrow c = search needs
 
--- src/lib.rt:394:23
-narrow-requires : tie.Need-narrow-requires
+-- src/lib.rt:347:9
+narrow-requires : tie.Need-narrow-requires Inv-loop μ-loop
 narrow-requires c κs = search needs
 
--- src/lib.rt:394:5
-fill-requires : tie.Need-fill-requires
-fill-requires c κs = search needs
+-- src/lib.rt:350:5
+loop-holds : tie.Need-loop-holds Inv-loop μ-loop
+loop-holds c = search linking-start
 
--- src/lib.rt:395:5
-link-rows-requires : tie.Need-link-rows-requires
-link-rows-requires c κs = filled-unlinked _ _ _ _ (c .before .before .before .before .before .before .before .pre) _ _ (c .before .before .before .before .narrow .ensures) (c .before .before .before .fill .ensures)
+-- src/lib.rt:351:9
+sub-i : tie.Need-sub-i Inv-loop μ-loop
+sub-i c = search needs
 
--- src/lib.rt:390:1
-same-length : tie.Need-same-length
-same-length c = search needs
+-- src/lib.rt:352:9
+link-row-requires : tie.Need-link-row-requires Inv-loop μ-loop
+link-row-requires c κs = search linking-step
 
--- src/lib.rt:390:1
-returns : tie.Need-returns
-returns c = filled-linked _ _ _ _ (c .before .before .before .before .before .before .before .before .before .before .pre) _ _ (c .before .before .before .before .before .before .before .narrow .ensures) (c .before .before .before .before .before .before .fill .ensures) _ (c .before .before .link-rows .ensures)
+-- src/lib.rt:350:5
+loop-less : tie.Need-loop-less Inv-loop μ-loop
+loop-less c = search needs
+
+-- src/lib.rt:350:5
+loop-again : tie.Need-loop-again Inv-loop μ-loop
+loop-again c = search linking-turn
+
+-- src/lib.rt:343:1
+same-length : tie.Need-same-length Inv-loop μ-loop
+same-length c = c .before .loop .inv .size
+
+-- src/lib.rt:343:1
+returns : tie.Need-returns Inv-loop μ-loop
+returns c = search linking-end
 
 pub link-packets-spec : {M : Type 1} → statement M
 link-packets-spec =
     tie.close
     (tie.spec
-    mul-fill
+    Inv-loop
+    μ-loop
     add-narrow
     narrow-requires
-    fill-requires
-    link-rows-requires
+    loop-holds
+    sub-i
+    link-row-requires
+    loop-less
+    loop-again
     same-length
     returns)

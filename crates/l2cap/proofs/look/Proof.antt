@@ -7,7 +7,7 @@ use Rattle.l2cap.proofs.look.Reads as reads
 use Rattle.l2cap.proofs.look.Lts as lts
 use Rattle.l2cap.proofs.index_of.Reads as index-of-reads
 use Rattle.l2cap.proofs.wide64.Reads as wide64-reads
-use Rattle.table.proofs.seek.Reads as seek-reads
+use Rattle.tree.proofs.seek.Reads as seek-reads
 use Rattle.words.proofs.get32.Reads as get32-reads
 use Rattle.words.proofs.wide32.Reads as wide32-reads
 

@@ -7,7 +7,7 @@ use Rattle.l2cap.proofs.set_open.Reads as reads
 use Rattle.l2cap.proofs.set_open.Lts as lts
 use Rattle.l2cap.proofs.index_of.Reads as index-of-reads
 use Rattle.l2cap.proofs.wide64.Reads as wide64-reads
-use Rattle.table.proofs.enter.Reads as enter-reads
+use Rattle.tree.proofs.enter.Reads as enter-reads
 
 -- src/lib.rt:209:9
 index-of-requires : tie.Need-index-of-requires

@@ -1,57 +1,76 @@
-use lib.ListN.{length}
-use Prim.Native.Nat.{_-_}
-use Rattle.spans.proofs.Buffers.{Seeking, seeking-hit, seeking-miss, seeking-end, seeking-start}
-use borrow.Author.Needs.{needs}
+use Rattle.spans.proofs.Buffers.{among-part, passed-none}
 use native.Mathlib.Omega.{arith}
+use borrow.Author.Needs.{needs}
 use Rattle.spans.proofs.find_byte.Statement.{statement}
 use Rattle.spans.proofs.find_byte.Tie as tie
 use Rattle.spans.proofs.find_byte.Reads as reads
 use Rattle.spans.proofs.find_byte.Lts as lts
+use Rattle.spans.proofs.find_in_32.Reads as find-in-32-reads
+use Rattle.spans.proofs.find_short.Reads as find-short-reads
+use Rattle.spans.proofs.is_without.Reads as is-without-reads
+use Rattle.spans.proofs.pass_blocks.Reads as pass-blocks-reads
 
-abbrev Inv-loop : tie.InvT-loop
-Inv-loop s from x i₀ i = Seeking s «from» x i
+-- src/lib.rt:143:8
+sub-if1 : tie.Need-sub-if1
+sub-if1 c = search needs
 
-abbrev μ-loop : tie.MeasureT-loop
-μ-loop s from x i₀ i = length s - i
+-- src/lib.rt:144:9
+find-short-requires : tie.Need-find-short-requires
+find-short-requires c κs = search needs
 
--- src/lib.rt:24:5
-loop-holds : tie.Need-loop-holds Inv-loop μ-loop
-loop-holds c = search seeking-start
+-- src/lib.rt:144:9
+returns : tie.Need-returns
+returns c = search needs
 
--- src/lib.rt:25:12
-shared-slice-read-if1 : tie.Need-shared-slice-read-if1 Inv-loop μ-loop
-shared-slice-read-if1 c = search needs
+-- src/lib.rt:146:9
+pass-blocks-requires : tie.Need-pass-blocks-requires
+pass-blocks-requires c κs = search needs
 
--- src/lib.rt:26:13
-returns : tie.Need-returns Inv-loop μ-loop
-returns c = search seeking-hit
+-- src/lib.rt:147:14
+add-to : tie.Need-add-to
+add-to c = search needs
 
--- src/lib.rt:28:9
-add-i : tie.Need-add-i Inv-loop μ-loop
-add-i c = search needs
+-- src/lib.rt:148:19
+sub-is-without : tie.Need-sub-is-without
+sub-is-without c = search needs
 
--- src/lib.rt:24:5
-loop-less : tie.Need-loop-less Inv-loop μ-loop
-loop-less c = search needs
+-- src/lib.rt:148:19
+part-is-without-start : tie.Need-part-is-without-start
+part-is-without-start c = search needs
 
--- src/lib.rt:24:5
-loop-again : tie.Need-loop-again Inv-loop μ-loop
-loop-again c = search seeking-miss
+-- src/lib.rt:148:19
+part-is-without-end : tie.Need-part-is-without-end
+part-is-without-end c = search needs
 
--- src/lib.rt:19:1
-returns-2 : tie.Need-returns-2 Inv-loop μ-loop
-returns-2 c = search seeking-end
+-- src/lib.rt:148:8
+is-without-requires : tie.Need-is-without-requires
+is-without-requires c κs = search needs
+
+-- src/lib.rt:149:9
+returns-2 : tie.Need-returns-2
+returns-2 c = passed-none _ _ _ _ (c .before .before .before .pass-blocks .ensures) _ (c .before .is-without .ensures) (c .if2 .taken)
+
+-- src/lib.rt:151:5
+find-in-32-requires : tie.Need-find-in-32-requires
+find-in-32-requires c κs = among-part _ _ 32 _ _ (c .before .before .before .pass-blocks .ensures .high) (c .before .is-without .ensures) (c .if2 .left)
+
+-- src/lib.rt:138:1
+returns-3 : tie.Need-returns-3
+returns-3 c = search needs
 
 pub find-byte-spec : {M : Type 1} → statement M
 find-byte-spec =
     tie.close
     (tie.spec
-    Inv-loop
-    μ-loop
-    loop-holds
-    shared-slice-read-if1
+    sub-if1
+    find-short-requires
     returns
-    add-i
-    loop-less
-    loop-again
-    returns-2)
+    pass-blocks-requires
+    add-to
+    sub-is-without
+    part-is-without-start
+    part-is-without-end
+    is-without-requires
+    returns-2
+    find-in-32-requires
+    returns-3)

@@ -1,0 +1,22 @@
+use Rattle.rfcomm.specs.CountTable.{index-is}
+use native.Mathlib.Omega.{arith}
+use borrow.Author.Needs.{needs}
+use Rattle.rfcomm.proofs.index_of.Statement.{statement}
+use Rattle.rfcomm.proofs.index_of.Tie as tie
+use Rattle.rfcomm.proofs.index_of.Reads as reads
+use Rattle.rfcomm.proofs.index_of.Lts as lts
+
+-- src/lib.rt:153:23
+mul-t3 : tie.Need-mul-t3
+mul-t3 c = search needs
+
+-- src/lib.rt:153:16
+add-t4 : tie.Need-add-t4
+add-t4 c = search needs
+
+-- src/lib.rt:147:1
+returns : tie.Need-returns
+returns c = search index-is
+
+pub index-of-spec : {M : Type 1} → statement M
+index-of-spec = tie.close (tie.spec mul-t3 add-t4 returns)
