@@ -29,7 +29,7 @@ use Rattle.streams.specs.declared.Stream.{Stream}
 use Rattle.outcome.specs.Import.{strict, tolerant, Options, bySource, chosen, listed, filePieces, read, endsWell, missing, outcome, given, fits, workSuffices, imported}
 use Rattle.outcome.specs.Import as import
 use Rattle.cut.specs.Claim.{CutClaim}
-use Rattle.cut.specs.Theorem.{cut-claim}
+use Rattle.cut.proofs.Theorem.{cut-claim}
 use Rattle.capture.specs.Gathered.{Gathered}
 use Rattle.capture.specs.declared.Imported.{Imported}
 use Rattle.capture.specs.declared.Imported.the-variants.{Spans, FileLong, WorkShort, NotBtsnoop, Datalink, Truncated, NoStream, OutShort}

@@ -19,9 +19,9 @@ use Rattle.channels.specs.Tried.{core, triedBy}
 use Rattle.cut.specs.Recording.{Recording, rows}
 use Rattle.cut.specs.Left.{recordsLeft}
 use Rattle.cut.specs.Honest.{pdusIn, pdusOf, nothingOpen, Open, held, unheard, AtData, Channels, by-core}
-use Rattle.cut.specs.Parts.{Front}
-use Rattle.cut.specs.Kept.{WholeRecord}
-use Rattle.cut.specs.Growing.{named-front}
+use Rattle.cut.proofs.Parts.{Front}
+use Rattle.cut.proofs.Kept.{WholeRecord}
+use Rattle.cut.proofs.Growing.{named-front}
 use Rattle.cut.proofs.Ties.{front-cut, UpTo, up-to}
 
 -- ---- on the wire

@@ -1,3 +1,16 @@
+pub mod Parts
+pub mod Kept
+pub mod Wires
+pub mod Streams
+pub mod Counts
+pub mod Links
+pub mod Traces
+pub mod Judged
+pub mod Calm
+pub mod Growing
+pub mod Rules
+pub mod Theorem
+pub mod Plain
 pub mod Ties
 pub mod Tests
 pub mod Made

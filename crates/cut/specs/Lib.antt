@@ -2,16 +2,3 @@ pub mod Recording
 pub mod Left
 pub mod Honest
 pub mod Claim
-pub mod Parts
-pub mod Kept
-pub mod Wires
-pub mod Streams
-pub mod Counts
-pub mod Links
-pub mod Traces
-pub mod Judged
-pub mod Calm
-pub mod Growing
-pub mod Rules
-pub mod Theorem
-pub mod Plain

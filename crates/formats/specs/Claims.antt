@@ -8,7 +8,7 @@ use Rattle.pcap.specs.Pcap.{pcap}
 use Rattle.pcap.proofs.Laws as pcap-laws
 use Rattle.outcome.specs.Import.{Options, imported}
 use Rattle.cut.specs.Claim.{CutClaim}
-use Rattle.cut.specs.Theorem.{cut-claim}
+use Rattle.cut.proofs.Theorem.{cut-claim}
 
 module _ (lent : List ℕ) (work : ℕ) (o : Options) (out : List ℕ) (a : Answer) (out′ : List ℕ) where
   -- every n from 16 to the file's length

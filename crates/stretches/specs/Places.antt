@@ -12,7 +12,7 @@ use Rattle.btsnoop.specs.Records.{btsnoop}
 use Rattle.btsnoop.proofs.Laws.{lawful}
 use Rattle.outcome.specs.Import.{fits, workSuffices, placesSuffice, imported, importedIn, same-in}
 use Rattle.cut.specs.Claim.{CutClaim}
-use Rattle.cut.specs.Theorem.{cut-claim}
+use Rattle.cut.proofs.Theorem.{cut-claim}
 use Rattle.split.specs.declared.Plan.{Plan}
 use Rattle.streams.specs.Streams.{planOf}
 use Rattle.streams.specs.declared.Channel.{Channel}
