@@ -21,7 +21,7 @@ use Rattle.cut.specs.Recording.{Framing, LinkOf, free, Record, Recording
 use Rattle.cut.specs.Left.{recordsLeft, Sent, sentIn, linkKey, informationOf, dataOf, wires}
 use Rattle.cut.specs.Honest.{pdusIn, MarkedPdu, marking, nothingOpen, markedPdus, JudgedPdu, withMarks, isDataOf, toData, judgedIn, afterData, adds, carriesOn, Fragments, Different, Channel, Channels, by-source, Beginning, Honest}
 use Rattle.cut.specs.Claim.{listLeft, AsLeft}
-use Rattle.cut.proofs.Judged.{markedOf, judgedAt, in-at, in-marked}
+use Rattle.cut.proofs.JudgedLists.{markedOf, judgedAt, in-at, in-marked}
 use Rattle.cut.proofs.Theorem.{cut-claim}
 
 -- what a PDU is by the signals of some records

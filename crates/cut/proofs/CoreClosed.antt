@@ -18,11 +18,11 @@ use Rattle.rfcomm.specs.Pieces.{Kind, asks, opens, carries, passed, kindBy, jud
 use Rattle.cut.specs.Recording.{Framing, Mark, free, RecordingOf}
 use Rattle.cut.specs.Left.{recordsLeft, Sent, sentIn}
 use Rattle.cut.specs.Honest.{pdusIn, MarkedPdu, pdusOf, marking, nothingOpen, markedPdus, JudgedPdu, withMarks, judgedIn, isDataOf, toData, afterData, adds, carriesOn}
-use Rattle.cut.proofs.Parts.{Front, map-append}
-use Rattle.cut.proofs.Kept.{records-front}
-use Rattle.cut.proofs.Traces.{sent-append, pdus-in, marked-append}
-use Rattle.cut.proofs.Judged.{judgedAt, at-drop, in-at}
-use Rattle.cut.proofs.Growing.{named-front}
+use Rattle.cut.proofs.TwoParts.{Front, map-append}
+use Rattle.cut.proofs.CutRecords.{records-front}
+use Rattle.cut.proofs.DataPdus.{sent-append, pdus-in, marked-append}
+use Rattle.cut.proofs.JudgedLists.{judgedAt, at-drop, in-at}
+use Rattle.cut.proofs.Verdicts.{named-front}
 
 -- each PDU judged when it is complete, after those before
 unfoldable pub nowFrom : List Pdu → List MarkedPdu → List JudgedPdu

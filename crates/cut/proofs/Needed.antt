@@ -19,8 +19,8 @@ use Rattle.spans.specs.Bytewise.{feed, emit, held, emitted, spans-is, rest-is}
 use Rattle.spans.specs.Spans.{spans}
 use Rattle.outcome.specs.Import.{Options, fits, imported}
 use Rattle.cut.specs.Recording.{Recording, file, cut}
-use Rattle.cut.proofs.Parts.{all-map, all-take, all-drop}
-use Rattle.cut.proofs.Wires.{NoEnd, inside-held, inside-emitted}
+use Rattle.cut.proofs.TwoParts.{all-map, all-take, all-drop}
+use Rattle.cut.proofs.CutWires.{NoEnd, inside-held, inside-emitted}
 use Rattle.cut.proofs.Theorem.{outcomeLeft}
 
 -- ---- small

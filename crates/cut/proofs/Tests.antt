@@ -30,8 +30,8 @@ use Rattle.rfcomm.specs.Pieces.{Kind, asks, opens, carries, passed, frameKind, 
 use Rattle.cut.specs.Recording.{wire, Framing, packedFrames, LinkOf, Mark, free, part, last, Record, RecordingOf, file}
 use Rattle.cut.specs.Left.{leftFrom, recordsLeft, Sent, sentIn, Data, dataKey, linkKey, informationOf, dataOf, dataLeft, directionOf, wires}
 use Rattle.cut.specs.Honest.{pdusIn, MarkedPdu, pdusOf, nothingOpen, markedPdus, JudgedPdu, withMarks, judgedIn, isDataOf, toData, afterData, adds, carriesOn, Joins, first, further, DataPdu, Fragments, stop, other, more, end, Different, no-more, one-more, Channel, before, unnamed, Open, held, unheard, Channels, by-source, by-core, Beginning, Honest}
-use Rattle.cut.proofs.Plain.{Passes, plainWires}
-use Rattle.cut.proofs.Kept.{WholeRecord, whole-some, left-none}
+use Rattle.cut.proofs.PlainWires.{Passes, plainWires}
+use Rattle.cut.proofs.CutRecords.{WholeRecord, whole-some, left-none}
 
 -- ---- tests of lists
 

@@ -32,16 +32,16 @@ use Rattle.cut.specs.Recording.{LinkOf, Record, RecordingOf, rows, file,
 use Rattle.cut.specs.Left.{recordsLeft, tailLeft, sentIn, Data, dataKey, linkKey, informationOf, dataOf, dataLeft, closedIn, wires, wiresOf, closing, framesLeft, midLeft}
 use Rattle.cut.specs.Honest.{pdusIn, JudgedPdu, judgedIn, Honest}
 use Rattle.cut.specs.Claim.{answerLeft, listLeft, CutClaimOf, CutClaim}
-use Rattle.cut.proofs.Parts.{map-map, take-past, all-at}
-use Rattle.cut.proofs.Kept.{records-front, cut-records}
-use Rattle.cut.proofs.Wires.{Spanning, stream, held-mid, mid-none}
-use Rattle.cut.proofs.Streams.{information-append, plain, Framed, asPiece, Apart, came-after, Fed, fed-run, fed-after}
+use Rattle.cut.proofs.TwoParts.{map-map, take-past, all-at}
+use Rattle.cut.proofs.CutRecords.{records-front, cut-records}
+use Rattle.cut.proofs.CutWires.{Spanning, stream, held-mid, mid-none}
+use Rattle.cut.proofs.Interleaving.{information-append, plain, Framed, asPiece, Apart, came-after, Fed, fed-run, fed-after}
 use Rattle.cut.proofs.Counts.{mem-nub, once-nub, count-same, count-respell}
-use Rattle.cut.proofs.Links.{partialOf, packed-spans, wires-all, links-framed, handles, found, directions, on-directions, directions-once, midAt, mid-counted}
-use Rattle.cut.proofs.Traces.{dataIn, sent-append, data-append, cut-trace, cut-data, OnLink, trace-links}
-use Rattle.cut.proofs.Judged.{judgedOf, markedOf, in-judged, in-marked}
-use Rattle.cut.proofs.Calm.{stretch, stretch-apart, calm-pieces, Near, calm-near, chosen-yes, chosen-no}
-use Rattle.cut.proofs.Rules.{cidOf, cut-calm}
+use Rattle.cut.proofs.LinkWires.{partialOf, packed-spans, wires-all, links-framed, handles, found, directions, on-directions, directions-once, midAt, mid-counted}
+use Rattle.cut.proofs.DataPdus.{dataIn, sent-append, data-append, cut-trace, cut-data, OnLink, trace-links}
+use Rattle.cut.proofs.JudgedLists.{judgedOf, markedOf, in-judged, in-marked}
+use Rattle.cut.proofs.CutPieces.{stretch, stretch-apart, calm-pieces, Near, calm-near, chosen-yes, chosen-no}
+use Rattle.cut.proofs.CutRules.{cidOf, cut-calm}
 
 -- ---- where a key of data PDUs is
 

@@ -19,8 +19,8 @@ use Rattle.outcome.specs.Import.{Tail, strict, tolerant, Options, endsWell, imp
 use Rattle.cut.specs.Recording.{Framing, LinkOf, RecordingOf, rows, file, cut}
 use Rattle.cut.specs.Left.{tailLeft, sentIn, linkKey, informationOf, dataOf, dataLeft, wires, framesLeft, midFrame, endsMid, midIn, midLeft}
 use Rattle.cut.specs.Honest.{Honest}
-use Rattle.cut.proofs.Kept.{records-all}
-use Rattle.cut.proofs.Wires.{Spanning}
+use Rattle.cut.proofs.CutRecords.{records-all}
+use Rattle.cut.proofs.CutWires.{Spanning}
 use Rattle.cut.proofs.Theorem.{outcomeLeft, cut-tail, cut-imported}
 
 module _ {C : Container} {S : Framing} (R : RecordingOf C S) (G : Spanning S) {rule : ChannelRule} (H : Honest rule R) (L : Lawful C) where

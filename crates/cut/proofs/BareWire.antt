@@ -40,7 +40,7 @@ use Rattle.mdr.specs.Escaping.{Quiet}
 use Rattle.mdr.specs.Wire.{packed-framed}
 use Rattle.outcome.specs.Import.{strict, bySource}
 use Rattle.cut.specs.Recording.{Frame, wire, RecordingOf, file, cut}
-use Rattle.cut.proofs.Plain.{plainWires}
+use Rattle.cut.proofs.PlainWires.{plainWires}
 use Rattle.cut.proofs.Tests.{plainChecked, isPlain, every, once, ends, headerTest, wholeTest, smallTest, dlciTest, dynamicTest, channelTest, channelsTest, informationTest, sizesTest, beginningsTest, settledIn, settledTest, aloneIn, aloneTest, handlesTest, dataTest, markTest, fragmentsTest, rules, passed-all, honest}
 use Rattle.cut.proofs.Made.{headerOf, sends, starts, ends-with, each}
 

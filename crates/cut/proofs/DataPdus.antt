@@ -18,8 +18,8 @@ use Rattle.l2cap.specs.Pdus.{Pdu, joined, isComplete, stillOpen, pduOf, complet
 use Rattle.cut.specs.Recording.{LinkOf, Mark, free, part, last, Record, RecordingOf, rows, Framing}
 use Rattle.cut.specs.Left.{recordsLeft, Sent, orPassed, sent, sentIn, Data, dataKey, linkKey, ifLast, dataOf, dataLeft}
 use Rattle.cut.specs.Honest.{pdusIn, MarkedPdu, pdusOf, marking, nothingOpen, markedPdus, Joins, first, further, Fragments, stop, other, more, end}
-use Rattle.cut.proofs.Parts.{Front, map-append}
-use Rattle.cut.proofs.Kept.{records-front}
+use Rattle.cut.proofs.TwoParts.{Front, map-append}
+use Rattle.cut.proofs.CutRecords.{records-front}
 
 -- ---- in two parts
 

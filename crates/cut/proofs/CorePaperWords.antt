@@ -19,10 +19,10 @@ use Rattle.channels.specs.Tried.{core, triedBy}
 use Rattle.cut.specs.Recording.{Recording, rows}
 use Rattle.cut.specs.Left.{recordsLeft}
 use Rattle.cut.specs.Honest.{pdusIn, pdusOf, nothingOpen, Open, held, unheard, AtData, Channels, by-core}
-use Rattle.cut.proofs.Parts.{Front}
-use Rattle.cut.proofs.Kept.{WholeRecord}
-use Rattle.cut.proofs.Growing.{named-front}
-use Rattle.cut.proofs.Ties.{front-cut, UpTo, up-to}
+use Rattle.cut.proofs.TwoParts.{Front}
+use Rattle.cut.proofs.CutRecords.{WholeRecord}
+use Rattle.cut.proofs.Verdicts.{named-front}
+use Rattle.cut.proofs.PaperWords.{front-cut, UpTo, up-to}
 
 -- ---- on the wire
 

@@ -18,9 +18,9 @@ use Rattle.spans.specs.Spans.{onDlci}
 use Rattle.outcome.specs.Import.{onChannel, first}
 use Rattle.cut.specs.Recording.{free, last}
 use Rattle.cut.specs.Honest.{JudgedPdu, adds, carriesOn}
-use Rattle.cut.proofs.Streams.{plain, asPiece, Apart}
-use Rattle.cut.proofs.Traces.{dataIn}
-use Rattle.cut.proofs.Judged.{judgedOf, markedOf}
+use Rattle.cut.proofs.Interleaving.{plain, asPiece, Apart}
+use Rattle.cut.proofs.DataPdus.{dataIn}
+use Rattle.cut.proofs.JudgedLists.{judgedOf, markedOf}
 
 -- the rules at the judged PDUs of one cut
 pub data Calm (d : ℕ) (cid : ℕ → ℕ → ℕ) : List JudgedPdu → Type 0 where

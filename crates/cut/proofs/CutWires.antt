@@ -18,7 +18,7 @@ use Rattle.spans.specs.Scan.{spansOf, restOf, capped}
 use Rattle.spans.specs.Bytewise.{feed, emit, held, emitted, held-append, emitted-append, quiet-nil, quiet-held, next-is, out-is}
 use Rattle.cut.specs.Recording.{Framing}
 use Rattle.cut.specs.Left.{closedIn, midFrame}
-use Rattle.cut.proofs.Parts.{take-past, all-take}
+use Rattle.cut.proofs.TwoParts.{take-past, all-take}
 
 abbrev pub NoEnd : List ℕ → Type 0
 NoEnd b = All (λ (x : ℕ). x ≢ 0x3C) b

@@ -17,12 +17,12 @@ use Rattle.rfcomm.specs.Pieces.{carries, kindBy, judgedFrom}
 use Rattle.cut.specs.Recording.{LinkOf, free, part, last, RecordingOf, Framing}
 use Rattle.cut.specs.Left.{recordsLeft, Sent, sentIn, ofHandle}
 use Rattle.cut.specs.Honest.{pdusIn, MarkedPdu, pdusOf, marking, nothingOpen, markedPdus, JudgedPdu, withMarks, judgedIn, isDataOf, adds, carriesOn, DataPdu, Fragments, stop, other, more, end, Honest}
-use Rattle.cut.proofs.Parts.{all-at, all-rest}
-use Rattle.cut.proofs.Links.{found}
-use Rattle.cut.proofs.Traces.{marked-append, pdus-more, cut-trace, Under, under-none, under-put, under-free, joins-open, whole-complete}
-use Rattle.cut.proofs.Judged.{judgedAt, in-at, later}
-use Rattle.cut.proofs.Calm.{Calm, calm, calm-data, calm-other}
-use Rattle.cut.proofs.Growing.{asks-not, honest-tries}
+use Rattle.cut.proofs.TwoParts.{all-at, all-rest}
+use Rattle.cut.proofs.LinkWires.{found}
+use Rattle.cut.proofs.DataPdus.{marked-append, pdus-more, cut-trace, Under, under-none, under-put, under-free, joins-open, whole-complete}
+use Rattle.cut.proofs.JudgedLists.{judgedAt, in-at, later}
+use Rattle.cut.proofs.CutPieces.{Calm, calm, calm-data, calm-other}
+use Rattle.cut.proofs.Verdicts.{asks-not, honest-tries}
 
 abbrev pub cidOf : {S : Framing} → List (LinkOf S) → ℕ → ℕ → ℕ
 cidOf ls h r = ofHandle 0 (λ l t. l .cid t) ls h r

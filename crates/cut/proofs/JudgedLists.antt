@@ -15,8 +15,8 @@ use Rattle.rfcomm.specs.Pieces.{Judged, judgedFrom, judgedBy}
 use Rattle.cut.specs.Recording.{Record, RecordingOf, Framing}
 use Rattle.cut.specs.Left.{Sent, sentIn}
 use Rattle.cut.specs.Honest.{pdusIn, MarkedPdu, pdusOf, marking, nothingOpen, markedPdus, JudgedPdu, withMarks, judgedIn, isDataOf, toData, afterData}
-use Rattle.cut.proofs.Parts.{Front, all-drop}
-use Rattle.cut.proofs.Traces.{pdus-in, marked-append}
+use Rattle.cut.proofs.TwoParts.{Front, all-drop}
+use Rattle.cut.proofs.DataPdus.{pdus-in, marked-append}
 
 -- without the marks, and without the verdicts
 abbrev pub judgedOf : List JudgedPdu → List Judged

@@ -13,8 +13,8 @@ use Rattle.laws.specs.Lists.{drop-end}
 use Rattle.laws.specs.Answers.{isGiven}
 use Rattle.mdr.specs.Frame.{unpackOf, unpacksOf}
 use Rattle.cut.specs.Recording.{Framing}
-use Rattle.cut.proofs.Parts.{all-rest}
-use Rattle.cut.proofs.Wires.{NoEnd, Wire, wired, Spanning}
+use Rattle.cut.proofs.TwoParts.{all-rest}
+use Rattle.cut.proofs.CutWires.{NoEnd, Wire, wired, Spanning}
 
 pub record Passes (w : List ℕ) : Type 0 where
   pub unpacks : unpacksOf w ≡ true

@@ -25,10 +25,10 @@ use Rattle.channels.specs.Channels.{any, asksFor, named, admits, admittedAfter,
 use Rattle.cut.specs.Recording.{Link, Record, Recording, rows, file}
 use Rattle.cut.specs.Left.{leftFrom, recordsLeft, dataKey, linkKey, dataLeft}
 use Rattle.cut.specs.Honest.{pdusIn, nothingOpen, Channel, before}
-use Rattle.cut.proofs.Parts.{Front}
-use Rattle.cut.proofs.Kept.{WholeRecord, whole-some, left-none, records-front, records-all}
-use Rattle.cut.proofs.Traces.{pdus-front}
-use Rattle.cut.proofs.Growing.{named-front, admitted-front, tried-admitted, tried-unnamed}
+use Rattle.cut.proofs.TwoParts.{Front}
+use Rattle.cut.proofs.CutRecords.{WholeRecord, whole-some, left-none, records-front, records-all}
+use Rattle.cut.proofs.DataPdus.{pdus-front}
+use Rattle.cut.proofs.Verdicts.{named-front, admitted-front, tried-admitted, tried-unnamed}
 
 -- ---- a PSM 3 request and its successful response
 

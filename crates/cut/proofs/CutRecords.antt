@@ -12,7 +12,7 @@ use Rattle.container.specs.Container.{Container, recordsIn, Lawful}
 use Rattle.container.proofs.Records.{IsRecord, record-least, no-records, first-record, cut-record}
 use Rattle.cut.specs.Recording.{Record, RecordingOf, rows, file, cut, Framing}
 use Rattle.cut.specs.Left.{leftFrom, recordsLeft}
-use Rattle.cut.proofs.Parts.{Front, take-past}
+use Rattle.cut.proofs.TwoParts.{Front, take-past}
 
 -- a record of a file with this header
 abbrev pub WholeRecord : (C : Container) → List ℕ → Record → Type 0

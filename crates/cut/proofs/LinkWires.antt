@@ -22,9 +22,9 @@ use Rattle.mdr.specs.Wire.{innerOf, packed-framed, packed-least, packed-unpacks
 use Rattle.cut.specs.Recording.{Frame, wire, Framing, packedFrames, LinkOf, RecordingOf}
 use Rattle.cut.specs.Left.{linkKey, dataLeft, informationOf, directionOf, ofHandle, wires, wiresOf, midFrame, endsMid, midIn}
 use Rattle.cut.specs.Honest.{Different, no-more, one-more, Beginning}
-use Rattle.cut.proofs.Parts.{all-map}
-use Rattle.cut.proofs.Wires.{NoEnd, Wire, wired, Spanning, Begun, nothing, wire-take}
-use Rattle.cut.proofs.Streams.{Framed}
+use Rattle.cut.proofs.TwoParts.{all-map}
+use Rattle.cut.proofs.CutWires.{NoEnd, Wire, wired, Spanning, Begun, nothing, wire-take}
+use Rattle.cut.proofs.Interleaving.{Framed}
 use Rattle.cut.proofs.Counts.{Once, once-nil, once-cons, mem-head, mem-tail}
 
 -- ---- packed frames

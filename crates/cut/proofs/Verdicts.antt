@@ -21,9 +21,9 @@ use Rattle.channels.specs.Tried.{ChannelRule, source, core, triedBy}
 use Rattle.cut.specs.Recording.{LinkOf, last, RecordingOf, Framing}
 use Rattle.cut.specs.Left.{recordsLeft, sentIn, Data, dataKey, linkKey, dataOf, dataLeft}
 use Rattle.cut.specs.Honest.{pdusIn, MarkedPdu, pdusOf, nothingOpen, markedPdus, DataPdu, Fragments, Channel, before, unnamed, Open, held, unheard, AtData, Channels, by-source, by-core, Honest}
-use Rattle.cut.proofs.Parts.{Front, of-append, all-at}
-use Rattle.cut.proofs.Kept.{records-front, records-grow}
-use Rattle.cut.proofs.Traces.{sent-append, data-append, marked-front, pdus-front, dataIn, dataIn-append, cut-data}
+use Rattle.cut.proofs.TwoParts.{Front, of-append, all-at}
+use Rattle.cut.proofs.CutRecords.{records-front, records-grow}
+use Rattle.cut.proofs.DataPdus.{sent-append, data-append, marked-front, pdus-front, dataIn, dataIn-append, cut-data}
 
 signals-append : (a b : List Pdu) → signals (a ++ b) ≡ signals a ++ signals b
 unfolding signals

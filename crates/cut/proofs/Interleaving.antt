@@ -14,8 +14,8 @@ use Rattle.spans.specs.Scan.{spansOf, restOf, capped}
 use Rattle.spans.specs.Bytewise.{held}
 use Rattle.spans.specs.Spans.{scanner}
 use Rattle.cut.specs.Left.{Data, dataKey, informationOf, closedIn, closing}
-use Rattle.cut.proofs.Parts.{map-append, of-append}
-use Rattle.cut.proofs.Wires.{Wire, Begun, stream, piece-next, piece-out}
+use Rattle.cut.proofs.TwoParts.{map-append, of-append}
+use Rattle.cut.proofs.CutWires.{Wire, Begun, stream, piece-next, piece-out}
 
 -- ---- lists of data PDUs in two parts
 
