@@ -15,7 +15,7 @@ use Rattle.container.specs.Packets.{Packet}
 use Rattle.container.proofs.Fronts.{be32-front}
 use Rattle.container.proofs.Packets.{not-some, fragment-room, h4-room}
 use Rattle.btsnoop.specs.Header.{isBtsnoop, datalink}
-use Rattle.btsnoop.specs.Headers.{begins-long}
+use Rattle.btsnoop.proofs.Headers.{begins-long}
 use Rattle.btsnoop.specs.Records.{recordSize, btsnoop}
 use Rattle.btsnoop.specs.Packets.{milliseconds, hciPacket, monitorPacket, packetOf}
 

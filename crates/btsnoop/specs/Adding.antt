@@ -1,34 +1,19 @@
 -- The table of packets, one packet more, and the loop over the records.
-use Prim.Native.Nat.{ℕ, zero, suc, _+_, _-_, _*_, _/_, _%_, _<_, _≤_}
-use mathlib.Core.Path.{_≡_, refl, sym, ap, _∙_}
-use mathlib.Core.Bool.{Bool, true, false, cond}
-use mathlib.Core.List.{List, [], _∷_, _++_, append-assoc, append-nil}
-use mathlib.Core.Option.{Option, none, some}
-use native.Mathlib.Nat.{add-zero}
-use native.Mathlib.Omega.{arith}
-use native.Mathlib.Numerals.{add-one}
-use lib.ListN.{length, getD, take, drop}
-use lib.Dec.{eqb}
-use Rattle.laws.specs.Choice.{split≤}
+use Prim.Native.Nat.{ℕ, _+_, _-_, _*_, _/_, _%_, _≤_}
+use mathlib.Core.Path.{_≡_}
+use mathlib.Core.List.{List, [], _∷_, _++_}
+use mathlib.Core.Option.{some}
+use lib.ListN.{length, drop}
 use Rattle.laws.specs.Lists.{flat}
-use Rattle.laws.specs.Numbers.{be32, be64}
-use Rattle.words.specs.Words.{word, putWord, long, putLong}
-use Rattle.words.specs.Front.{Front, front-word, front-less}
-use Rattle.words.specs.Rows.{putWords, length-puts, front-puts, word-puts, long-puts}
+use Rattle.words.specs.Rows.{putWords}
 use Rattle.btsnoop.specs.Header.{datalink}
 use Rattle.container.specs.Container as container
 use Rattle.btsnoop.specs.Records.{recordsIn, records, tailOffset}
-use Rattle.container.specs.Packets.{Packet, orNone, packets}
-use Rattle.btsnoop.specs.Packets.{milliseconds, packetOf}
-use Rattle.btsnoop.specs.PacketTable.{packetAt, packetsFrom, dataOf, Fits, Tabled, Read}
-use Rattle.btsnoop.specs.Parts.{be64-part}
-use Rattle.btsnoop.specs.Walk.{RecordAt, NextIs, NextOf, next-as, flat-step}
-use Rattle.btsnoop.specs.Reading.{between, packetFrom, shown, Held, RecordPre, RecordIs}
-use Rattle.btsnoop.specs.declared.Next.{Next}
-use Rattle.btsnoop.specs.declared.Next.the-variants.{Record, End}
+use Rattle.container.specs.Packets.{orNone, packets}
+use Rattle.btsnoop.specs.Packets.{packetOf}
+use Rattle.btsnoop.specs.PacketTable.{packetsFrom, dataOf, Fits, Read}
+use Rattle.btsnoop.specs.Reading.{between, RecordPre}
 use Rattle.btsnoop.specs.declared.Fragment.{Fragment}
-use Rattle.btsnoop.specs.declared.Acl.{Acl}
-use Rattle.btsnoop.specs.declared.Acl.the-variants.{Packet as Known, Skipped}
 use Rattle.btsnoop.specs.declared.Packets.{Packets}
 
 -- ---- a packet as a row of words
@@ -38,49 +23,6 @@ rowOf g t = g .key ∷ g .start ∷ g .place ∷ g .len ∷ t % 4294967296 ∷ t
 
 unfoldable pub putPacket : List ℕ → ℕ → Fragment → ℕ → List ℕ
 putPacket w i g t = putWords w (6 * i) (rowOf g t)
-
-put-is : (w : List ℕ) (at : ℕ) (g : Fragment) (t : ℕ) → putLong (putWord (putWord (putWord (putWord w at (g .key)) (at + 1) (g .start)) (at + 2) (g .place)) (at + 3) (g .len)) (at + 4) t ≡ putWords w at (rowOf g t)
-unfolding putWords rowOf putLong
-put-is w at g t =
-    let a : at + 1 ≡ suc at = omega arith in
-    let b : at + 2 ≡ suc (suc at) = omega arith in
-    let c : at + 3 ≡ suc (suc (suc at)) = omega arith in
-    let d : at + 4 ≡ suc (suc (suc (suc at))) = omega arith in
-    let e : at + 4 + 1 ≡ suc (suc (suc (suc (suc at)))) = omega arith in
-    rw (e, a, b, c, d)
-
-pub put-all : (w : List ℕ) (i : ℕ) (g : Fragment) (t : ℕ) (a b c d u : List ℕ) → a ≡ putWord w (6 * i) (g .key) → b ≡ putWord a (6 * i + 1) (g .start) → c ≡ putWord b (6 * i + 2) (g .place) → d ≡ putWord c (6 * i + 3) (g .len) → u ≡ putLong d (6 * i + 4) t → u ≡ putPacket w i g t
-unfolding putPacket
-put-all w i g t a b c d u p q r s e = e ∙ rw (s, r, q, p) (put-is w (6 * i) g t)
-
--- ---- the table under a frame
-
-packet-front : (n : ℕ) (f u w : List ℕ) (i : ℕ) → 24 * i + 24 ≤ n → Front n u w → packetAt f u i ≡ packetAt f w i
-unfolding packetAt long
-packet-front n f u w i h a =
-    rw (
-      front-word n u w (6 * i) (omega arith) a,
-      front-word n u w (6 * i + 1) (omega arith) a,
-      front-word n u w (6 * i + 2) (omega arith) a,
-      front-word n u w (6 * i + 3) (omega arith) a,
-      front-word n u w (6 * i + 4) (omega arith) a,
-      front-word n u w (6 * i + 4 + 1) (omega arith) a,
-    )
-
-packets-front : (n : ℕ) (f u w : List ℕ) (i m : ℕ) → 24 * (i + m) ≤ n → Front n u w → packetsFrom f u i m ≡ packetsFrom f w i m
-unfolding packetsFrom
-packets-front n f u w i zero h a = refl
-packets-front n f u w i (suc m) h a = rw (packet-front n f u w i (omega arith) a, packets-front n f u w (suc i) m (omega arith) a)
-
-packets-snoc : (f w : List ℕ) (i m : ℕ) → packetsFrom f w i (suc m) ≡ packetsFrom f w i m ++ (packetAt f w (i + m) ∷ [])
-unfolding packetsFrom
-packets-snoc f w i zero = rw add-zero
-packets-snoc f w i (suc m) = let z : i + suc m ≡ suc i + m = omega arith in rw (z, packets-snoc f w (suc i) m)
-
-data-front : (n : ℕ) (u w : List ℕ) (i : ℕ) → 24 * i ≤ n → Front n u w → dataOf u i ≡ dataOf w i
-unfolding dataOf
-data-front n u w zero h a = refl
-data-front n u w (suc i) h a = rw (data-front n u w i (omega arith) a, front-word n u w (6 * i + 3) (omega arith) a)
 
 -- ---- one packet more
 
@@ -95,60 +37,6 @@ pub record Added (f w : List ℕ) (at end datalink count : ℕ) (u : List ℕ) (
   pub total : 28 * r + dataOf u r ≤ 28 * count + dataOf w count + (end - at)
   pub more : r ≤ count + 1
   pub size : length u ≡ length w
-
-module _ (f w : List ℕ) (at end dl count : ℕ) (pre : AddPre f w at end count) (x : Acl) (is : RecordIs f at end dl x) where
-  pub add-none : x ≡ Skipped → Added f w at end dl count w count
-  unfolding shown
-  add-none e =
-      let q : packetOf dl (between f at end) ≡ none = is .shows ∙ rw e in
-      record {
-        list = rw (q, append-nil);
-        fits = pre .fits;
-        total = omega arith;
-        more = omega arith;
-        size = refl;
-      }
-
-  module _ (g : Fragment) (e : x ≡ Known g) (stamp ms : ℕ) (es : stamp ≡ be64 f (at + 16)) (em : ms ≡ (stamp - 0x00dcddb30f2f8000) / 1000) (u : List ℕ) (eu : u ≡ putPacket w count g ms) where
-    held : (at + 24 + 4 ≤ g .place) × (g .place + g .len ≤ end)
-    held = rw e at (is .held)
-
-    time-is : milliseconds (between f at end) ≡ ms
-    unfolding milliseconds
-    time-is = rw (be64-part f at (end - at) 16 (omega (arith, pre .here .least)), ← es) (sym em)
-
-    front : Front (24 * count) u w
-    unfolding putPacket
-    front = rw eu (front-puts (24 * count) (rowOf g ms) w (6 * count) (omega arith))
-
-    row : (j : ℕ) → j < 6 → word u (6 * count + j) ≡ getD (rowOf g ms) j 0
-    unfolding putPacket rowOf
-    row j h = rw eu (word-puts (rowOf g ms) w (6 * count) j (omega (arith, pre .room)) h)
-
-    packet-is : packetAt f u count ≡ packetFrom f ms g
-    unfolding packetAt packetFrom rowOf putPacket
-    packet-is =
-        let a : word u (6 * count) ≡ g .key = (let z : 6 * count + 0 ≡ 6 * count = omega arith in rw z at (row 0 (omega arith))) in
-        let t : long u (6 * count + 4) ≡ ms = rw eu (long-puts (rowOf g ms) w (6 * count) 4 ms (omega (arith, pre .room)) (omega arith) refl refl) in
-        rw (a, row 1 (omega arith), row 2 (omega arith), row 3 (omega arith), t)
-
-    pub add-one-packet : Added f w at end dl count u (count + 1)
-    unfolding shown dataOf rowOf putPacket
-    add-one-packet =
-        let q : packetOf dl (between f at end) ≡ some (packetFrom f ms g) = is .shows ∙ rw (e, time-is) in
-        let z : 0 + count ≡ count = omega arith in
-        let d : dataOf u (suc count) ≡ dataOf w count + g .len = rw (data-front (24 * count) u w count (omega arith) front, row 3 (omega arith)) in
-        record {
-          list = rw (add-one, packets-snoc f u 0 count, z, packets-front (24 * count) f u w 0 count (omega arith) front, packet-is, q);
-          fits = record {
-            fits = λ i h. split≤ (suc i) count
-                (λ l. rw (front-word (24 * count) u w (6 * i + 2) (omega arith) front, front-word (24 * count) u w (6 * i + 3) (omega arith) front) (pre .fits .fits i l))
-                (λ l. let y : i ≡ count = omega arith in rw (y, row 2 (omega arith), row 3 (omega arith)) (omega (arith, held, pre .here .most)));
-          };
-          total = rw add-one (omega (arith, d, held, pre .here .least));
-          more = omega arith;
-          size = rw eu (length-puts (rowOf g ms) w (6 * count));
-        }
 
 -- ---- all records
 
@@ -169,51 +57,3 @@ pub record Walking (f w₀ w : List ℕ) (at count : ℕ) : Type 0 where
   pub total : 16 + 28 * count + dataOf w count ≤ at
   pub same : packetsFrom f w 0 count ++ packets (packetOf (datalink f)) (recordsIn (drop at f)) ≡ packets (packetOf (datalink f)) (records f)
   pub tail : at + length (flat (recordsIn (drop at f))) ≡ tailOffset f
-
-pub walk-start : (f w : List ℕ) → ReadPre f w → Walking f w w 16 0
-unfolding packetsFrom dataOf container.records container.tailOffset
-walk-start f w p = record { least = omega arith; within = p .some; size = refl; fits = record { fits = λ i h. absurd (omega arith) }; total = omega arith; same = refl; tail = refl }
-
-orNone-append : (o : Option Packet) (xs : List Packet) → orNone o [] ++ xs ≡ orNone o xs
-orNone-append none xs = refl
-orNone-append (some p) xs = refl
-
-module _ (f w₀ : List ℕ) (p : ReadPre f w₀) (w : List ℕ) (at count : ℕ) (v : Walking f w₀ w at count) (x : Next) (n : NextIs f at x) where
-  pub walk-pre : (e : ℕ) → x ≡ Record e → AddPre f w at e count
-  walk-pre e q =
-      let r : RecordAt f at e = next-as f at x (Record e) n q in
-      record {
-        here = record { least = r .least; most = r .most; small = p .small };
-        fits = v .fits;
-        room = omega (arith, v .total, v .size, p .room, r .least, r .most);
-      }
-
-  pub walk-less : (e : ℕ) → x ≡ Record e → length f - e < length f - at
-  walk-less e q = let r : RecordAt f at e = next-as f at x (Record e) n q in omega (arith, r .least, r .most)
-
-  pub walk-turn : (e dl : ℕ) → x ≡ Record e → dl ≡ be32 f 12 → (u : List ℕ) (r : ℕ) → Added f w at e dl count u r → Walking f w₀ u e r
-  unfolding datalink packets
-  walk-turn e dl q ed u r a =
-      let s : RecordAt f at e = next-as f at x (Record e) n q in
-      let l : packetsFrom f u 0 r ≡ packetsFrom f w 0 count ++ orNone (packetOf (be32 f 12) (between f at e)) [] = rw ed at (a .list) in
-      record {
-        least = omega (arith, v .least, s .least);
-        within = s .most;
-        size = a .size ∙ v .size;
-        fits = a .fits;
-        total = omega (arith, a .total, v .total, s .least);
-        same = rw (l, append-assoc, orNone-append (packetOf (be32 f 12) (between f at e)) (packets (packetOf (be32 f 12)) (recordsIn (drop e f)))) (rw (s .list) at (v .same));
-        tail = sym (flat-step f at e s) ∙ v .tail;
-      }
-
-  pub walk-end : x ≡ End → ReadTo f w (record { count = count; tail = at })
-  unfolding packets
-  walk-end q =
-      let s : recordsIn (drop at f) ≡ [] = next-as f at x End n q in
-      record {
-        read = record {
-          tabled = record { fits = v .fits; total = omega (arith, v .total, v .within); small = p .small; room = rw (v .size) (p .room) };
-          list = sym (append-nil (packetsFrom f w 0 count)) ∙ (rw s at (v .same));
-        };
-        tail = (let z : at + 0 ≡ at = omega arith in sym z) ∙ (rw s at (v .tail));
-      }

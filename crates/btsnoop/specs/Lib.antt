@@ -3,11 +3,9 @@ pub mod Headers
 pub mod Records
 pub mod Packets
 pub mod PacketTable
-pub mod Parts
 pub mod Walk
 pub mod Reader
 pub mod Listing
 pub mod Listings
 pub mod Reading
 pub mod Adding
-pub mod PacketFrames

@@ -1,11 +1,8 @@
 -- Records, after the 16-byte header: original length, included length, flags, drops (4 bytes each), timestamp (8), and the packet. A record is its bytes.
 -- With the header and the packets this is the container btsnoop.
-use Prim.Native.Nat.{ℕ, _+_, _<_}
-use mathlib.Core.Path.{_≡_}
-use mathlib.Core.Bool.{Bool, cond}
-use mathlib.Core.List.{List, [], _∷_}
-use native.Mathlib.Omega.{arith}
-use lib.ListN.{take, drop}
+use Prim.Native.Nat.{ℕ, _+_}
+use mathlib.Core.Bool.{Bool}
+use mathlib.Core.List.{List}
 use Rattle.laws.specs.Numbers.{be32}
 use Rattle.container.specs.Container.{Container}
 use Rattle.container.specs.Container as container
@@ -42,11 +39,3 @@ records f = container.records btsnoop f
 
 abbrev pub tailOffset : List ℕ → ℕ
 tailOffset f = container.tailOffset btsnoop f
-
-size-some : (b : List ℕ) → 0 < recordSize b
-unfolding recordSize
-size-some b = omega arith
-
--- the first record and those of what is left
-pub records-eq : (b : List ℕ) → recordsIn b ≡ cond (isWhole b) (take (recordSize b) b ∷ recordsIn (drop (recordSize b) b)) []
-records-eq b = container-records.records-eq recordSize size-some b

@@ -11,7 +11,8 @@ use borrow.Author.Tests.{le-leb, lt-leb, eq-eqb, ne-eqb, eqb-true, eqb-false}
 use Rattle.laws.specs.Choice.{splitB, split≡, no-way}
 use Rattle.laws.specs.Answers.{Answer, accepted, refused, Outcome, refuses, Meets, meets-refused, meets-as}
 use Rattle.btsnoop.specs.Header.{isBtsnoop, datalink, isDatalink}
-use Rattle.btsnoop.specs.Headers.{headerOf, begins-long, no-header, other-link, known-link}
+use Rattle.btsnoop.specs.Headers.{headerOf}
+use Rattle.btsnoop.proofs.Headers.{begins-long, no-header, other-link, known-link}
 use Rattle.btsnoop.specs.Records.{btsnoop, tailOffset}
 use Rattle.btsnoop.proofs.Laws.{lawful}
 use Rattle.btsnoop.specs.PacketTable.{Read}

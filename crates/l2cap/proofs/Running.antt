@@ -15,7 +15,7 @@ use Rattle.table.specs.Table.{lookup, sumOf}
 use Rattle.tree.specs.Tree.{indexed-none}
 use Rattle.container.specs.Packets.{Packet}
 use Rattle.btsnoop.specs.PacketTable.{packetAt, packetsFrom, dataOf, Tabled}
-use Rattle.btsnoop.specs.PacketFrames.{packets-next, packets-none, data-mono, tabled-less, two-ways, packet-front, packets-front, tabled-front}
+use Rattle.btsnoop.proofs.PacketFrames.{packets-next, packets-none, data-mono, tabled-less, two-ways, packet-front, packets-front, tabled-front}
 use Rattle.l2cap.specs.Pdus.{Pdu, packetKey, reassembly, pdus}
 use Rattle.l2cap.specs.PduTable.{pdusFrom, paysOf, Reassembled}
 use Rattle.l2cap.specs.PduFrames.{inside-top}

@@ -16,7 +16,7 @@ use Rattle.words.specs.Front.{Front, front-then, front-word, front-less, front-
 use Rattle.table.specs.Table.{some as row, lookup, upd, second, sumOf, Stored, Agree, lookup-agree, long-agree, sum-agree, second-le}
 use Rattle.tree.specs.Tree.{Stands, Entered, stands-less, stands-same, indexed-agree}
 use Rattle.btsnoop.specs.PacketTable.{packetAt, dataOf}
-use Rattle.btsnoop.specs.PacketFrames.{data-next, data-front}
+use Rattle.btsnoop.proofs.PacketFrames.{data-next, data-front}
 use Rattle.l2cap.specs.Pdus.{joined, isComplete, stillOpen, completed}
 use Rattle.l2cap.specs.PduTable.{pdusFrom, paysOf}
 use Rattle.l2cap.specs.PduFrames.{Placed, placed-agree, pdus-agree, pays-agree}

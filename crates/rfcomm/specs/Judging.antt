@@ -10,7 +10,7 @@ use lib.Dec.{eqb, ltb}
 use borrow.Author.Tests.{eq-eqb, ne-eqb, lt-ltb, le-ltb, eqb-true, eqb-false}
 use Rattle.laws.specs.Choice.{splitB, split≡}
 use Rattle.words.specs.Words.{word}
-use Rattle.btsnoop.specs.Parts.{part-part}
+use Rattle.btsnoop.proofs.Parts.{part-part}
 use Rattle.l2cap.specs.Pdus.{Pdu}
 use Rattle.l2cap.specs.PduTable.{pduAt, Inside}
 use Rattle.l2cap.specs.PduFrames.{Lent, payload-length, link-at, rx-at, cid-at}

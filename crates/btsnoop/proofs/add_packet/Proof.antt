@@ -1,4 +1,4 @@
-use Rattle.btsnoop.specs.Adding.{add-none, add-one-packet}
+use Rattle.btsnoop.proofs.Adding.{add-none, add-one-packet}
 use native.Mathlib.Omega.{arith}
 use borrow.Author.Needs.{needs}
 use Rattle.btsnoop.proofs.add_packet.Statement.{statement}

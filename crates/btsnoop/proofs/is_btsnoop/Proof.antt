@@ -1,6 +1,6 @@
 use mathlib.Core.Path.{sym}
 use lib.Seq.{length-take-le}
-use Rattle.btsnoop.specs.Headers.{begins-short, begins-not, begins-version}
+use Rattle.btsnoop.proofs.Headers.{begins-short, begins-not, begins-version}
 use native.Mathlib.Omega.{arith}
 use borrow.Author.Needs.{needs}
 use Rattle.btsnoop.proofs.is_btsnoop.Statement.{statement}

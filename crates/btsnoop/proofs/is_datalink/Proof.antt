@@ -1,4 +1,4 @@
-use Rattle.btsnoop.specs.Headers.{read-1001, read-1002, read-2001}
+use Rattle.btsnoop.proofs.Headers.{read-1001, read-1002, read-2001}
 use borrow.Author.Needs.{needs}
 use native.Mathlib.Omega.{arith}
 use Rattle.btsnoop.proofs.is_datalink.Statement.{statement}

@@ -1,4 +1,4 @@
-use Rattle.btsnoop.specs.Listings.{lists-long, lists-none, lists-other, lists-all}
+use Rattle.btsnoop.proofs.Listings.{lists-long, lists-none, lists-other, lists-all}
 use native.Mathlib.Omega.{arith}
 use borrow.Author.Needs.{needs}
 use Rattle.btsnoop.proofs.list_records.Statement.{statement}

@@ -1,4 +1,4 @@
-use Rattle.btsnoop.specs.Walk.{next-short, next-long, next-whole}
+use Rattle.btsnoop.proofs.Walk.{next-short, next-long, next-whole}
 use native.Mathlib.Omega.{arith}
 use borrow.Author.Needs.{needs}
 use Rattle.btsnoop.proofs.next_record.Statement.{statement}

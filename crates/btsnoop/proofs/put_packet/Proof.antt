@@ -1,4 +1,4 @@
-use Rattle.btsnoop.specs.Adding.{put-all}
+use Rattle.btsnoop.proofs.Adding.{put-all}
 use native.Mathlib.Omega.{arith}
 use borrow.Author.Needs.{needs}
 use Rattle.btsnoop.proofs.put_packet.Statement.{statement}

@@ -1,4 +1,4 @@
-use Rattle.btsnoop.specs.Reading.{acl-handle, acl-size, acl-short, acl-packet}
+use Rattle.btsnoop.proofs.Reading.{acl-handle, acl-size, acl-short, acl-packet}
 use native.Mathlib.Omega.{arith}
 use borrow.Author.Needs.{needs}
 use Rattle.btsnoop.proofs.read_fragment.Statement.{statement}

@@ -1,4 +1,4 @@
-use Rattle.btsnoop.specs.Reading.{h4-pre, h4-none, h4-other, h4-acl}
+use Rattle.btsnoop.proofs.Reading.{h4-pre, h4-none, h4-other, h4-acl}
 use native.Mathlib.Omega.{arith}
 use borrow.Author.Needs.{needs}
 use Rattle.btsnoop.proofs.read_h4.Statement.{statement}

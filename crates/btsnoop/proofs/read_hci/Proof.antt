@@ -1,4 +1,4 @@
-use Rattle.btsnoop.specs.Reading.{hci-pre, hci-skip, hci-h4, hci-plain}
+use Rattle.btsnoop.proofs.Reading.{hci-pre, hci-skip, hci-h4, hci-plain}
 use native.Mathlib.Omega.{arith}
 use borrow.Author.Needs.{needs}
 use Rattle.btsnoop.proofs.read_hci.Statement.{statement}

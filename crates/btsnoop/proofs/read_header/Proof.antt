@@ -1,4 +1,4 @@
-use Rattle.btsnoop.specs.Headers.{header-room, header-not, header-datalink, header-other}
+use Rattle.btsnoop.proofs.Headers.{header-room, header-not, header-datalink, header-other}
 use native.Mathlib.Omega.{arith}
 use borrow.Author.Needs.{needs}
 use Rattle.btsnoop.proofs.read_header.Statement.{statement}

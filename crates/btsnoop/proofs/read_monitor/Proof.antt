@@ -1,4 +1,4 @@
-use Rattle.btsnoop.specs.Reading.{monitor-pre, monitor-tx, monitor-rx, monitor-none}
+use Rattle.btsnoop.proofs.Reading.{monitor-pre, monitor-tx, monitor-rx, monitor-none}
 use native.Mathlib.Omega.{arith}
 use borrow.Author.Needs.{needs}
 use Rattle.btsnoop.proofs.read_monitor.Statement.{statement}

@@ -1,4 +1,4 @@
-use Rattle.btsnoop.specs.Reading.{record-pre, record-monitor, record-hci}
+use Rattle.btsnoop.proofs.Reading.{record-pre, record-monitor, record-hci}
 use native.Mathlib.Omega.{arith}
 use borrow.Author.Needs.{needs}
 use Rattle.btsnoop.proofs.read_packet.Statement.{statement}

@@ -1,4 +1,5 @@
-use Rattle.btsnoop.specs.Adding.{Walking, walk-start, walk-pre, walk-turn, walk-end, walk-less}
+use Rattle.btsnoop.specs.Adding.{Walking}
+use Rattle.btsnoop.proofs.Adding.{walk-start, walk-pre, walk-turn, walk-end, walk-less}
 use Prim.Native.Nat.{_-_}
 use lib.ListN.{length}
 use borrow.Author.Needs.{needs}

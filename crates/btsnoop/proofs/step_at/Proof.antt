@@ -1,4 +1,4 @@
-use Rattle.btsnoop.specs.Reader.{step-end, step-cut, step-whole}
+use Rattle.btsnoop.proofs.ReaderLaws.{step-end, step-cut, step-whole}
 use native.Mathlib.Omega.{arith}
 use borrow.Author.Needs.{needs}
 use Rattle.btsnoop.proofs.step_at.Statement.{statement}

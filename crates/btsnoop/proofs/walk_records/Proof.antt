@@ -1,4 +1,5 @@
-use Rattle.btsnoop.specs.Listings.{Listing, listing-start, listing-less, listing-turn, listing-cut, listing-end}
+use Rattle.btsnoop.specs.Listings.{Listing}
+use Rattle.btsnoop.proofs.Listings.{listing-start, listing-less, listing-turn, listing-cut, listing-end}
 use Prim.Native.Nat.{_-_}
 use lib.ListN.{length}
 use borrow.Author.Needs.{needs}

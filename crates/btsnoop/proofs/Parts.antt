@@ -1,11 +1,11 @@
 -- Numbers and bytes of a part of a list, read in the list.
 use Prim.Native.Nat.{ℕ, zero, suc, _+_, _-_, _<_, _≤_}
-use mathlib.Core.Path.{_≡_, refl, sym, ap, _∙_}
+use mathlib.Core.Path.{_≡_, sym, ap, _∙_}
 use mathlib.Core.List.{List, [], _∷_}
 use native.Mathlib.Omega.{arith}
-use lib.ListN.{length, getD, take, drop}
+use lib.ListN.{getD, take, drop}
 use lib.Seq.{getD-take, getD-drop, drop-drop, take-nil}
-use Rattle.laws.specs.Numbers.{le16, be32, be64}
+use Rattle.laws.specs.Numbers.{be32, be64}
 use Rattle.words.specs.Front.{part-take}
 
 module _ (f : List ℕ) (at k : ℕ) where
