@@ -29,7 +29,7 @@ use Rattle.rfcomm.specs.Pieces.{uihKind, frameKind, kindBy, judgedFrom, judgedB
 use Rattle.spans.specs.Scan.{seek, spansN, restN, spansOf, restOf, capped}
 use Rattle.spans.specs.Spans.{spans, unfinished, onDlci}
 use Rattle.outcome.specs.Import.{Found, found, missing, tolerant, onChannel, first, hasFrame, chosen, listed, filePieces, read, endsWell, outcome}
-use Rattle.outcome.specs.Examples.{sample}
+use Rattle.outcome.proofs.Examples.{sample}
 use Rattle.cut.specs.Recording.{Recording, file, cut}
 use Rattle.cut.specs.Left.{leftFrom, recordsLeft, tailLeft, sent, dataOf, dataLeft, closedIn, ofHandle, framesLeft, midFrame, endsMid, midIn, midLeft}
 use Rattle.cut.specs.Honest.{pdusIn, markedPdus, withMarks, judgedIn, isDataOf, toData, afterData, adds, carriesOn, Honest}

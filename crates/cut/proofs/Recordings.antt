@@ -5,7 +5,7 @@ use lib.ListN.{take, drop}
 use Rattle.items.specs.declared.Direction.the-variants.{Rx, Tx}
 use Rattle.btsnoop.specs.Header.{magic}
 use Rattle.btsnoop.specs.Records.{btsnoop}
-use Rattle.outcome.specs.Examples.{sample}
+use Rattle.outcome.proofs.Examples.{sample}
 use Rattle.cut.specs.Recording.{Frame, wire, Link, free, part, last, Record, Recording}
 use Rattle.cut.proofs.Made.{be, headerOf, row, acl, pdu, uihOn, sabmOn, requestOf, responseOf, freely, sends, starts, ends-with, frameOf, each}
 

@@ -33,7 +33,7 @@ use Rattle.rfcomm.specs.Pieces.{uihKind, frameKind, kindBy, judgedFrom, judgedB
 use Rattle.spans.specs.Scan.{seek, spansN, restN, spansOf, restOf, capped}
 use Rattle.spans.specs.Spans.{spans, unfinished, onDlci}
 use Rattle.outcome.specs.Import.{Tail, strict, tolerant, bySource, onChannel, first, hasFrame, chosen, Found, found, missing, listed, filePieces, read, endsWell, outcome}
-use Rattle.outcome.specs.Examples.{sample}
+use Rattle.outcome.proofs.Examples.{sample}
 use Rattle.formats.specs.Written.{num, Seen, btsnoopFile, pcapHead, pcapFile}
 
 -- the packet of the worked example, and a nanosecond less than a millisecond past its time

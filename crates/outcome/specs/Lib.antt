@@ -1,2 +1,1 @@
 pub mod Import
-pub mod Examples
