@@ -1,3 +1,4 @@
+pub mod Claims
 pub mod Same
 pub mod Examples
 pub mod Recorded

@@ -7,7 +7,8 @@ use lib.ListN.{length}
 use Rattle.laws.specs.Choice.{splitB, no-way}
 use Rattle.laws.specs.Answers.{Answer, answer}
 use Rattle.btsnoop.specs.Records.{btsnoop}
-use Rattle.outcome.specs.Import.{fits, workSuffices, placesSuffice, imported, importedIn, same-in}
+use Rattle.outcome.specs.Import.{fits, workSuffices, placesSuffice, imported, importedIn}
+use Rattle.outcome.proofs.Import.{same-in}
 use Rattle.cut.specs.Claim.{CutClaim}
 use Rattle.streams.specs.Streams.{channelOf}
 use Rattle.streams.specs.declared.Channel.{Channel}

@@ -1,12 +1,10 @@
 -- Import: the DLCI chosen, its spans, how many buffers are unfinished, and the tail offset; or a refusal.
 use Prim.Native.Nat.{ℕ, _*_, _/_}
-use mathlib.Core.Path.{_≡_, refl}
 use mathlib.Core.Bool.{Bool, true, false, cond, _&&_}
 use mathlib.Core.List.{List, [], _∷_, map}
 use mathlib.Core.Option.{Option, none, some}
 use lib.ListN.{length}
 use lib.Dec.{leb, ltb, eqb}
-use Rattle.laws.specs.Choice.{splitB}
 use Rattle.laws.specs.Answers.{Answer, Outcome, gives, refuses, Meets}
 use Rattle.items.specs.Items.{Span, spanList}
 use Rattle.mdr.specs.Frame.{unpacksOf}
@@ -114,8 +112,3 @@ module _ (C : Container) where
       cond (fits f)
       (cond (placesSuffice f places) (imported f work o) (refuses 2 []))
       (refuses 1 [])
-
-  -- with enough places it is the same on every input
-  pub same-in : (f : List ℕ) (work places : ℕ) (o : Options) → placesSuffice f places ≡ true → importedIn f work places o ≡ imported f work o
-  unfolding importedIn imported
-  same-in f work places o h = splitB (fits f) (λ e. rw (e, h)) (λ e. rw e)

@@ -10,7 +10,8 @@ use Rattle.laws.specs.Choice.{splitB, no-way}
 use Rattle.laws.specs.Answers.{Answer, Outcome, refuses, Meets, meets-refused, meets-as}
 use Rattle.btsnoop.specs.Records.{btsnoop}
 use Rattle.btsnoop.proofs.Laws.{lawful}
-use Rattle.outcome.specs.Import.{fits, workSuffices, placesSuffice, imported, importedIn, same-in}
+use Rattle.outcome.specs.Import.{fits, workSuffices, placesSuffice, imported, importedIn}
+use Rattle.outcome.proofs.Import.{same-in}
 use Rattle.cut.specs.Claim.{CutClaim}
 use Rattle.cut.proofs.Theorem.{cut-claim}
 use Rattle.split.specs.declared.Plan.{Plan}
