@@ -387,7 +387,10 @@ fn import_row(bench: &mut Bench, trace: &Hard, file: Vec<u8>) -> Checked {
 
 /// How the times of each trace grow from 128 KiB to 1 MiB, divided by the growth of the bytes.
 fn growth(bench: &mut Bench) -> Checked {
-    println!("{:64} {:>7} {:>7} {:>7} {:>7}", "growth of the time, by that of the bytes", "bytes", "ours", "least", "Rust");
+    println!(
+        "{:64} {:>7} {:>7} {:>7} {:>7}",
+        "growth of the time, by that of the bytes", "bytes", "ours", "least", "Rust"
+    );
     for trace in hard::traces() {
         if !trace.grows() || !bench.wants(&trace.label) {
             continue;

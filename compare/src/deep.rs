@@ -8,18 +8,20 @@
 
 use crate::hard::{byte, Filler};
 use crate::trace;
-use oracle::capture::BTSNOOP_EPOCH_DELTA_US as EPOCH;
 use oracle::capture::Direction::{self, Rx, Tx};
+use oracle::capture::BTSNOOP_EPOCH_DELTA_US as EPOCH;
 
 /// The DLCI of all pieces.
 const DLCI: u8 = 18;
 
 pub fn traces() -> impl Iterator<Item = (&'static str, fn(usize) -> Vec<u8>)> {
-    let all: [(&str, fn(usize) -> Vec<u8>); 11] = [
+    let all: [(&str, fn(usize) -> Vec<u8>); 13] = [
         ("long paths: a channel for every request", |most| many_channels(most, &request)),
         ("long paths: a channel for every response", |most| many_channels(most, &response)),
-        ("long paths: one channel, requests", |most| one_channel(most, &request)),
-        ("long paths: one channel, responses", |most| one_channel(most, &response)),
+        ("long paths: requests for one channel", |most| few_channels(most, &[FIRST], &request)),
+        ("long paths: requests for two channels in turn", |most| few_channels(most, &[FIRST, TWIN], &request)),
+        ("long paths: responses for one channel", |most| few_channels(most, &[FIRST], &response)),
+        ("long paths: responses for two channels in turn", |most| few_channels(most, &[FIRST, TWIN], &response)),
         ("long paths: a buffer for every piece", many_buffers),
         ("long paths: one-byte fragments", fragments),
         ("long paths: one-byte fragments, two handles in turn", fragments_in_turn),
@@ -45,6 +47,9 @@ struct Channel {
 const FIRST: Channel = Channel { side: 0x0A5A, cid: 0xA5A5 };
 const SECOND: Channel = Channel { side: 0x1A5A, cid: 0x95A5 };
 const BOTH: [Channel; 2] = [FIRST, SECOND];
+
+/// A channel of the side of the first, whose number differs in bit 15 alone.
+const TWIN: Channel = Channel { side: 0x0A5A, cid: 0x25A5 };
 
 fn handle_of(side: u64) -> u16 {
     (side / 2) as u16
@@ -113,22 +118,27 @@ fn many_channels(most: usize, command: &Command) -> Vec<u8> {
     filler.ended(DLCI)
 }
 
-/// Channels that begin with more and more of the bits of a number, but not with all.
-fn beside(number: u64) -> impl Iterator<Item = Channel> {
-    (0..29).filter_map(move |bit| Channel::of(number ^ 1 << bit))
+/// Requests for channels that begin with more and more of the bits of each of some numbers,
+/// without those that are used.
+fn name_beside(filler: &mut Filler, used: &[Channel]) {
+    for channel in used {
+        for other in (0..29).filter_map(|bit| Channel::of(channel.number() ^ 1 << bit)) {
+            if !used.contains(&other) {
+                signal(filler, other.side, &request(other, 0));
+            }
+        }
+    }
 }
 
-/// One channel named again and again, with a source that is as far down as it is.
-fn one_channel(most: usize, command: &Command) -> Vec<u8> {
+/// A few channels of one side named again and again, with sources that are as far down.
+fn few_channels(most: usize, named: &[Channel], command: &Command) -> Vec<u8> {
     let mut filler = Filler::new(1001, most);
-    let source = Channel { side: FIRST.side ^ 1, ..FIRST };
-    for other in beside(FIRST.number()).chain(beside(source.number())) {
-        signal(&mut filler, other.side, &request(other, 0));
-    }
-    let command = command(FIRST, source.cid);
-    let mut count = 65_000 / command.len();
+    let sources: Vec<Channel> = named.iter().map(|c| Channel { side: c.side ^ 1, ..*c }).collect();
+    name_beside(&mut filler, &[named, &sources].concat());
+    let turn: Vec<u8> = named.iter().zip(&sources).flat_map(|(c, source)| command(*c, source.cid)).collect();
+    let mut count = 65_000 / turn.len();
     while count > 0 {
-        if !signal(&mut filler, FIRST.side, &command.repeat(count)) {
+        if !signal(&mut filler, FIRST.side, &turn.repeat(count)) {
             count /= 2;
         }
     }

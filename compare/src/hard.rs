@@ -6,8 +6,8 @@ use crate::import::ack;
 use crate::model::packed;
 use crate::rng::Rng;
 use crate::trace::{self, Trace};
-use oracle::capture::BTSNOOP_EPOCH_DELTA_US as EPOCH;
 use oracle::capture::Direction::{self, Rx, Tx};
+use oracle::capture::BTSNOOP_EPOCH_DELTA_US as EPOCH;
 
 type Maker = Box<dyn Fn(usize) -> Option<Vec<u8>>>;
 

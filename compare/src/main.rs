@@ -156,6 +156,10 @@ fn size(text: &str) -> Result<usize, String> {
     kib.ok_or_else(|| format!("`{text}` is no size from 16 to 1024"))
 }
 
+fn sizes(text: &str) -> Result<Vec<usize>, String> {
+    text.split(',').map(size).collect()
+}
+
 fn arguments() -> Result<(Vec<String>, Options), String> {
     let mut words = Vec::new();
     let mut options = Options::default();
@@ -165,7 +169,7 @@ fn arguments() -> Result<(Vec<String>, Options), String> {
             "--seed" => options.seed = number(args.next())?,
             "--size" => options.size = Some(number(args.next())?),
             "--times" => options.times = number(args.next())?,
-            "--kib" => options.kib = Some(args.next().unwrap_or_default().split(',').map(size).collect::<Result<_, _>>()?),
+            "--kib" => options.kib = Some(sizes(&args.next().unwrap_or_default())?),
             "--only" => options.only = Some(args.next().ok_or("--only takes a text")?),
             "--judge" => options.judge = true,
             "--against" => match args.next().as_deref() {
