@@ -217,16 +217,19 @@ fn plan(bench: &mut Bench) -> Checked {
         }
     }
     plan_row(bench, "plan of 60000 spans 3E 3C", vec![(0, Rx, vec![0x3E, 0x3C]); 60_000], &[])?;
-    plan_row(bench, "plan of 200 spans of 60000 bytes, a late bad escape", vec![(0, Rx, bad_escape(60_000)); 200], &[])
+    for (what, payload) in payloads(&mut Rng::new(1), 60_000) {
+        let label = format!("plan of 200 spans of 60000 bytes, {what}, a late bad escape");
+        plan_row(bench, &label, vec![(0, Rx, bad_escape(&payload)); 200], &[])?;
+    }
+    Ok(())
 }
 
-/// A span of that many bytes that does not unpack because of what comes near its end.
-fn bad_escape(bytes: usize) -> Vec<u8> {
-    let mut span: Vec<u8> = (0..bytes).map(|i| (i % 40) as u8).collect();
-    span[0] = 0x3E;
-    span[bytes - 1] = 0x3C;
-    span[bytes - 6..bytes - 4].copy_from_slice(&[0x3D, 0x00]);
-    span
+/// A frame that does not unpack because of what comes near its end.
+fn bad_escape(payload: &[u8]) -> Vec<u8> {
+    let mut wire = packed(0x0C, 0, payload);
+    let end = wire.len() - 8;
+    wire[end..end + 2].copy_from_slice(&[0x3D, 0x00]);
+    wire
 }
 
 fn plan_row(bench: &mut Bench, label: &str, frames: Vec<Span>, excluded: &[String]) -> Checked {
