@@ -4,12 +4,12 @@
 //!
 //! Before a row is timed, the answer is held against the oracle's. Buffers are allocated
 //! once and never cleared between calls. The oracle allocates what it answers, and that is
-//! part of its time.
+//! part of its time, but the allocator has the memory already.
 
 use std::hint::black_box;
 use std::path::Path;
 
-use crate::answer::{Answer, Case, Checked, Lender, Subject, NO_CHANNEL};
+use crate::answer::{Answer, Case, Checked, Difference, Lender, Subject, NO_CHANNEL};
 use crate::expected;
 use crate::hard::{self, Hard};
 use crate::import::ack;
@@ -41,8 +41,8 @@ struct Row<'a> {
     label: &'a str,
     bytes: usize,
     limit: Option<f64>,
-    /// What a copy of is timed as well.
-    copied: Option<&'a [u8]>,
+    /// What a copy of is timed as well; a call is one for each of these, if there are any.
+    copied: &'a [Vec<u8>],
 }
 
 impl Bench<'_> {
@@ -55,22 +55,25 @@ impl Bench<'_> {
         println!("{}", if copies { "  copies" } else { "" });
     }
 
-    /// One row: both calls timed in turns, and a copy of the input.
+    /// One row: both calls timed in turns, and copies of the inputs.
     fn row(&mut self, row: Row, ours: &mut dyn FnMut(), rust: &mut dyn FnMut()) {
-        let mut to = vec![0; row.copied.map_or(0, <[u8]>::len)];
+        let mut to = vec![0; row.copied.iter().map(Vec::len).max().unwrap_or(0)];
         let mut copy = || {
-            to.copy_from_slice(black_box(row.copied.unwrap_or(&[])));
-            black_box(&mut to);
+            for bytes in row.copied {
+                to[..bytes.len()].copy_from_slice(black_box(bytes));
+                black_box(&mut to);
+            }
         };
         let mut sides: Vec<&mut dyn FnMut()> = vec![ours, rust];
-        if row.copied.is_some() {
+        if !row.copied.is_empty() {
             sides.push(&mut copy);
         }
         let times = times::turns(&mut sides);
         let (a, b) = (&times[0], &times[1]);
         let (ratio, least) = (times::ratio(a, b), times::least(a) / times::least(b));
         let copies = times.get(2).map_or(String::new(), |c| format!(" {:>7.1}", times::ratio(a, c)));
-        let (ours, rust) = (times::shown(times::median(a.clone())), times::shown(times::median(b.clone())));
+        let shown = |times: &[f64]| times::shown(times::median(times.to_vec()) / row.copied.len().max(1) as f64);
+        let (ours, rust) = (shown(a), shown(b));
         println!("{:64} {:>10} {ours:>10} {rust:>10} {ratio:>7.3} {least:>7.3}{copies}", row.label, row.bytes);
         self.judge(row.label, row.bytes, ratio, row.limit);
     }
@@ -133,7 +136,7 @@ fn codec_rows(bench: &mut Bench, what: &str, limit: Option<f64>, payload: &[u8])
     if bench.wants(label) {
         check(label, &expected::unpack(&packed), &mut |out, values| subject.unpack(&packed, out, values))?;
         bench.row(
-            Row { label, bytes, limit, copied: None },
+            Row { label, bytes, limit, copied: &[] },
             &mut || {
                 black_box(subject.unpack(black_box(&packed), black_box(&mut out), &mut values));
             },
@@ -146,7 +149,7 @@ fn codec_rows(bench: &mut Bench, what: &str, limit: Option<f64>, payload: &[u8])
     if bench.wants(label) {
         check(label, &expected::pack(0x0C, 0, payload), &mut |o, v| subject.pack(0x0C, 0, payload, o, v))?;
         bench.row(
-            Row { label, bytes, limit, copied: None },
+            Row { label, bytes, limit, copied: &[] },
             &mut || {
                 black_box(subject.pack(0x0C, 0, black_box(payload), black_box(&mut out), &mut values));
             },
@@ -175,7 +178,7 @@ fn names(bench: &mut Bench) -> Checked {
             subject.fixture_name(ms, 7, 1, &wire, out, values)
         })?;
         bench.row(
-            Row { label, bytes: wire.len(), limit: None, copied: None },
+            Row { label, bytes: wire.len(), limit: None, copied: &[] },
             &mut || {
                 black_box(subject.fixture_name(ms, 7, 1, black_box(&wire), &mut out, &mut values));
             },
@@ -190,7 +193,7 @@ fn names(bench: &mut Bench) -> Checked {
             continue;
         }
         bench.row(
-            Row { label, bytes: name.len(), limit: None, copied: None },
+            Row { label, bytes: name.len(), limit: None, copied: &[] },
             &mut || {
                 black_box(subject.is_command_name(black_box(name.as_bytes())));
             },
@@ -244,7 +247,7 @@ fn plan_row(bench: &mut Bench, label: &str, frames: Vec<Span>, excluded: &[Strin
     let mut out = vec![0; expected.written.len()];
     let mut values = [0; 2];
     bench.row(
-        Row { label, bytes: list.len(), limit: ANY, copied: None },
+        Row { label, bytes: list.len(), limit: ANY, copied: &[] },
         &mut || {
             black_box(subject.plan(black_box(&list), &names, &mut out, &mut values));
         },
@@ -311,7 +314,7 @@ fn order_row(bench: &mut Bench, label: &str, names: Vec<String>) -> Checked {
     let mut out = vec![0; list.len()];
     let mut values = [0];
     bench.row(
-        Row { label, bytes: list.len(), limit: ANY, copied: None },
+        Row { label, bytes: list.len(), limit: ANY, copied: &[] },
         &mut || {
             black_box(names.clone());
             black_box(subject.capture_order(black_box(&list), &mut out, &mut values));
@@ -325,40 +328,53 @@ fn order_row(bench: &mut Bench, label: &str, names: Vec<String>) -> Checked {
     Ok(())
 }
 
-/// A file to import, with what is lent for it.
-struct Lent {
-    file: Vec<u8>,
+/// Files to import one after another, with what is lent for all of them.
+struct Files {
+    files: Vec<Vec<u8>>,
+    answers: Vec<Answer>,
     work: Vec<u8>,
     out: Vec<u8>,
-    values: [u64; 5],
-    number: u32,
 }
 
-impl Lent {
-    fn new(file: Vec<u8>, out: usize, number: u32) -> Lent {
-        let work = vec![0; 8 * file.len()];
-        Lent { file, work, out: vec![0; out], values: [0; 5], number }
+impl Files {
+    /// The files, once the subject's answers are the oracle's.
+    fn checked(subject: &dyn Subject, label: &str, files: Vec<Vec<u8>>) -> Result<Files, Box<Difference>> {
+        let mut work = vec![0; 8 * files.iter().map(Vec::len).max().unwrap_or(0)];
+        let mut answers = Vec::new();
+        for file in &files {
+            let expected = expected::import_strict(file, NO_CHANNEL);
+            check(label, &expected, &mut |out, v| subject.import_strict(file, &mut work, out, NO_CHANNEL, v))?;
+            answers.push(expected);
+        }
+        let out = vec![0; answers.iter().map(|a| a.written.len()).max().unwrap_or(0)];
+        Ok(Files { files, answers, work, out })
     }
 
-    /// For a file whose answer is the oracle's.
-    fn checked(subject: &dyn Subject, label: &str, file: Vec<u8>) -> Result<Lent, Box<crate::answer::Difference>> {
-        let expected = expected::import_strict(&file, NO_CHANNEL);
-        let mut work = vec![0; 8 * file.len()];
-        check(label, &expected, &mut |out, values| subject.import_strict(&file, &mut work, out, NO_CHANNEL, values))?;
-        let mut lent = Lent::new(file, expected.written.len(), expected.number);
-        lent.values[..expected.values.len()].copy_from_slice(&expected.values);
-        Ok(lent)
+    fn bytes(&self) -> f64 {
+        self.files.iter().map(Vec::len).sum::<usize>() as f64
+    }
+
+    /// The label with what the first file comes to.
+    fn label(&self, label: &str) -> String {
+        match self.answers[0].number {
+            0 => format!("{label} ({} spans)", self.answers[0].values[1]),
+            number => format!("{label} (refusal {number})"),
+        }
     }
 
     fn import(&mut self, subject: &dyn Subject) {
-        let file = black_box(&self.file);
-        let number = subject.import_strict(file, &mut self.work, &mut self.out, NO_CHANNEL, &mut self.values);
-        assert_eq!(number, self.number);
+        let mut values = [0; 5];
+        for (file, answer) in self.files.iter().zip(&self.answers) {
+            let number = subject.import_strict(black_box(file), &mut self.work, &mut self.out, NO_CHANNEL, &mut values);
+            assert_eq!(number, answer.number);
+        }
     }
 }
 
-fn import_rust(file: &[u8]) {
-    black_box(capture::import(black_box(file), None).is_ok());
+fn import_rust(files: &[Vec<u8>]) {
+    for file in files {
+        black_box(capture::import(black_box(file), None).is_ok());
+    }
 }
 
 fn import(bench: &mut Bench) -> Checked {
@@ -368,23 +384,20 @@ fn import(bench: &mut Bench) -> Checked {
             continue;
         }
         for kib in trace.sizes(bench.options.kib.as_deref()) {
-            if let Some(file) = trace.file(kib) {
-                import_row(bench, &trace, file)?;
+            if let Some(files) = trace.files(kib) {
+                import_row(bench, &trace, files)?;
             }
         }
     }
     Ok(())
 }
 
-fn import_row(bench: &mut Bench, trace: &Hard, file: Vec<u8>) -> Checked {
+fn import_row(bench: &mut Bench, trace: &Hard, files: Vec<Vec<u8>>) -> Checked {
     let subject = bench.subject;
-    let mut lent = Lent::checked(subject, &trace.label, file.clone())?;
-    let label = match lent.number {
-        0 => format!("{} ({} spans)", trace.label, lent.values[1]),
-        number => format!("{} (refusal {number})", trace.label),
-    };
-    let row = Row { label: &label, bytes: file.len(), limit: Some(trace.limit), copied: Some(&file) };
-    bench.row(row, &mut || lent.import(subject), &mut || import_rust(&file));
+    let mut ours = Files::checked(subject, &trace.label, files.clone())?;
+    let label = ours.label(&trace.label);
+    let row = Row { label: &label, bytes: files[0].len(), limit: Some(trace.limit), copied: &files };
+    bench.row(row, &mut || ours.import(subject), &mut || import_rust(&files));
     Ok(())
 }
 
@@ -398,18 +411,18 @@ fn growth(bench: &mut Bench) -> Checked {
         if !trace.grows() || !bench.wants(&trace.label) {
             continue;
         }
-        if let (Some(small), Some(large)) = (trace.file(128), trace.file(1024)) {
+        if let (Some(small), Some(large)) = (trace.files(128), trace.files(1024)) {
             growth_row(bench, &trace.label, small, large)?;
         }
     }
     Ok(())
 }
 
-fn growth_row(bench: &mut Bench, label: &str, small: Vec<u8>, large: Vec<u8>) -> Checked {
+fn growth_row(bench: &mut Bench, label: &str, small: Vec<Vec<u8>>, large: Vec<Vec<u8>>) -> Checked {
     let subject = bench.subject;
-    let mut less = Lent::checked(subject, label, small.clone())?;
-    let mut more = Lent::checked(subject, label, large.clone())?;
-    let bytes = large.len() as f64 / small.len() as f64;
+    let mut less = Files::checked(subject, label, small.clone())?;
+    let mut more = Files::checked(subject, label, large.clone())?;
+    let bytes = more.bytes() / less.bytes();
     let times = times::turns(&mut [
         &mut || less.import(subject),
         &mut || more.import(subject),
@@ -419,8 +432,9 @@ fn growth_row(bench: &mut Bench, label: &str, small: Vec<u8>, large: Vec<u8>) ->
     let ours = times::ratio(&times[1], &times[0]) / bytes;
     let least = times::least(&times[1]) / times::least(&times[0]) / bytes;
     let rust = times::ratio(&times[3], &times[2]) / bytes;
-    println!("{label:64} {bytes:>7.2} {ours:>7.2} {least:>7.2} {rust:>7.2}");
-    bench.judge(label, large.len(), ours, Some(GROWTH));
+    let grown = large[0].len() as f64 / small[0].len() as f64;
+    println!("{label:64} {grown:>7.2} {ours:>7.2} {least:>7.2} {rust:>7.2}");
+    bench.judge(label, large[0].len(), ours, Some(GROWTH));
     Ok(())
 }
 
@@ -435,6 +449,7 @@ pub fn run(group: &str, subject: &dyn Subject, options: &Options) -> Option<Chec
         "growth" => growth,
         _ => return None,
     };
+    times::keep_memory();
     let mut bench = Bench { subject, options, judged: 0, over: Vec::new() };
     Some(table(&mut bench).map(|()| bench.verdict()))
 }

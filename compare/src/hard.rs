@@ -9,7 +9,7 @@ use crate::trace::{self, Trace};
 use oracle::capture::Direction::{self, Rx, Tx};
 use oracle::capture::BTSNOOP_EPOCH_DELTA_US as EPOCH;
 
-type Maker = Box<dyn Fn(usize) -> Option<Vec<u8>>>;
+type Maker = Box<dyn Fn(usize, u64) -> Option<Vec<u8>>>;
 
 /// A trace that is timed.
 pub struct Hard {
@@ -20,13 +20,22 @@ pub struct Hard {
     sizes: &'static [usize],
     /// Whether it is one file, of one size.
     single: bool,
+    /// Whether it is made at random, and another seed gives another file.
+    random: bool,
     make: Maker,
 }
 
 impl Hard {
     /// The file, of at most so many KiB; `None` if the trace does not fit.
     pub fn file(&self, kib: usize) -> Option<Vec<u8>> {
-        (self.make)(kib << 10)
+        (self.make)(kib << 10, 7)
+    }
+
+    /// Files of at most so many KiB. Of a trace made at random there are 1 MiB of them: a short one that is imported again
+    /// and again would be known by heart to the processor, which learns where branches go.
+    pub fn files(&self, kib: usize) -> Option<Vec<Vec<u8>>> {
+        let count = if self.random { 1024 / kib as u64 } else { 1 };
+        (7..7 + count).map(|seed| (self.make)(kib << 10, seed)).collect()
     }
 
     /// The sizes to time: those asked for, if any are.
@@ -53,23 +62,28 @@ const EASY: f64 = 0.25;
 /// For everything else: no trace is to be slower than the Rust.
 const ANY: f64 = 1.0;
 
-fn hard(label: &str, limit: f64, make: impl Fn(usize) -> Option<Vec<u8>> + 'static) -> Hard {
-    Hard { label: label.into(), limit, sizes: &[16, 128, 1024], single: false, make: Box::new(make) }
+/// A trace that is the same each time.
+fn fitting(label: &str, limit: f64, make: fn(usize) -> Vec<u8>) -> Hard {
+    let make = Box::new(move |most, _| Some(make(most)));
+    Hard { label: label.into(), limit, sizes: &[16, 128, 1024], single: false, random: false, make }
 }
 
-/// A trace that fits every size.
-fn fitting(label: &str, limit: f64, make: fn(usize) -> Vec<u8>) -> Hard {
-    hard(label, limit, move |most| Some(make(most)))
+/// A trace made at random, by a seed.
+fn random(label: &str, limit: f64, make: impl Fn(usize, Rng) -> Option<Vec<u8>> + 'static) -> Hard {
+    let make = Box::new(move |most, seed| make(most, Rng::new(seed)));
+    Hard { label: label.into(), limit, sizes: &[16, 128, 1024], single: false, random: true, make }
 }
 
 /// One file.
 fn single(label: &str, sizes: &'static [usize], make: fn() -> Vec<u8>) -> Hard {
-    Hard { sizes, single: true, ..hard(label, ANY, move |_| Some(make())) }
+    let make = Box::new(move |_, _| Some(make()));
+    Hard { label: label.into(), limit: ANY, sizes, single: true, random: false, make }
 }
 
 /// All traces, in the order of the table.
 pub fn traces() -> Vec<Hard> {
-    let typical = Hard { sizes: &[128, 256, 512, 1024], ..fitting("typical", TYPICAL, typical) };
+    let typical = random("typical", TYPICAL, |most, rng| Some(typical(most, rng)));
+    let typical = Hard { sizes: &[128, 256, 512, 1024], ..typical };
     let mut all = vec![typical];
     all.extend(honest());
     all.extend(dear());
@@ -81,20 +95,20 @@ pub fn traces() -> Vec<Hard> {
 /// Links that behave, with frames that cross pieces.
 fn honest() -> Vec<Hard> {
     let mut all = Vec::new();
+    let mut add = |label: String, links: usize, piece: (usize, usize), payload: (usize, usize)| {
+        let limit = if payload.0 < 900 { CROSSING } else { LONG };
+        all.push(random(&label, limit, move |most, rng| crossing(most, rng, links, piece, payload)));
+    };
     for (piece, payload) in [(120, 60), (300, 100), (600, 500), (990, 900), (4000, 3900), (32_767, 30_000)] {
-        let limit = if payload < 900 { CROSSING } else { LONG };
-        let label = format!("pieces of {piece}, payloads of {payload}, 2 links");
-        all.push(hard(&label, limit, move |most| crossing(most, 2, (piece, piece), (payload, payload))));
+        add(format!("pieces of {piece}, payloads of {payload}, 2 links"), 2, (piece, piece), (payload, payload));
     }
-    all.push(hard("pieces of 20 to 70 cut anywhere, payloads of 0 to 120", CROSSING, |most| {
-        crossing(most, 2, (20, 70), (0, 120))
-    }));
-    all.push(hard("pieces of 40, payloads of 10, 2 links", CROSSING, |most| crossing(most, 2, (40, 40), (10, 10))));
+    add("pieces of 20 to 70 cut anywhere, payloads of 0 to 120".into(), 2, (20, 70), (0, 120));
+    add("pieces of 40, payloads of 10, 2 links".into(), 2, (40, 40), (10, 10));
     for links in [1, 2, 8, 64, 500] {
-        let label = format!("pieces of 40, payloads of 60, {links} link{}", if links == 1 { "" } else { "s" });
-        all.push(hard(&label, CROSSING, move |most| crossing(most, links, (40, 40), (60, 60))));
+        let plural = if links == 1 { "" } else { "s" };
+        add(format!("pieces of 40, payloads of 60, {links} link{plural}"), links, (40, 40), (60, 60));
     }
-    all.push(hard("pieces of 3, payloads of 0 to 4,000", CROSSING, |most| crossing(most, 2, (3, 3), (0, 4000))));
+    add("pieces of 3, payloads of 0 to 4,000".into(), 2, (3, 3), (0, 4000));
     all
 }
 
@@ -180,8 +194,7 @@ fn set_up(filler: &mut Filler, handle: u16) {
 
 /// An ordinary trace: two links, commands and events between, most frames in a packet
 /// of their own, some in two fragments.
-fn typical(most: usize) -> Vec<u8> {
-    let mut rng = Rng::new(7);
+fn typical(most: usize, mut rng: Rng) -> Vec<u8> {
     let mut filler = Filler::new(1002, most);
     for handle in [0x40, 0x41] {
         set_up(&mut filler, handle);
@@ -216,8 +229,13 @@ fn typical(most: usize) -> Vec<u8> {
 
 /// A stream of frames for each link and direction, cut into pieces without regard to them.
 /// `None` if the links and a piece of each do not fit.
-fn crossing(most: usize, links: usize, piece: (usize, usize), payload: (usize, usize)) -> Option<Vec<u8>> {
-    let mut rng = Rng::new(7);
+fn crossing(
+    most: usize,
+    mut rng: Rng,
+    links: usize,
+    piece: (usize, usize),
+    payload: (usize, usize),
+) -> Option<Vec<u8>> {
     let mut filler = Filler::new(1002, most);
     (0..links).for_each(|link| set_up(&mut filler, 0x40 + link as u16));
     if !filler.fits(links * (piece.1 + 40)) {

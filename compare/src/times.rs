@@ -26,6 +26,24 @@ fn now() -> f64 {
     time.seconds as f64 * 1e9 + time.nanoseconds as f64
 }
 
+#[cfg(target_env = "gnu")]
+extern "C" {
+    fn mallopt(parameter: i32, value: i32) -> i32;
+}
+
+/// Has the allocator keep what is freed. Else it gives large parts back and asks for them again, or not, by what was
+/// allocated earlier in the process, and the oracle's times differ by up to two thirds.
+pub fn keep_memory() {
+    #[cfg(target_env = "gnu")]
+    {
+        const TRIM_THRESHOLD: i32 = -1;
+        const MMAP_THRESHOLD: i32 = -3;
+        // Safety: both are numbers that the allocator knows, and it checks the values.
+        let set = unsafe { [mallopt(TRIM_THRESHOLD, 1 << 30), mallopt(MMAP_THRESHOLD, 1 << 25)] };
+        assert_eq!(set, [1, 1], "the allocator does not take its limits");
+    }
+}
+
 /// Nanoseconds of one of `calls` calls.
 pub fn time(calls: u64, call: &mut dyn FnMut()) -> f64 {
     let start = now();
