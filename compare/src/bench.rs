@@ -71,7 +71,7 @@ impl Bench<'_> {
         let times = times::turns(&mut sides);
         let (a, b) = (&times[0], &times[1]);
         let (ratio, least) = (times::ratio(a, b), times::least(a) / times::least(b));
-        let copies = times.get(2).map_or(String::new(), |c| format!(" {:>7.1}", times::ratio(a, c)));
+        let copies = times.get(2).map_or(String::new(), |c| format!(" {:>7.1}", times::least(a) / times::least(c)));
         let shown = |times: &[f64]| times::shown(times::median(times.to_vec()) / row.copied.len().max(1) as f64);
         let (ours, rust) = (shown(a), shown(b));
         println!("{:64} {:>10} {ours:>10} {rust:>10} {ratio:>7.3} {least:>7.3}{copies}", row.label, row.bytes);
