@@ -165,15 +165,15 @@ fn sides_beside(used: &[Channel]) -> Vec<u64> {
     sides.filter(|side| used.iter().all(|u| u.side != *side)).collect()
 }
 
-/// An empty PDU on each of some sides. One that is linked from the last packet on goes by the
-/// end of the file, and one that goes through the packets by its start.
+/// An empty PDU on each of some sides.
 fn empty_pdus<'a>(filler: &mut Filler, sides: impl Iterator<Item = &'a u64>) {
     for &side in sides {
         filler.trace.pdu(direction_of(side), EPOCH, handle_of(side), 0x3F, &[]);
     }
 }
 
-/// What `fill` sends, between two paths to the sides that are used.
+/// What `fill` sends, between two paths to the sides that are used: packets may be read from
+/// the first one on or from the last.
 fn between_paths(filler: &mut Filler, used: &[Channel], fill: &mut dyn FnMut(&mut Filler)) {
     let sides = sides_beside(used);
     empty_pdus(filler, sides.iter());

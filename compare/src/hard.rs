@@ -31,8 +31,9 @@ impl Hard {
         (self.make)(kib << 10, 7)
     }
 
-    /// Files of at most so many KiB. Of a trace made at random there are 1 MiB of them: a short one that is imported again
-    /// and again would be known by heart to the processor, which learns where branches go.
+    /// Files of at most so many KiB. Of a trace made at random there are 1 MiB of them: a short
+    /// one that is imported again and again would be known by heart to the processor, which
+    /// learns where branches go.
     pub fn files(&self, kib: usize) -> Option<Vec<Vec<u8>>> {
         let count = if self.random { 1024 / kib as u64 } else { 1 };
         (7..7 + count).map(|seed| (self.make)(kib << 10, seed)).collect()
