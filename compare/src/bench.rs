@@ -1,81 +1,104 @@
 //! Times of the subject and of the oracle, from one driver and in one run: their
-//! repetitions take turns, and the ratio is the median of the turns' ratios. On a busy
-//! machine the ratio of the least times, `least`, says more.
+//! repetitions take turns, and the ratio is the median of the turns' ratios. `least` is the
+//! ratio of the least times.
 //!
-//! Buffers are allocated once and never cleared between calls. The oracle allocates
-//! what it answers, and that is part of its time.
+//! Before a row is timed, the answer is held against the oracle's. Buffers are allocated
+//! once and never cleared between calls. The oracle allocates what it answers, and that is
+//! part of its time, but the allocator has the memory already.
 
 use std::hint::black_box;
 use std::path::Path;
-use std::time::Instant;
 
-use crate::answer::{Subject, NO_CHANNEL};
+use crate::answer::{Answer, Case, Checked, Difference, Lender, Subject, NO_CHANNEL};
 use crate::expected;
+use crate::hard::{self, Hard};
 use crate::import::ack;
 use crate::items::{self, Span};
-use crate::model::packed;
+use crate::model::{self, packed};
 use crate::rng::Rng;
-use crate::trace::{self, Trace};
-use oracle::capture::Direction::{self, Rx, Tx};
-use oracle::capture::{self, Imported, BTSNOOP_EPOCH_DELTA_US as EPOCH};
+use crate::times;
+use crate::Options;
+use oracle::capture::Direction::Rx;
+use oracle::capture::{self, Imported};
 use oracle::mdr::frame;
 use oracle::mdr::DataType;
 
-/// Nanoseconds of one of `calls` calls.
-fn time(calls: u64, call: &mut dyn FnMut()) -> f64 {
-    let start = Instant::now();
-    for _ in 0..calls {
-        call();
+/// No row of these groups is to be slower than the oracle.
+const ANY: Option<f64> = Some(1.0);
+/// What our growth is to be at most, divided by that of the bytes.
+const GROWTH: f64 = 1.1;
+
+/// The rows of a run, and those that are over their limit.
+struct Bench<'a> {
+    subject: &'a dyn Subject,
+    options: &'a Options,
+    judged: usize,
+    over: Vec<String>,
+}
+
+/// What a row is about.
+struct Row<'a> {
+    label: &'a str,
+    bytes: usize,
+    limit: Option<f64>,
+    /// What a copy of is timed as well; a call is one for each of these, if there are any.
+    copied: &'a [Vec<u8>],
+}
+
+impl Bench<'_> {
+    fn wants(&self, label: &str) -> bool {
+        self.options.only.as_ref().map_or(true, |text| label.contains(text.as_str()))
     }
-    start.elapsed().as_nanos() as f64 / calls as f64
-}
 
-fn median(mut numbers: Vec<f64>) -> f64 {
-    numbers.sort_by(f64::total_cmp);
-    numbers[numbers.len() / 2]
-}
-
-fn shown(ns: f64) -> String {
-    match ns {
-        ns if ns < 1e4 => format!("{ns:.0} ns"),
-        ns if ns < 1e7 => format!("{:.1} us", ns / 1e3),
-        ns => format!("{:.1} ms", ns / 1e6),
+    fn head(&self, what: &str, copies: bool) {
+        print!("{what:64} {:>10} {:>10} {:>10} {:>7} {:>7}", "bytes", "ours", "Rust", "ratio", "least");
+        println!("{}", if copies { "  copies" } else { "" });
     }
-}
 
-fn head(what: &str) {
-    println!("{what:56} {:>10} {:>10} {:>10} {:>7} {:>7}", "bytes", "ours", "Rust", "ratio", "least");
-}
-
-/// How often to call for a turn of half a millisecond, so that both sides' turns are
-/// interrupted alike; at least once.
-fn calls(call: &mut dyn FnMut()) -> u64 {
-    let once = time(1, call).min(time(1, call)).max(10.0);
-    (5e5 / once).ceil() as u64
-}
-
-/// One row: both calls timed in turns.
-fn row(label: &str, bytes: usize, ours: &mut dyn FnMut(), rust: &mut dyn FnMut()) {
-    let (our_calls, rust_calls) = (calls(ours), calls(rust));
-    let (mut a, mut b, mut ratios) = (Vec::new(), Vec::new(), Vec::new());
-    let start = Instant::now();
-    while a.len() < 3 || a.len() < 201 && start.elapsed().as_millis() < 1000 {
-        let (x, y);
-        if a.len() % 2 == 0 {
-            x = time(our_calls, ours);
-            y = time(rust_calls, rust);
-        } else {
-            y = time(rust_calls, rust);
-            x = time(our_calls, ours);
+    /// One row: both calls timed in turns, and copies of the inputs.
+    fn row(&mut self, row: Row, ours: &mut dyn FnMut(), rust: &mut dyn FnMut()) {
+        let mut to = vec![0; row.copied.iter().map(Vec::len).max().unwrap_or(0)];
+        let mut copy = || {
+            for bytes in row.copied {
+                to[..bytes.len()].copy_from_slice(black_box(bytes));
+                black_box(&mut to);
+            }
+        };
+        let mut sides: Vec<&mut dyn FnMut()> = vec![ours, rust];
+        if !row.copied.is_empty() {
+            sides.push(&mut copy);
         }
-        a.push(x);
-        b.push(y);
-        ratios.push(x / y);
+        let times = times::turns(&mut sides);
+        let (a, b) = (&times[0], &times[1]);
+        let (ratio, least) = (times::ratio(a, b), times::least(a) / times::least(b));
+        let copies = times.get(2).map_or(String::new(), |c| format!(" {:>7.1}", times::least(a) / times::least(c)));
+        let shown = |times: &[f64]| times::shown(times::median(times.to_vec()) / row.copied.len().max(1) as f64);
+        let (ours, rust) = (shown(a), shown(b));
+        println!("{:64} {:>10} {ours:>10} {rust:>10} {ratio:>7.3} {least:>7.3}{copies}", row.label, row.bytes);
+        self.judge(row.label, row.bytes, ratio, row.limit);
     }
-    let least = |times: &[f64]| times.iter().copied().fold(f64::MAX, f64::min);
-    let least = least(&a) / least(&b);
-    let (ours, rust) = (shown(median(a)), shown(median(b)));
-    println!("{label:56} {bytes:>10} {ours:>10} {rust:>10} {:>7.2} {least:>7.2}", median(ratios));
+
+    fn judge(&mut self, label: &str, bytes: usize, ratio: f64, limit: Option<f64>) {
+        let Some(limit) = limit else { return };
+        self.judged += 1;
+        if ratio > limit {
+            self.over.push(format!("{label}, {bytes} bytes: {ratio:.2}, at most {limit}"));
+        }
+    }
+
+    /// The rows that are over their limit. That is no error: a busy machine has some.
+    fn verdict(&self) {
+        if self.options.judge {
+            println!("{} of {} rows over their limit", self.over.len(), self.judged);
+            self.over.iter().for_each(|row| println!("  {row}"));
+        }
+    }
+}
+
+/// One call held against the oracle's answer.
+fn check(label: &str, expected: &Answer, call: &mut dyn FnMut(&mut [u8], &mut [u64]) -> u32) -> Checked {
+    let case = || Case { call: format!("bench, {label}"), inputs: Vec::new() };
+    Lender::default().call(expected, expected.written.len(), expected.values.len(), call, &case)
 }
 
 /// A payload whose packed frame has `wire` bytes, and the words for it.
@@ -91,61 +114,86 @@ fn payloads(rng: &mut Rng, wire: usize) -> Vec<(&'static str, Vec<u8>)> {
     vec![("no escapes", plain), ("random bytes", random), ("all escaped", vec![0x3E; (wire - 9) / 2])]
 }
 
-fn codec(subject: &dyn Subject) {
+fn codec(bench: &mut Bench) -> Checked {
     let mut rng = Rng::new(1);
-    let mut out = vec![0; 70_000];
-    let mut values = [0; 4];
-    head("codec");
+    bench.head("codec", false);
     for wire in [9, 300, 30_000] {
         for (label, payload) in payloads(&mut rng, wire) {
-            let packed = packed(0x0C, 0, &payload);
-            let bytes = packed.len();
-            row(
-                &format!("unpack, {label}"),
-                bytes,
-                &mut || {
-                    black_box(subject.unpack(black_box(&packed), black_box(&mut out), &mut values));
-                },
-                &mut || {
-                    black_box(frame::unpack(black_box(&packed)).is_ok());
-                },
-            );
-            row(
-                &format!("pack, {label}"),
-                bytes,
-                &mut || {
-                    black_box(subject.pack(0x0C, 0, black_box(&payload), black_box(&mut out), &mut values));
-                },
-                &mut || {
-                    black_box(frame::pack(DataType::DataMdr, 0, black_box(&payload)));
-                },
-            );
+            let limit = if (wire, label) == (300, "all escaped") { Some(0.5) } else { ANY };
+            codec_rows(bench, label, limit, &payload)?;
         }
     }
+    Ok(())
 }
 
-fn names(subject: &dyn Subject) {
-    let mut out = [0; 128];
+fn codec_rows(bench: &mut Bench, what: &str, limit: Option<f64>, payload: &[u8]) -> Checked {
+    let subject = bench.subject;
+    let packed = packed(0x0C, 0, payload);
+    let bytes = packed.len();
+    let mut out = vec![0; 70_000];
     let mut values = [0; 4];
-    head("names");
-    for (label, wire) in
-        [("an ACK", ack(0)), ("a long name", packed(0x0E, 0, &[0x5B])), ("300 bytes", packed(0x0C, 0, &[0xFF; 291]))]
-    {
-        row(
-            &format!("fixture_name, {label}"),
-            wire.len(),
+    let label = &format!("unpack, {what}");
+    if bench.wants(label) {
+        check(label, &expected::unpack(&packed), &mut |out, values| subject.unpack(&packed, out, values))?;
+        bench.row(
+            Row { label, bytes, limit, copied: &[] },
             &mut || {
-                black_box(subject.fixture_name(1_700_000_000_000, 7, 1, black_box(&wire), &mut out, &mut values));
+                black_box(subject.unpack(black_box(&packed), black_box(&mut out), &mut values));
             },
             &mut || {
-                black_box(capture::fixture_name(1_700_000_000_000, 7, Rx, black_box(&wire)));
+                black_box(frame::unpack(black_box(&packed)).is_ok());
+            },
+        );
+    }
+    let label = &format!("pack, {what}");
+    if bench.wants(label) {
+        check(label, &expected::pack(0x0C, 0, payload), &mut |o, v| subject.pack(0x0C, 0, payload, o, v))?;
+        bench.row(
+            Row { label, bytes, limit, copied: &[] },
+            &mut || {
+                black_box(subject.pack(0x0C, 0, black_box(payload), black_box(&mut out), &mut values));
+            },
+            &mut || {
+                black_box(frame::pack(DataType::DataMdr, 0, black_box(payload)));
+            },
+        );
+    }
+    Ok(())
+}
+
+fn names(bench: &mut Bench) -> Checked {
+    let subject = bench.subject;
+    let mut out = [0; 128];
+    let mut values = [0; 4];
+    bench.head("names", false);
+    for (what, wire) in
+        [("an ACK", ack(0)), ("a long name", packed(0x0E, 0, &[0x5B])), ("300 bytes", packed(0x0C, 0, &[0xFF; 291]))]
+    {
+        let label = &format!("fixture_name, {what}");
+        if !bench.wants(label) {
+            continue;
+        }
+        let ms = 1_700_000_000_000;
+        check(label, &expected::fixture_name(ms, 7, Rx, &wire), &mut |out, values| {
+            subject.fixture_name(ms, 7, 1, &wire, out, values)
+        })?;
+        bench.row(
+            Row { label, bytes: wire.len(), limit: None, copied: &[] },
+            &mut || {
+                black_box(subject.fixture_name(ms, 7, 1, black_box(&wire), &mut out, &mut values));
+            },
+            &mut || {
+                black_box(capture::fixture_name(ms, 7, Rx, black_box(&wire)));
             },
         );
     }
     for name in ["CONNECT_GET_PROTOCOL_INFO", "SYSTEM_NTFY_EXTENDED_PARAM", "SYSTEM_NTFY_EXTENDED_PARAX"] {
-        row(
-            &format!("is_command_name, {name}"),
-            name.len(),
+        let label = &format!("is_command_name, {name}");
+        if !bench.wants(label) {
+            continue;
+        }
+        bench.row(
+            Row { label, bytes: name.len(), limit: None, copied: &[] },
             &mut || {
                 black_box(subject.is_command_name(black_box(name.as_bytes())));
             },
@@ -154,303 +202,286 @@ fn names(subject: &dyn Subject) {
             },
         );
     }
+    Ok(())
 }
 
-fn plan(subject: &dyn Subject) {
+fn plan(bench: &mut Bench) -> Checked {
     let mut rng = Rng::new(1);
-    let span = |rng: &mut Rng| -> Span {
+    let mut span = || -> Span {
         let payload = rng.bytes(20);
         (1_700_000_000_000 + rng.below(1 << 20) as u64, Rx, packed(rng.pick(&[0x0C, 0x0E, 0x01]), 0, &payload))
     };
-    head("plan");
+    bench.head("plan", false);
     for count in [100, 12_000, 120_000] {
-        let frames: Vec<Span> = (0..count).map(|_| span(&mut rng)).collect();
-        let list = items::span_list(&frames);
-        let imported = Imported { dlci: 0, frames, unfinished: 0 };
+        let frames: Vec<Span> = (0..count).map(|_| span()).collect();
         for excluded in [vec![], vec!["UNKNOWN".to_string(), "POWER_RET_STATUS".to_string()]] {
-            let names = items::name_list(&excluded);
-            let needed = expected::plan(&list, &names).map_or(0, |a| a.written.len());
-            let mut out = vec![0; needed];
-            let mut values = [0; 2];
-            row(
-                &format!("plan of {count} spans, {} excluded", excluded.len()),
-                list.len(),
-                &mut || {
-                    black_box(subject.plan(black_box(&list), &names, &mut out, &mut values));
-                },
-                &mut || {
-                    let names = capture::write_fixtures(black_box(&imported), Path::new("."), &excluded);
-                    black_box((names.is_ok(), oracle::sony::take_written()));
-                },
-            );
+            let label = format!("plan of {count} spans, {} excluded", excluded.len());
+            plan_row(bench, &label, frames.clone(), &excluded)?;
         }
     }
+    plan_row(bench, "plan of 60000 spans 3E 3C", vec![(0, Rx, vec![0x3E, 0x3C]); 60_000], &[])?;
+    for (what, payload) in payloads(&mut Rng::new(1), 60_000) {
+        let label = format!("plan of 200 spans of 60000 bytes, {what}, a late bad escape");
+        plan_row(bench, &label, vec![(0, Rx, bad_escape(&payload)); 200], &[])?;
+    }
+    Ok(())
+}
+
+/// A frame that does not unpack because of what comes near its end.
+fn bad_escape(payload: &[u8]) -> Vec<u8> {
+    let mut wire = packed(0x0C, 0, payload);
+    let end = wire.len() - 8;
+    wire[end..end + 2].copy_from_slice(&[0x3D, 0x00]);
+    wire
+}
+
+fn plan_row(bench: &mut Bench, label: &str, frames: Vec<Span>, excluded: &[String]) -> Checked {
+    if !bench.wants(label) {
+        return Ok(());
+    }
+    let subject = bench.subject;
+    let (list, names) = (items::span_list(&frames), items::name_list(excluded));
+    let imported = Imported { dlci: 0, frames, unfinished: 0 };
+    let expected = expected::plan(&list, &names).expect("the excluded names are UTF-8");
+    check(label, &expected, &mut |out, values| subject.plan(&list, &names, out, values))?;
+    let mut out = vec![0; expected.written.len()];
+    let mut values = [0; 2];
+    bench.row(
+        Row { label, bytes: list.len(), limit: ANY, copied: &[] },
+        &mut || {
+            black_box(subject.plan(black_box(&list), &names, &mut out, &mut values));
+        },
+        &mut || {
+            let names = capture::write_fixtures(black_box(&imported), Path::new("."), excluded);
+            black_box((names.is_ok(), oracle::sony::take_written()));
+        },
+    );
+    Ok(())
+}
+
+fn shuffled(mut names: Vec<String>) -> Vec<String> {
+    let mut rng = Rng::new(1);
+    for i in (1..names.len()).rev() {
+        names.swap(i, rng.below(i + 1));
+    }
+    names
+}
+
+fn order(bench: &mut Bench) -> Checked {
+    bench.head("order", false);
+    for count in [1000, 20_000, 200_000] {
+        let name = |i: usize, ms: usize| format!("mdr-packet-{ms}-{i:06}-rx.type-ACK-01.seq-00.cmd-NO_COMMAND-00.bin");
+        let sorted: Vec<String> = (1..=count).map(|i| name(i, 1_700_000_000 + i)).collect();
+        let mixed = shuffled(sorted.clone());
+        let reversed: Vec<String> = sorted.iter().rev().cloned().collect();
+        let same: Vec<String> = vec![name(1, 1); count];
+        let bare: Vec<String> = mixed.iter().map(|n| n[4..].to_string()).collect();
+        order_row(bench, &format!("order of {count} names, sorted"), sorted)?;
+        order_row(bench, &format!("order of {count} names, shuffled"), mixed)?;
+        order_row(bench, &format!("order of {count} names, reversed"), reversed)?;
+        order_row(bench, &format!("order of {count} names, all the same"), same)?;
+        order_row(bench, &format!("order of {count} names, without counters"), bare)?;
+    }
+    long_names(bench)
+}
+
+/// Names whose counter comes late, or whose counter is looked for in vain. The latter differ
+/// at the end only.
+fn long_names(bench: &mut Bench) -> Checked {
+    let count = 20_000;
+    let late = |i: usize, bytes: usize| format!("mdr-packet-{}-{i:06}-rx.bin", "7".repeat(bytes));
+    let none = |i: usize, bytes: usize| format!("mdr-packet-{}{i:06}", "7".repeat(bytes - 6));
+    // Before and behind these bytes a name with a counter has 11 and 14 others.
+    for (what, with, without) in [("700 bytes before the counter", 700, 700), ("255 bytes", 255 - 25, 255 - 11)] {
+        let names = shuffled((1..=count).map(|i| late(i, with)).collect());
+        order_row(bench, &format!("order of {count} names, {what}"), names)?;
+        let names = shuffled((1..=count).map(|i| none(i, without)).collect());
+        order_row(bench, &format!("order of {count} names, {what}, without a hyphen"), names)?;
+    }
+    Ok(())
 }
 
 /// The Rust gets its names as strings, already split; copying them is not timed
 /// apart, and the copy is made for both.
-fn order(subject: &dyn Subject) {
-    let mut rng = Rng::new(1);
-    head("order");
-    for count in [1000, 20_000, 200_000] {
-        let name = |i: usize, ms: usize| format!("mdr-packet-{ms}-{i:06}-rx.type-ACK-01.seq-00.cmd-NO_COMMAND-00.bin");
-        let sorted: Vec<String> = (1..=count).map(|i| name(i, 1_700_000_000 + i)).collect();
-        let mut shuffled = sorted.clone();
-        for i in (1..count).rev() {
-            shuffled.swap(i, rng.below(i + 1));
-        }
-        let reversed: Vec<String> = sorted.iter().rev().cloned().collect();
-        let same: Vec<String> = vec![name(1, 1); count];
-        let bare: Vec<String> = shuffled.iter().map(|n| n[4..].to_string()).collect();
-        for (label, names) in [
-            ("sorted", sorted),
-            ("shuffled", shuffled),
-            ("reversed", reversed),
-            ("all the same", same),
-            ("without counters", bare),
-        ] {
-            let list = items::name_list(&names);
-            let mut out = vec![0; list.len()];
-            let mut values = [0];
-            row(
-                &format!("order of {count} names, {label}"),
-                list.len(),
-                &mut || {
-                    black_box(names.clone());
-                    black_box(subject.capture_order(black_box(&list), &mut out, &mut values));
-                },
-                &mut || {
-                    let mut names = names.clone();
-                    capture::capture_order(black_box(&mut names));
-                    black_box(names);
-                },
-            );
-        }
+fn order_row(bench: &mut Bench, label: &str, names: Vec<String>) -> Checked {
+    if !bench.wants(label) {
+        return Ok(());
     }
-}
-
-/// Records until the file would pass `most` bytes; `last` is kept room for.
-struct Filler {
-    trace: Trace,
-    most: usize,
-}
-
-impl Filler {
-    fn new(datalink: u32, most: usize) -> Filler {
-        // Room for the frame at the end that makes the import answer.
-        Filler { trace: Trace::new(datalink), most: most - 64 }
-    }
-
-    fn fits(&self, packet: usize) -> bool {
-        self.trace.file.len() + 24 + packet <= self.most
-    }
-
-    /// False once the PDU would not fit.
-    fn pdu(&mut self, direction: Direction, handle: u16, cid: u16, payload: &[u8]) -> bool {
-        let fits = self.fits(8 + payload.len());
-        if fits {
-            self.trace.pdu(direction, EPOCH + self.trace.file.len() as u64, handle, cid, payload);
-        }
-        fits
-    }
-
-    /// The file, ended by a frame that unpacks on `dlci`.
-    fn ended(mut self, dlci: u8) -> Vec<u8> {
-        self.trace.pdu(Tx, EPOCH, 0x0EEE, 0xEEEE, &trace::uih(dlci, &ack(0), None, false));
-        self.trace.file
-    }
-}
-
-/// An ordinary trace: two links, commands and events between, most frames in a packet
-/// of their own, some in two fragments.
-fn typical(most: usize) -> Vec<u8> {
-    let mut rng = Rng::new(7);
-    let mut filler = Filler::new(1002, most);
-    for handle in [0x40, 0x41] {
-        filler.pdu(Tx, handle, 1, &trace::request(3, 0x41));
-        filler.pdu(Rx, handle, 1, &trace::response(0x42, 0x41, 0));
-        filler.pdu(Tx, handle, 0x42, &trace::sabm(0));
-        filler.pdu(Tx, handle, 0x42, &trace::sabm(18));
-    }
-    loop {
-        let handle = rng.pick(&[0x40, 0x41]);
-        let (direction, cid) = rng.pick(&[(Rx, 0x41), (Tx, 0x42)]);
-        let wire = if rng.percent(45) {
-            ack(rng.pick(&[0, 1]))
-        } else {
-            let n = rng.within(2, 104);
-            packed(0x0C, rng.pick(&[0, 1]), &rng.bytes(n))
-        };
-        let payload = trace::uih(18, &wire, if rng.percent(10) { Some(5) } else { None }, false);
-        if !filler.fits(200) {
-            return filler.ended(18);
-        }
-        let pdu = trace::l2cap(cid, &payload);
-        let stamp = EPOCH + 1_700_000_000_000_000 + filler.trace.file.len() as u64 * 50;
-        if rng.percent(5) {
-            let cut = rng.within(1, pdu.len() - 1);
-            filler.trace.fragment(direction, stamp, handle, 2, &pdu[..cut]);
-            filler.trace.fragment(direction, stamp, handle, 1, &pdu[cut..]);
-        } else {
-            filler.trace.fragment(direction, stamp, handle, 2, &pdu);
-        }
-        if rng.percent(16) {
-            filler.trace.record(3, stamp, &[0x04, 0x13, 0x05, 0x01, 0x40, 0x00, 0x01, 0x00]);
-        }
-    }
-}
-
-/// `count` commands in PDUs of at most 65,528 bytes.
-fn commands(filler: &mut Filler, direction: Direction, count: usize, command: &dyn Fn(u16) -> Vec<u8>) {
-    let numbers: Vec<u16> = (0..count).map(|i| (i % 0xEE00) as u16 + 0x40).collect();
-    for some in numbers.chunks(8191) {
-        let payload: Vec<u8> = some.iter().flat_map(|&n| command(n)).collect();
-        filler.pdu(direction, 0x40, 1, &payload);
-    }
-}
-
-/// Traces that are dear to one reading or the other.
-fn adversarial(most: usize) -> Vec<(&'static str, Vec<u8>)> {
-    let byte = |dlci, byte| trace::uih(dlci, &[byte], None, false);
-    let mut traces = Vec::new();
-
-    let mut filler = Filler::new(1001, most);
-    commands(&mut filler, Tx, most / 16 - 65, &|source| trace::request(3, source));
-    while filler.pdu(Rx, 0x40, 0xFFFF, &byte(18, 0)) {}
-    traces.push(("requests, then PDUs", filler.ended(18)));
-
-    let mut filler = Filler::new(1001, most);
-    commands(&mut filler, Tx, most / 16 - most / 1024, &|source| trace::request(3, source));
-    commands(&mut filler, Rx, most / 16 - most / 1024, &|n| trace::command(3, 1, &[n as u8, (n >> 8) as u8, 0, 0]));
-    traces.push(("requests, then responses", filler.ended(18)));
-
-    let mut filler = Filler::new(1001, most);
-    let pdu = trace::l2cap(0x41, &trace::uih(18, &ack(1), None, false));
-    let keys = most / 128;
-    for cut in [0..5, 5..9, 9..pdu.len()] {
-        for key in 0..keys {
-            let direction = if key % 2 == 0 { Rx } else { Tx };
-            let flag = if cut.start == 0 { 2 } else { 1 };
-            filler.trace.fragment(direction, EPOCH, (key / 2) as u16, flag, &pdu[cut.clone()]);
-        }
-    }
-    traces.push(("fragments of many handles, far apart", filler.ended(18)));
-
-    let mut filler = Filler::new(1001, most);
-    let mut key = 0u32;
-    while filler.pdu(Rx, (key % 4096) as u16, 0x40 + (key / 4096) as u16, &byte(18, 0x3E)) {
-        key += 1;
-    }
-    traces.push(("a buffer for every piece", filler.ended(18)));
-
-    let mut filler = Filler::new(1001, most);
-    while filler.pdu(Rx, 0x40, 0x41, &[73, 0x2F]) && filler.pdu(Rx, 0x40, 0x41, &byte(18, 0x3E)) {}
-    traces.push(("a SABM before every piece", filler.ended(18)));
-
-    let mut filler = Filler::new(1001, most);
-    let mut pairs = 16_383;
-    while pairs > 0 {
-        if !filler.pdu(Rx, 0x40, 0x41, &trace::uih(18, &[0x3E, 0x3C].repeat(pairs), None, true)) {
-            pairs /= 2;
-        }
-    }
-    traces.push(("spans of two bytes", filler.ended(18)));
-
-    let mut filler = Filler::new(1001, most);
-    for n in [32_767, 32_767, 2].map(|n| n.min(most / 20)) {
-        filler.pdu(Rx, 0x40, 0x41, &trace::uih(18, &vec![0x3E; n], None, true));
-    }
-    while filler.pdu(Rx, 0x40, 0x41, &byte(18, 0x3C)) && filler.pdu(Rx, 0x40, 0x41, &byte(18, 0x3E)) {}
-    traces.push(("one-byte pieces that close and open", filler.ended(18)));
-
-    let mut filler = Filler::new(1001, most);
-    let held = (most / 20).min(36_000);
-    for n in [held / 2, held / 2] {
-        filler.pdu(Rx, 0x40, 0x41, &trace::uih(18, &vec![0x3E; n], None, true));
-    }
-    while filler.pdu(Rx, 0x40, 0x41, &byte(18, 0x00)) {}
-    traces.push(("one-byte pieces on a long pending buffer", filler.ended(18)));
-
-    let mut filler = Filler::new(1001, most);
-    let mut step = 0u32;
-    while filler.pdu(Rx, 0x40, 0x41, &byte(1 + (step % 62) as u8, 0x3E)) {
-        step += 1;
-    }
-    traces.push(("62 DLCIs without a frame, one with", filler.ended(63)));
-
-    let mut filler = Filler::new(1001, most);
-    let long = trace::l2cap(0x41, &vec![0; 65_535]);
-    let mut at = 0;
-    while filler.fits(5) {
-        filler.trace.fragment(Rx, EPOCH, 0x40, if at == 0 { 2 } else { 1 }, &long[at..at + 1]);
-        at = (at + 1) % long.len();
-    }
-    traces.push(("one-byte fragments", filler.ended(18)));
-
-    let mut filler = Filler::new(1001, most);
-    while filler.fits(0) {
-        filler.trace.record(2, EPOCH, &[]);
-    }
-    traces.push(("records without a packet", filler.ended(18)));
-    traces
-}
-
-fn import_row(subject: &dyn Subject, label: &str, file: &[u8]) {
-    let expected = expected::import_strict(file, NO_CHANNEL);
-    let mut work = vec![0; 8 * file.len()];
-    let mut out = vec![0; expected.written.len()];
-    let mut values = [0; 5];
-    let label = format!("{label} ({} spans)", expected.values.get(1).copied().unwrap_or(0));
-    row(
-        &label,
-        file.len(),
+    let subject = bench.subject;
+    let list = items::name_list(&names);
+    let expected = expected::capture_order(&list).expect("the names are UTF-8");
+    check(label, &expected, &mut |out, values| subject.capture_order(&list, out, values))?;
+    let mut out = vec![0; list.len()];
+    let mut values = [0];
+    bench.row(
+        Row { label, bytes: list.len(), limit: ANY, copied: &[] },
         &mut || {
-            let number = subject.import_strict(black_box(file), &mut work, &mut out, NO_CHANNEL, &mut values);
-            assert_eq!(number, expected.number);
+            black_box(names.clone());
+            black_box(subject.capture_order(black_box(&list), &mut out, &mut values));
         },
         &mut || {
-            black_box(capture::import(black_box(file), None).is_ok());
+            let mut names = names.clone();
+            capture::capture_order(black_box(&mut names));
+            black_box(names);
         },
     );
+    Ok(())
 }
 
-fn import(subject: &dyn Subject) {
-    head("import");
-    for kib in [128, 256, 512, 1024] {
-        import_row(subject, "typical", &typical(kib << 10));
+/// Files to import one after another, with what is lent for all of them.
+struct Files {
+    files: Vec<Vec<u8>>,
+    answers: Vec<Answer>,
+    work: Vec<u8>,
+    out: Vec<u8>,
+}
+
+impl Files {
+    /// The files, once the subject's answers are the oracle's.
+    fn checked(subject: &dyn Subject, label: &str, files: Vec<Vec<u8>>) -> Result<Files, Box<Difference>> {
+        let mut work = vec![0; 8 * files.iter().map(Vec::len).max().unwrap_or(0)];
+        let mut answers = Vec::new();
+        for file in &files {
+            let expected = expected::import_strict(file, NO_CHANNEL);
+            check(label, &expected, &mut |out, v| subject.import_strict(file, &mut work, out, NO_CHANNEL, v))?;
+            answers.push(expected);
+        }
+        let out = vec![0; answers.iter().map(|a| a.written.len()).max().unwrap_or(0)];
+        Ok(Files { files, answers, work, out })
     }
-    for kib in [128, 256, 512, 1024] {
-        for (label, file) in adversarial(kib << 10) {
-            import_row(subject, label, &file);
+
+    fn bytes(&self) -> f64 {
+        self.files.iter().map(Vec::len).sum::<usize>() as f64
+    }
+
+    /// The label with what the first file comes to.
+    fn label(&self, label: &str) -> String {
+        match self.answers[0].number {
+            0 => format!("{label} ({} spans)", self.answers[0].values[1]),
+            number => format!("{label} (refusal {number})"),
+        }
+    }
+
+    fn import(&mut self, subject: &dyn Subject) {
+        let mut values = [0; 5];
+        for (file, answer) in self.files.iter().zip(&self.answers) {
+            let number = subject.import_strict(black_box(file), &mut self.work, &mut self.out, NO_CHANNEL, &mut values);
+            assert_eq!(number, answer.number);
         }
     }
 }
 
-/// The bench of a group; false if it has none.
-pub fn run(group: &str, subject: &dyn Subject) -> bool {
-    match group {
-        "codec" => codec(subject),
-        "names" => names(subject),
-        "plan" => plan(subject),
-        "order" => order(subject),
-        "import" => import(subject),
-        _ => return false,
+fn import_rust(files: &[Vec<u8>]) {
+    for file in files {
+        black_box(capture::import(black_box(file), None).is_ok());
     }
-    true
+}
+
+fn import(bench: &mut Bench) -> Checked {
+    bench.head("import", true);
+    for trace in hard::traces() {
+        if !bench.wants(&trace.label) {
+            continue;
+        }
+        for kib in trace.sizes(bench.options.kib.as_deref()) {
+            if let Some(files) = trace.files(kib) {
+                import_row(bench, &trace, files)?;
+            }
+        }
+    }
+    Ok(())
+}
+
+fn import_row(bench: &mut Bench, trace: &Hard, files: Vec<Vec<u8>>) -> Checked {
+    let subject = bench.subject;
+    let mut ours = Files::checked(subject, &trace.label, files.clone())?;
+    let label = ours.label(&trace.label);
+    let row = Row { label: &label, bytes: files[0].len(), limit: Some(trace.limit), copied: &files };
+    bench.row(row, &mut || ours.import(subject), &mut || import_rust(&files));
+    Ok(())
+}
+
+/// How the times of each trace grow from 128 KiB to 1 MiB, divided by the growth of the bytes.
+fn growth(bench: &mut Bench) -> Checked {
+    println!(
+        "{:64} {:>7} {:>7} {:>7} {:>7}",
+        "growth of the time, by that of the bytes", "bytes", "ours", "least", "Rust"
+    );
+    for trace in hard::traces() {
+        if !trace.grows() || !bench.wants(&trace.label) {
+            continue;
+        }
+        if let (Some(small), Some(large)) = (trace.files(128), trace.files(1024)) {
+            growth_row(bench, &trace.label, small, large)?;
+        }
+    }
+    Ok(())
+}
+
+fn growth_row(bench: &mut Bench, label: &str, small: Vec<Vec<u8>>, large: Vec<Vec<u8>>) -> Checked {
+    let subject = bench.subject;
+    let mut less = Files::checked(subject, label, small.clone())?;
+    let mut more = Files::checked(subject, label, large.clone())?;
+    let bytes = more.bytes() / less.bytes();
+    let times = times::turns(&mut [
+        &mut || less.import(subject),
+        &mut || more.import(subject),
+        &mut || import_rust(&small),
+        &mut || import_rust(&large),
+    ]);
+    let ours = times::ratio(&times[1], &times[0]) / bytes;
+    let least = times::least(&times[1]) / times::least(&times[0]) / bytes;
+    let rust = times::ratio(&times[3], &times[2]) / bytes;
+    let grown = large[0].len() as f64 / small[0].len() as f64;
+    println!("{label:64} {grown:>7.2} {ours:>7.2} {least:>7.2} {rust:>7.2}");
+    bench.judge(label, large[0].len(), ours, Some(GROWTH));
+    Ok(())
+}
+
+/// The bench of a group, or `growth`; `None` if there is none.
+pub fn run(group: &str, subject: &dyn Subject, options: &Options) -> Option<Checked> {
+    let table: fn(&mut Bench) -> Checked = match group {
+        "codec" => codec,
+        "names" => names,
+        "plan" => plan,
+        "order" => order,
+        "import" => import,
+        "growth" => growth,
+        _ => return None,
+    };
+    times::keep_memory();
+    let mut bench = Bench { subject, options, judged: 0, over: Vec::new() };
+    Some(table(&mut bench).map(|()| bench.verdict()))
+}
+
+/// Imports of one trace and nothing else, to be counted or profiled: the trace of that label,
+/// or the first whose label has it.
+pub fn once(label: &str, kib: usize, subject: &dyn Subject, options: &Options) -> Result<(), String> {
+    let traces = hard::traces();
+    let same = traces.iter().find(|t| t.label == label);
+    let trace = same.or_else(|| traces.iter().find(|t| t.label.contains(label)));
+    let trace = trace.ok_or_else(|| format!("no trace has the label `{label}`"))?;
+    let file = trace.file(kib).ok_or_else(|| format!("`{}` does not fit {kib} KiB", trace.label))?;
+    let bytes = file.len();
+    let mut work = vec![0; 8 * bytes];
+    // No list of spans is longer than that of the shortest, which are two bytes long.
+    let mut out = vec![0; 8 * bytes];
+    let (mut number, mut values) = (0, [0; 5]);
+    for _ in 0..options.times {
+        number = subject.import_strict(black_box(&file), &mut work, &mut out, NO_CHANNEL, &mut values);
+    }
+    println!("{}: {bytes} bytes, number {number}, values {values:?}", trace.label);
+    Ok(())
 }
 
 /// What the traces of `bench import` are, by the oracle and without times.
 pub fn describe() {
-    for (label, file) in [("typical", typical(1 << 20))].into_iter().chain(adversarial(1 << 20)) {
-        let rows = crate::model::records(&file[16..]).0.len();
-        let start = Instant::now();
+    for trace in hard::traces() {
+        let kib = trace.sizes(None).into_iter().max().unwrap_or(1024);
+        let Some(file) = trace.file(kib) else { continue };
+        let rows = model::records(&file[16..]).0.len();
         let answer = expected::import_strict(&file, NO_CHANNEL);
-        let ms = start.elapsed().as_millis();
-        println!(
-            "{label}: {} bytes, {rows} records, number {}, values {:?}, Rust {ms} ms",
-            file.len(),
-            answer.number,
-            answer.values
-        );
+        let (label, bytes) = (&trace.label, file.len());
+        println!("{label}: {bytes} bytes, {rows} records, number {}, values {:?}", answer.number, answer.values);
     }
 }

@@ -3,7 +3,9 @@
 mod answer;
 mod bench;
 mod codec;
+mod deep;
 mod expected;
+mod hard;
 mod honest;
 mod import;
 mod items;
@@ -17,6 +19,7 @@ mod proved;
 mod rng;
 mod sample;
 mod stats;
+mod times;
 mod tolerant;
 mod trace;
 mod traceprint;
@@ -30,13 +33,19 @@ usage: compare GROUP [--seed N] [--size N] [--against proved|model]
        compare all [--seed N] [--size N] [--against proved|model]
        compare traceprint PROGRAM [--seed N] [--size N]
        compare selfcheck
-       compare bench GROUP [--against proved|model]
+       compare bench GROUP|growth [--only TEXT] [--kib N,N,..] [--judge] [--against proved|model]
+       compare once LABEL KIB [--times N] [--against proved|model]
        compare sample GROUP FILE
        compare stats import|honest|bench [--seed N] [--size N]
 
 GROUP is codec, names, plan, order, import or tolerant. --size is the number of
 random cases; what is exhaustive stays whole. `all` runs every group that this
-build links. PROGRAM is the built traceprint.";
+build links. PROGRAM is the built traceprint.
+
+`bench` times the rows of a group, `bench growth` how the times of import grow.
+--only takes the rows whose label has TEXT, --kib the sizes of the files of import
+(16 to 1024), and --judge says at the end which rows are over their limit. `once`
+imports the trace of a row --times times and does nothing else.";
 
 /// What the command line says besides the command.
 pub struct Options {
@@ -44,6 +53,18 @@ pub struct Options {
     pub size: Option<u64>,
     pub quiet: bool,
     model: bool,
+    /// For `bench`: the sizes in KiB, what a label has to have, and whether limits are judged.
+    pub kib: Option<Vec<usize>>,
+    pub only: Option<String>,
+    pub judge: bool,
+    /// For `once`: how often.
+    pub times: u64,
+}
+
+impl Default for Options {
+    fn default() -> Options {
+        Options { seed: 1, size: None, quiet: false, model: false, kib: None, only: None, judge: false, times: 1 }
+    }
 }
 
 /// Prints how many cases each part of a group compared, by the number expected.
@@ -129,14 +150,28 @@ fn number(text: Option<String>) -> Result<u64, String> {
     text.and_then(|t| t.parse().ok()).ok_or_else(|| "a number is missing".to_string())
 }
 
+/// A size of a file to make, in KiB.
+fn size(text: &str) -> Result<usize, String> {
+    let kib = text.parse().ok().filter(|kib| (16..=1024).contains(kib));
+    kib.ok_or_else(|| format!("`{text}` is no size from 16 to 1024"))
+}
+
+fn sizes(text: &str) -> Result<Vec<usize>, String> {
+    text.split(',').map(size).collect()
+}
+
 fn arguments() -> Result<(Vec<String>, Options), String> {
     let mut words = Vec::new();
-    let mut options = Options { seed: 1, size: None, quiet: false, model: false };
+    let mut options = Options::default();
     let mut args = std::env::args().skip(1);
     while let Some(arg) = args.next() {
         match arg.as_str() {
             "--seed" => options.seed = number(args.next())?,
             "--size" => options.size = Some(number(args.next())?),
+            "--times" => options.times = number(args.next())?,
+            "--kib" => options.kib = Some(sizes(&args.next().unwrap_or_default())?),
+            "--only" => options.only = Some(args.next().ok_or("--only takes a text")?),
+            "--judge" => options.judge = true,
             "--against" => match args.next().as_deref() {
                 Some("model") => options.model = true,
                 Some("proved") => options.model = false,
@@ -171,8 +206,12 @@ fn run() -> Result<bool, String> {
         ["traceprint", program] => Ok(verdict(traceprint::run_program(program, &options))),
         ["selfcheck"] => Ok(selfcheck(options)),
         ["bench", group] => {
-            need(group)?;
-            bench::run(group, subject).then_some(true).ok_or_else(|| USAGE.into())
+            need(if group == "growth" { "import" } else { group })?;
+            bench::run(group, subject, &options).map(verdict).ok_or_else(|| USAGE.into())
+        }
+        ["once", label, kib] => {
+            need("import")?;
+            bench::once(label, size(kib)?, subject, &options).map(|()| true)
         }
         ["sample", group, path] => {
             let (bytes, cases) = sample::of(group).ok_or(USAGE)?;

@@ -1,0 +1,261 @@
+//! Traces for a reading that finds keys by their bits, the lowest first, in a tree: keys that
+//! begin with the same bits stand one under another, and the paths to those that are used
+//! most are as long as a file can make them.
+//!
+//! A channel's bits are those of its number, 65,537 times the side (twice the handle, and 1
+//! for Rx) plus the CID. A buffer's are the same, in turn with those of DLCI and counts; an
+//! open PDU's are those of the side; a count's are those of 64 times the handle plus the DLCI.
+
+use crate::hard::{byte, Filler};
+use crate::trace;
+use oracle::capture::Direction::{self, Rx, Tx};
+use oracle::capture::BTSNOOP_EPOCH_DELTA_US as EPOCH;
+
+/// The DLCI of all pieces.
+const DLCI: u8 = 18;
+
+pub fn traces() -> impl Iterator<Item = (&'static str, fn(usize) -> Vec<u8>)> {
+    let all: [(&str, fn(usize) -> Vec<u8>); 13] = [
+        ("long paths: a channel for every request", |most| many_channels(most, &request)),
+        ("long paths: a channel for every response", |most| many_channels(most, &response)),
+        ("long paths: requests for one channel", |most| few_channels(most, &[FIRST], &request)),
+        ("long paths: requests for two channels in turn", |most| few_channels(most, &[FIRST, TWIN], &request)),
+        ("long paths: responses for one channel", |most| few_channels(most, &[FIRST], &response)),
+        ("long paths: responses for two channels in turn", |most| few_channels(most, &[FIRST, TWIN], &response)),
+        ("long paths: a buffer for every piece", many_buffers),
+        ("long paths: one-byte fragments", fragments),
+        ("long paths: one-byte fragments, two handles in turn", fragments_in_turn),
+        ("long paths: one-byte pieces", |most| every_tree(most, &[FIRST], &byte(DLCI, 0))),
+        ("long paths: one-byte pieces, two links in turn", |most| every_tree(most, &BOTH, &byte(DLCI, 0))),
+        ("long paths: SABMs", |most| every_tree(most, &[FIRST], &SABM)),
+        ("long paths: SABMs, two links in turn", |most| every_tree(most, &BOTH, &SABM)),
+    ];
+    all.into_iter()
+}
+
+/// The shortest SABM.
+const SABM: [u8; 2] = [DLCI << 2 | 1, 0x2F];
+
+/// A channel: data with this CID on this side.
+#[derive(Clone, Copy, PartialEq)]
+struct Channel {
+    side: u64,
+    cid: u16,
+}
+
+/// Two channels whose numbers differ in bit 28 alone.
+const FIRST: Channel = Channel { side: 0x0A5A, cid: 0xA5A5 };
+const SECOND: Channel = Channel { side: 0x1A5A, cid: 0x95A5 };
+const BOTH: [Channel; 2] = [FIRST, SECOND];
+
+/// A channel of the side of the first, whose number differs in bit 15 alone.
+const TWIN: Channel = Channel { side: 0x0A5A, cid: 0x25A5 };
+
+fn handle_of(side: u64) -> u16 {
+    (side / 2) as u16
+}
+
+fn direction_of(side: u64) -> Direction {
+    if side % 2 == 1 {
+        Rx
+    } else {
+        Tx
+    }
+}
+
+impl Channel {
+    fn number(self) -> u64 {
+        65_537 * self.side + u64::from(self.cid)
+    }
+
+    /// The channel of a number, if there is one, and it is dynamic.
+    fn of(number: u64) -> Option<Channel> {
+        let (side, cid) = (number / 65_537, number % 65_537);
+        (side < 8192 && (0x40..65_536).contains(&cid)).then_some(Channel { side, cid: cid as u16 })
+    }
+
+    fn send(self, filler: &mut Filler, payload: &[u8]) -> bool {
+        filler.pdu(direction_of(self.side), handle_of(self.side), self.cid, payload)
+    }
+}
+
+/// Sends commands that name channels of a side: they go the other way.
+fn signal(filler: &mut Filler, side: u64, commands: &[u8]) -> bool {
+    filler.pdu(direction_of(side ^ 1), handle_of(side), 1, commands)
+}
+
+/// A command that names a channel. A response asks for a source on the other side, too.
+type Command = dyn Fn(Channel, u16) -> Vec<u8>;
+
+fn request(channel: Channel, _: u16) -> Vec<u8> {
+    trace::request(1, channel.cid)
+}
+
+/// A success, without the status that nothing reads.
+fn response(channel: Channel, source: u16) -> Vec<u8> {
+    let [a, b] = channel.cid.to_le_bytes();
+    let [c, d] = source.to_le_bytes();
+    trace::command(3, 1, &[a, b, c, d, 0, 0])
+}
+
+/// The channel of a side, of 16, whose number has the lowest 12 bits that all of them have.
+fn sixteenth(side: u64, k: u64) -> Channel {
+    Channel { side, cid: (0x5A5u64.wrapping_sub(side) % 4096 + 4096 * k) as u16 }
+}
+
+/// 16 channels of each side. Few sides are as far apart as they can be: then they begin with
+/// the same bits as well.
+fn many_channels(most: usize, command: &Command) -> Vec<u8> {
+    let mut filler = Filler::new(1001, most);
+    let size = 32 + 16 * command(FIRST, 0).len();
+    let step = (8192 / (most / size).next_power_of_two()).max(1);
+    for side in (0..8192).step_by(step) {
+        let named = (0..16).flat_map(|k| command(sixteenth(side, k), sixteenth(side ^ 1, k).cid));
+        if !signal(&mut filler, side, &named.collect::<Vec<u8>>()) {
+            break;
+        }
+    }
+    filler.ended(DLCI)
+}
+
+/// Requests for channels that begin with more and more of the bits of each of some numbers,
+/// without those that are used.
+fn name_beside(filler: &mut Filler, used: &[Channel]) {
+    for channel in used {
+        for other in (0..29).filter_map(|bit| Channel::of(channel.number() ^ 1 << bit)) {
+            if !used.contains(&other) {
+                signal(filler, other.side, &request(other, 0));
+            }
+        }
+    }
+}
+
+/// A few channels of one side named again and again, with sources that are as far down.
+fn few_channels(most: usize, named: &[Channel], command: &Command) -> Vec<u8> {
+    let mut filler = Filler::new(1001, most);
+    let sources: Vec<Channel> = named.iter().map(|c| Channel { side: c.side ^ 1, ..*c }).collect();
+    name_beside(&mut filler, &[named, &sources].concat());
+    let turn: Vec<u8> = named.iter().zip(&sources).flat_map(|(c, source)| command(*c, source.cid)).collect();
+    let mut count = 65_000 / turn.len();
+    while count > 0 {
+        if !signal(&mut filler, FIRST.side, &turn.repeat(count)) {
+            count /= 2;
+        }
+    }
+    filler.ended(DLCI)
+}
+
+/// As many bits are the same as can be, for as many buffers as there are pieces.
+fn many_buffers(most: usize) -> Vec<u8> {
+    let mut filler = Filler::new(1001, most);
+    let shared = 29 - (most / 37).next_power_of_two().ilog2();
+    let low = FIRST.number() % (1 << shared);
+    let channels = (0..1 << (29 - shared)).filter_map(|high: u64| Channel::of(high << shared | low));
+    for channel in channels {
+        if !channel.send(&mut filler, &byte(DLCI, 0x3E)) {
+            break;
+        }
+    }
+    filler.ended(DLCI)
+}
+
+/// Sides that begin with more and more of the bits of a side, without those that are used.
+fn sides_beside(used: &[Channel]) -> Vec<u64> {
+    let sides = (0..13).map(|bit| used[0].side ^ 1 << bit);
+    sides.filter(|side| used.iter().all(|u| u.side != *side)).collect()
+}
+
+/// An empty PDU on each of some sides.
+fn empty_pdus<'a>(filler: &mut Filler, sides: impl Iterator<Item = &'a u64>) {
+    for &side in sides {
+        filler.trace.pdu(direction_of(side), EPOCH, handle_of(side), 0x3F, &[]);
+    }
+}
+
+/// What `fill` sends, between two paths to the sides that are used: packets may be read from
+/// the first one on or from the last.
+fn between_paths(filler: &mut Filler, used: &[Channel], fill: &mut dyn FnMut(&mut Filler)) {
+    let sides = sides_beside(used);
+    empty_pdus(filler, sides.iter());
+    let room = 32 * sides.len();
+    filler.most -= room;
+    fill(filler);
+    filler.most += room;
+    empty_pdus(filler, sides.iter().rev());
+}
+
+/// PDUs of 65,535 bytes in fragments of one, of each channel in turn.
+fn send_fragments(filler: &mut Filler, used: &[Channel]) {
+    let head = [0xFF, 0xFF];
+    let mut i = 0;
+    while filler.fits(5) {
+        let (turn, side) = (i / used.len() % 65_539, used[i % used.len()].side);
+        let data = head.get(turn).copied().unwrap_or(0);
+        let flag = if turn == 0 { 2 } else { 1 };
+        filler.trace.fragment(direction_of(side), EPOCH, handle_of(side), flag, &[data]);
+        i += 1;
+    }
+}
+
+fn fragments(most: usize) -> Vec<u8> {
+    let mut filler = Filler::new(1001, most);
+    between_paths(&mut filler, &[FIRST], &mut |filler| send_fragments(filler, &[FIRST]));
+    filler.ended(DLCI)
+}
+
+fn fragments_in_turn(most: usize) -> Vec<u8> {
+    let mut filler = Filler::new(1001, most);
+    between_paths(&mut filler, &BOTH, &mut |filler| send_fragments(filler, &BOTH));
+    filler.ended(DLCI)
+}
+
+/// A piece in each of the buffers on the way to those of both channels: two for a bit, since
+/// the bits of DLCI and counts, which are all the same, come between.
+fn buffers_beside(filler: &mut Filler) {
+    for bit in 0..28 {
+        let number = FIRST.number() ^ 1 << bit;
+        let further = if bit < 27 { Channel::of(number ^ 1 << 27) } else { None };
+        for other in Channel::of(number).into_iter().chain(further) {
+            other.send(filler, &byte(DLCI, 0));
+        }
+    }
+}
+
+/// A request for each of the channels on the way to both: none that has a buffer.
+fn channels_beside(filler: &mut Filler) {
+    for other in (0..28).filter_map(|bit| Channel::of(SECOND.number() ^ 1 << bit)) {
+        signal(filler, other.side, &request(other, 0));
+    }
+}
+
+/// The key of a count.
+fn count_key(channel: &Channel, dlci: u8) -> u64 {
+    64 * u64::from(handle_of(channel.side)) + u64::from(dlci)
+}
+
+/// A SABM for each of the counts on the way to those of the channels, which are none themselves.
+fn counts_beside(filler: &mut Filler, used: &[Channel]) {
+    let keys: Vec<u64> = used.iter().flat_map(|c| [count_key(c, 0), count_key(c, DLCI)]).collect();
+    for key in &keys {
+        let number = key + key / 65_536;
+        for beside in (0..18).map(|bit| number ^ 1 << bit) {
+            let other = beside - beside / 65_537;
+            if other < 64 * 4096 && !keys.contains(&other) {
+                filler.pdu(Tx, (other / 64) as u16, 0x41, &trace::sabm((other % 64) as u8));
+            }
+        }
+    }
+}
+
+/// One payload on each channel in turn, with long paths in every tree. The buffers on the way
+/// come before the SABMs, so that they begin with the same counts.
+fn every_tree(most: usize, used: &[Channel], payload: &[u8]) -> Vec<u8> {
+    let mut filler = Filler::new(1001, most);
+    between_paths(&mut filler, used, &mut |filler| {
+        buffers_beside(filler);
+        channels_beside(filler);
+        counts_beside(filler, used);
+        while used.iter().all(|channel| channel.send(filler, payload)) {}
+    });
+    filler.ended(DLCI)
+}
