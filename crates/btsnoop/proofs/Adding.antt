@@ -1,12 +1,14 @@
 -- The table of packets, one packet more, and the loop over the records.
 use Prim.Native.Nat.{ℕ, zero, suc, _+_, _-_, _*_, _/_, _<_, _≤_}
 use mathlib.Core.Path.{_≡_, refl, sym, _∙_}
+use mathlib.Core.Bool.{Bool, true, false}
 use mathlib.Core.List.{List, [], _∷_, _++_, append-assoc, append-nil}
 use mathlib.Core.Option.{Option, none, some}
 use native.Mathlib.Nat.{add-zero}
 use native.Mathlib.Omega.{arith}
 use native.Mathlib.Numerals.{add-one}
-use lib.ListN.{length, getD, drop}
+use lib.ListN.{length, getD, drop, length-drop}
+use lib.Seq.{length-take-le}
 use Rattle.laws.specs.Choice.{split≤}
 use Rattle.laws.specs.Numbers.{be32, be64}
 use Rattle.words.specs.Words.{word, putWord, long, putLong}
@@ -19,15 +21,18 @@ use Rattle.container.specs.Packets.{Packet, orNone, packets}
 use Rattle.btsnoop.specs.Packets.{milliseconds, packetOf}
 use Rattle.btsnoop.specs.PacketTable.{packetAt, packetsFrom, dataOf}
 use Rattle.btsnoop.proofs.Parts.{be64-part}
-use Rattle.btsnoop.specs.Walk.{RecordAt, NextIs}
-use Rattle.btsnoop.proofs.Walk.{next-as, flat-step}
+use Rattle.btsnoop.proofs.Laws.{packet-none}
+use Rattle.btsnoop.specs.Walk.{RecordAt, isEmpty}
+use Rattle.btsnoop.proofs.Walk.{flat-step}
+use Rattle.btsnoop.specs.Reader.{stepOf, isRecord}
+use Rattle.btsnoop.proofs.ReaderLaws.{record-told, none-told, empty-told}
 use Rattle.btsnoop.specs.Reading.{between, packetFrom, shown, RecordIs}
-use Rattle.btsnoop.specs.declared.Next.{Next}
-use Rattle.btsnoop.specs.declared.Next.the-variants.{Record, End}
+use Rattle.btsnoop.specs.declared.Step.{Step}
+use Rattle.btsnoop.specs.declared.Step.the-variants.{Record, Cut, End}
 use Rattle.btsnoop.specs.declared.Fragment.{Fragment}
 use Rattle.btsnoop.specs.declared.Acl.{Acl}
 use Rattle.btsnoop.specs.declared.Acl.the-variants.{Packet as Known, Skipped}
-use Rattle.btsnoop.specs.Adding.{AddPre, Added, ReadPre, ReadTo, Walking, putPacket, rowOf}
+use Rattle.btsnoop.specs.Adding.{AddPre, Added, Passed, ReadPre, ReadTo, Walking, putPacket, rowOf}
 
 put-is : (w : List ℕ) (at : ℕ) (g : Fragment) (t : ℕ) → putLong (putWord (putWord (putWord (putWord w at (g .key)) (at + 1) (g .start)) (at + 2) (g .place)) (at + 3) (g .len)) (at + 4) t ≡ putWords w at (rowOf g t)
 unfolding putWords rowOf putLong
@@ -134,38 +139,92 @@ orNone-append : (o : Option Packet) (xs : List Packet) → orNone o [] ++ xs ≡
 orNone-append none xs = refl
 orNone-append (some p) xs = refl
 
-module _ (f w₀ : List ℕ) (p : ReadPre f w₀) (w : List ℕ) (at count : ℕ) (v : Walking f w₀ w at count) (x : Next) (n : NextIs f at x) where
-  pub walk-pre : (e : ℕ) → x ≡ Record e → AddPre f w at e count
-  walk-pre e q =
-      let r : RecordAt f at e = next-as f at x (Record e) n q in
-      record {
-        here = record { least = r .least; most = r .most; small = p .small };
-        fits = v .fits;
-        room = omega (arith, v .total, v .size, p .room, r .least, r .most);
-      }
+-- ---- records without a packet
 
-  pub walk-less : (e : ℕ) → x ≡ Record e → length f - e < length f - at
-  walk-less e q = let r : RecordAt f at e = next-as f at x (Record e) n q in omega (arith, r .least, r .most)
+pub pass-start : (f : List ℕ) (at : ℕ) → at ≤ length f → Passed f at at
+pass-start f at h = record { least = omega arith; most = h; list = λ link. refl; tail = refl }
 
-  pub walk-turn : (e dl : ℕ) → x ≡ Record e → dl ≡ be32 f 12 → (u : List ℕ) (r : ℕ) → Added f w at e dl count u r → Walking f w₀ u e r
-  unfolding datalink packets
-  walk-turn e dl q ed u r a =
-      let s : RecordAt f at e = next-as f at x (Record e) n q in
-      let l : packetsFrom f u 0 r ≡ packetsFrom f w 0 count ++ orNone (packetOf (be32 f 12) (between f at e)) [] = rw ed at (a .list) in
-      record {
-        least = omega (arith, v .least, s .least);
-        within = s .most;
-        size = a .size ∙ v .size;
-        fits = a .fits;
-        total = omega (arith, a .total, v .total, s .least);
-        same = rw (l, append-assoc, orNone-append (packetOf (be32 f 12) (between f at e)) (packets (packetOf (be32 f 12)) (recordsIn (drop e f)))) (rw (s .list) at (v .same));
-        tail = sym (flat-step f at e s) ∙ v .tail;
-      }
+-- a record of the head alone
+pass-one : (f : List ℕ) (at e : ℕ) → RecordAt f at e → e ≡ at + 24 → Passed f at e
+unfolding packets
+pass-one f at e r h =
+    let l : length (between f at e) ≡ e - at = length-take-le (e - at) (drop at f) (simp length-drop (omega (arith, r .most))) in
+    record {
+      least = omega (arith, r .least);
+      most = r .most;
+      list = λ link. rw (r .list, packet-none link (between f at e) (omega arith));
+      tail = flat-step f at e r;
+    }
 
-  pub walk-end : x ≡ End → ReadTo f w (record { count = count; tail = at })
+pass-then : (f : List ℕ) (at i to : ℕ) → Passed f at i → Passed f i to → Passed f at to
+pass-then f at i to a b = record {
+  least = omega (arith, a .least, b .least);
+  most = b .most;
+  list = λ link. a .list link ∙ b .list link;
+  tail = a .tail ∙ b .tail;
+}
+
+pub pass-turn : (f : List ℕ) (at i : ℕ) → Passed f at i → (t : Bool) → t ≡ isEmpty (drop i f) → t ≡ true → Passed f at (i + 24)
+pass-turn f at i a t e q = pass-then f at i (i + 24) a (pass-one f i (i + 24) (empty-told f i (sym e ∙ q)) refl)
+
+pub pass-less : (f : List ℕ) (i : ℕ) (t : Bool) → t ≡ isEmpty (drop i f) → t ≡ true → length f - (i + 24) < length f - i
+pass-less f i t e q = let r : RecordAt f i (i + 24) = empty-told f i (sym e ∙ q) in omega (arith, r .most)
+
+-- ---- all records
+
+module _ (f w₀ : List ℕ) (p : ReadPre f w₀) (w : List ℕ) (at count : ℕ) (v : Walking f w₀ w at count) (x : Step) (n : x ≡ stepOf f at) where
+  module _ (e : ℕ) (q : x ≡ Record e) where
+    here : RecordAt f at e
+    here = record-told f at e (sym q ∙ n)
+
+    pub walk-in : e ≤ length f
+    walk-in = here .most
+
+    pub walk-pre : AddPre f w at e count
+    walk-pre = record {
+      here = record { least = here .least; most = here .most; small = p .small };
+      fits = v .fits;
+      room = omega (arith, v .total, v .size, p .room, here .least, here .most);
+    }
+
+    pub walk-less : length f - e < length f - at
+    walk-less = omega (arith, here .least, here .most)
+
+    pub walk-turn : (dl : ℕ) → dl ≡ be32 f 12 → (u : List ℕ) (r : ℕ) → Added f w at e dl count u r → Walking f w₀ u e r
+    unfolding datalink packets
+    walk-turn dl ed u r a =
+        let l : packetsFrom f u 0 r ≡ packetsFrom f w 0 count ++ orNone (packetOf (be32 f 12) (between f at e)) [] = rw ed at (a .list) in
+        record {
+          least = omega (arith, v .least, here .least);
+          within = here .most;
+          size = a .size ∙ v .size;
+          fits = a .fits;
+          total = omega (arith, a .total, v .total, here .least);
+          same = rw (l, append-assoc, orNone-append (packetOf (be32 f 12) (between f at e)) (packets (packetOf (be32 f 12)) (recordsIn (drop e f)))) (rw (here .list) at (v .same));
+          tail = sym (flat-step f at e here) ∙ v .tail;
+        }
+
+    module _ (h : e ≡ at + 24) (to : ℕ) (z : Passed f e to) where
+      pub walk-pass-less : length f - to < length f - at
+      walk-pass-less = omega (arith, here .least, here .most, z .least)
+
+      pub walk-pass : Walking f w₀ w to count
+      walk-pass =
+          let y : Passed f at to = pass-then f at e to (pass-one f at e here h) z in
+          record {
+            least = omega (arith, v .least, y .least);
+            within = y .most;
+            size = v .size;
+            fits = v .fits;
+            total = omega (arith, v .total, y .least);
+            same = rw (y .list (datalink f)) at (v .same);
+            tail = sym (y .tail) ∙ v .tail;
+          }
+
+  ended : isRecord x ≡ false → ReadTo f w (record { count = count; tail = at })
   unfolding packets
-  walk-end q =
-      let s : recordsIn (drop at f) ≡ [] = next-as f at x End n q in
+  ended m =
+      let s : recordsIn (drop at f) ≡ [] = none-told f at (rw n at m) in
       record {
         read = record {
           tabled = record { fits = v .fits; total = omega (arith, v .total, v .within); small = p .small; room = rw (v .size) (p .room) };
@@ -173,3 +232,9 @@ module _ (f w₀ : List ℕ) (p : ReadPre f w₀) (w : List ℕ) (at count : ℕ
         };
         tail = (let z : at + 0 ≡ at = omega arith in sym z) ∙ (rw s at (v .tail));
       }
+
+  pub walk-cut : (c : ℕ) → x ≡ Cut c → ReadTo f w (record { count = count; tail = at })
+  walk-cut c q = ended (rw q)
+
+  pub walk-end : x ≡ End → ReadTo f w (record { count = count; tail = at })
+  walk-end q = ended (rw q)

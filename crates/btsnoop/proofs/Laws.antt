@@ -1,8 +1,8 @@
 -- btsnoop keeps the laws of a container.
-use Prim.Native.Nat.{ℕ, _+_, _/_, _%_, _≤_}
+use Prim.Native.Nat.{ℕ, _+_, _/_, _%_, _<_, _≤_}
 use mathlib.Core.Path.{_≡_, refl, ap}
 use mathlib.Core.List.{List, _++_}
-use mathlib.Core.Option.{some}
+use mathlib.Core.Option.{Option, none, some}
 use native.Mathlib.Omega.{arith}
 use lib.ListN.{length, drop, length-append, length-drop}
 use lib.Seq.{take-append-le}
@@ -62,6 +62,13 @@ packet-room dl r p e =
     splitB (eqb dl 2001)
     (λ q. let h = monitor-room (be32 r 8) (milliseconds r) (drop 24 r) p (rw q at e) in omega (arith, length-drop 24 r))
     (λ q. let h = hci-room dl (be32 r 8) (milliseconds r) (drop 24 r) p (rw q at e) in omega (arith, length-drop 24 r))
+
+-- so a shorter record has none
+pub packet-none : (dl : ℕ) (r : List ℕ) → length r < 28 → packetOf dl r ≡ none
+packet-none dl r h = go (packetOf dl r) refl where
+  go : (o : Option Packet) → packetOf dl r ≡ o → packetOf dl r ≡ none
+  go none e = e
+  go (some p) e = absurd (omega (arith, packet-room dl r p e))
 
 pub lawful : Lawful btsnoop
 lawful = record {

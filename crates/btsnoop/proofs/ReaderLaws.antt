@@ -6,8 +6,8 @@ use mathlib.Core.List.{List, [], _∷_}
 use native.Mathlib.Omega.{arith}
 use lib.ListN.{length, take, drop, length-drop, drop-of-length-le}
 use lib.Seq.{length-take-le, drop-drop}
-use lib.Dec.{ltb}
-use borrow.Author.Tests.{leb-true, le-ltb, lt-ltb}
+use lib.Dec.{ltb, eqb}
+use borrow.Author.Tests.{leb-true, le-ltb, lt-ltb, eqb-true}
 use denote.Ref.{RefT, now}
 use Rattle.laws.specs.Choice.{splitB, split≤, no-way}
 use Rattle.laws.specs.Lists.{flat}
@@ -16,7 +16,7 @@ use Rattle.container.specs.Container as container
 use Rattle.btsnoop.specs.Records.{recordSize, isWhole, recordsIn, records, tailOffset}
 use Rattle.btsnoop.proofs.Records.{records-eq}
 use Rattle.btsnoop.specs.Reading.{between}
-use Rattle.btsnoop.specs.Walk.{RecordAt, NextIs}
+use Rattle.btsnoop.specs.Walk.{RecordAt, NextIs, isEmpty}
 use Rattle.btsnoop.proofs.Walk.{next-as, flat-step}
 use Rattle.btsnoop.specs.declared.Next.{Next}
 use Rattle.btsnoop.specs.declared.Next.the-variants.{Record as Whole, End as NoneWhole}
@@ -122,6 +122,22 @@ module _ (f : List ℕ) (at : ℕ) where
       (λ w. let z : isRecord (stepOf f at) ≡ true = rw (h, w) in no-way z q)
       (λ w. rw (h, w)))
       (λ h. rw h)
+
+  -- a record without bytes ends 24 on
+  pub empty-told : isEmpty (drop at f) ≡ true → RecordAt f at (at + 24)
+  unfolding isEmpty
+  empty-told q = splitB (eqb (recordSize (drop at f)) 24)
+      (λ e.
+      let s : recordSize (drop at f) ≡ 24 = eqb-true (recordSize (drop at f)) 24 e in
+      let w : isWhole (drop at f) ≡ true = rw e at q in
+      let g : recordSize (drop at f) ≤ length f - at = rw (← length-drop at f) (whole-fits w) in
+      let m : at + 24 - at ≡ 24 = omega arith in
+      record {
+        least = omega arith;
+        most = omega arith;
+        list = whole-list w ∙ rw (s, drop-drop 24 at f, m);
+      })
+      (λ e. no-way (rw e at q) refl)
 
 -- what a walk from a place gives
 record WalkIs (f : List ℕ) (at : ℕ) (rs : List (List ℕ)) (z : Reader) (s : Step) : Type 0 where

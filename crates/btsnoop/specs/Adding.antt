@@ -38,6 +38,15 @@ pub record Added (f w : List ℕ) (at end datalink count : ℕ) (u : List ℕ) (
   pub more : r ≤ count + 1
   pub size : length u ≡ length w
 
+-- ---- records without a packet
+
+-- what is still to come from one place is what is still to come from another
+pub record Passed (f : List ℕ) (at to : ℕ) : Type 0 where
+  pub least : at ≤ to
+  pub most : to ≤ length f
+  pub list : (link : ℕ) → packets (packetOf link) (recordsIn (drop at f)) ≡ packets (packetOf link) (recordsIn (drop to f))
+  pub tail : at + length (flat (recordsIn (drop at f))) ≡ to + length (flat (recordsIn (drop to f)))
+
 -- ---- all records
 
 pub record ReadPre (f w : List ℕ) : Type 0 where

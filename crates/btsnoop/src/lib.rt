@@ -3,15 +3,15 @@ ghost use mathlib.Core.Path.{_≡_};
 ghost use mathlib.Core.Bool.{cond};
 ghost use Prim.Native.Nat.{_+_, _-_, _*_, _/_, _%_, _≤_, _<_};
 ghost use lib.Dec.{eqb};
-ghost use lib.ListN.{length, set};
+ghost use lib.ListN.{length, set, drop};
 ghost use Rattle.btsnoop.specs.Header.{isBtsnoop, isDatalink};
 ghost use Rattle.btsnoop.specs.Headers.{headerOf};
-ghost use Rattle.btsnoop.specs.Walk.{NextIs};
+ghost use Rattle.btsnoop.specs.Walk.{NextIs, isEmpty};
 ghost use Rattle.btsnoop.specs.Reader.{stepOf, Starts, Moves};
 ghost use Rattle.btsnoop.specs.Listing.{Lists};
 ghost use Rattle.btsnoop.specs.Listings.{WalkedTo};
 ghost use Rattle.btsnoop.specs.Reading.{AclPre, AclIs, H4Is, MonitorIs, HciIs, RecordPre, RecordIs};
-ghost use Rattle.btsnoop.specs.Adding.{putPacket, AddPre, Added, ReadPre, ReadTo};
+ghost use Rattle.btsnoop.specs.Adding.{putPacket, AddPre, Added, Passed, ReadPre, ReadTo};
 use words::Field;
 use words::field16;
 use words::get_be32;
@@ -69,14 +69,14 @@ pub fn read_header(file: &[u8]) -> Header
 }
 
 // The record at a place, or that no whole record is there.
-pub enum Next {
+enum Next {
     // where it ends
     Record(usize),
     End,
 }
 
 // The record at a place.
-pub fn next_record(file: &[u8], at: usize) -> Next
+fn next_record(file: &[u8], at: usize) -> Next
     requires { ⌜ at ≤ length (now file) ⌝ }
     ensures { λ r. ⌜ NextIs (now (file .entry)) at r ⌝ }
 {
@@ -89,6 +89,74 @@ pub fn next_record(file: &[u8], at: usize) -> Next
         return Next::End;
     }
     Next::Record(at + 24 + n)
+}
+
+// A reader over the lent capture: the next record starts at an offset of it.
+pub struct Reader<'a> {
+    pub file: &'a [u8],
+    pub at: usize,
+}
+
+// What a reader finds at its offset.
+pub enum Step {
+    // a whole record: where it ends
+    Record(usize),
+    // a record that passes the end: where it starts
+    Cut(usize),
+    // the file's end
+    End,
+}
+
+// What stands at an offset.
+pub fn step_at(file: &[u8], at: usize) -> Step
+    ensures { λ r. ⌜ r ≡ stepOf (now (file .entry)) at ⌝ }
+{
+    if file.len() <= at {
+        return Step::End;
+    }
+    let x = next_record(file, at);
+    match x {
+        Next::Record(end) => Step::Record(end),
+        Next::End => Step::Cut(at),
+    }
+}
+
+// The reader of a capture, at its first record.
+pub fn start<'a>(file: &'a [u8]) -> Reader<'a>
+    ensures { λ r. ⌜ Starts (file .entry) r ⌝ }
+{
+    Reader { file, at: 16 }
+}
+
+// The header of a reader's capture.
+pub fn header_of<'a>(r: Reader<'a>) -> Header
+    ensures { λ h. ⌜ h ≡ headerOf (now (r .entry .file)) ⌝ }
+{
+    read_header(r.file)
+}
+
+// What a reader finds.
+pub fn next_step<'a>(r: Reader<'a>) -> Step
+    ensures { λ s. ⌜ s ≡ stepOf (now (r .entry .file)) (r .entry .at) ⌝ }
+{
+    step_at(r.file, r.at)
+}
+
+// The reader after a record that ends at an offset.
+pub fn moved<'a>(r: Reader<'a>, end: usize) -> Reader<'a>
+    ensures { λ q. ⌜ Moves (r .entry) end q ⌝ }
+{
+    Reader {
+        file: r.file,
+        at: end,
+    }
+}
+
+// What a reader of a capture finds at an offset, for callers that hold no reader.
+pub fn read_at(file: &[u8], at: usize) -> Step
+    ensures { λ s. ⌜ s ≡ stepOf (now (file .entry)) at ⌝ }
+{
+    next_step(Reader { file, at })
 }
 
 // The microseconds of a timestamp, in milliseconds.
@@ -269,7 +337,31 @@ pub struct Packets {
     pub tail: usize,
 }
 
-// Reads the packets of the file's whole records into the table at the start of work.
+// Whether a whole record without bytes stands at a place.
+fn is_empty(file: &[u8], at: usize) -> bool
+    requires { ⌜ at ≤ length (now file) ⌝ }
+    ensures { λ r. ⌜ r ≡ isEmpty (drop at (now (file .entry))) ⌝ }
+{
+    if file.len() - at < 24 {
+        return false;
+    }
+    get_be32(file, at + 4) == 0
+}
+
+// The place after the records without bytes that stand at a place: they hold no packets.
+// Their size is known before it is read, so passing them does not wait for it.
+fn pass_empty(file: &[u8], at: usize) -> usize
+    requires { ⌜ at ≤ length (now file) ⌝ }
+    ensures { λ r. ⌜ Passed (now (file .entry)) at r ⌝ }
+{
+    let mut i = at;
+    while is_empty(file, i) {
+        i += 24;
+    }
+    i
+}
+
+// Reads the packets of the file's whole records into the table at the start of work, by a reader.
 pub fn read_packets(file: &[u8], w: &mut [u8]) -> Packets
     requires { ⌜ ReadPre (now file) (now w) ⌝ }
     ensures { λ r. ⌜ ReadTo (now (file .entry)) (now (w .exit)) r ⌝ }
@@ -278,85 +370,24 @@ pub fn read_packets(file: &[u8], w: &mut [u8]) -> Packets
     let mut at = 16;
     let mut count = 0;
     loop {
-        let x = next_record(file, at);
+        let x = read_at(file, at);
         match x {
-            Next::End => {
+            Step::Record(end) => {
+                if end == at + 24 {
+                    at = pass_empty(file, end);
+                } else {
+                    count = add_packet(file, w, at, end, datalink, count);
+                    at = end;
+                }
+            }
+            Step::Cut(_) => {
                 return Packets { count, tail: at };
             }
-            Next::Record(end) => {
-                count = add_packet(file, w, at, end, datalink, count);
-                at = end;
+            Step::End => {
+                return Packets { count, tail: at };
             }
         }
     }
-}
-
-// A reader over the lent capture: the next record starts at an offset of it.
-pub struct Reader<'a> {
-    pub file: &'a [u8],
-    pub at: usize,
-}
-
-// What a reader finds at its offset.
-pub enum Step {
-    // a whole record: where it ends
-    Record(usize),
-    // a record that passes the end: where it starts
-    Cut(usize),
-    // the file's end
-    End,
-}
-
-// What stands at an offset.
-pub fn step_at(file: &[u8], at: usize) -> Step
-    ensures { λ r. ⌜ r ≡ stepOf (now (file .entry)) at ⌝ }
-{
-    if file.len() <= at {
-        return Step::End;
-    }
-    let x = next_record(file, at);
-    match x {
-        Next::Record(end) => Step::Record(end),
-        Next::End => Step::Cut(at),
-    }
-}
-
-// The reader of a capture, at its first record.
-pub fn start<'a>(file: &'a [u8]) -> Reader<'a>
-    ensures { λ r. ⌜ Starts (file .entry) r ⌝ }
-{
-    Reader { file, at: 16 }
-}
-
-// The header of a reader's capture.
-pub fn header_of<'a>(r: Reader<'a>) -> Header
-    ensures { λ h. ⌜ h ≡ headerOf (now (r .entry .file)) ⌝ }
-{
-    read_header(r.file)
-}
-
-// What a reader finds.
-pub fn next_step<'a>(r: Reader<'a>) -> Step
-    ensures { λ s. ⌜ s ≡ stepOf (now (r .entry .file)) (r .entry .at) ⌝ }
-{
-    step_at(r.file, r.at)
-}
-
-// The reader after a record that ends at an offset.
-pub fn moved<'a>(r: Reader<'a>, end: usize) -> Reader<'a>
-    ensures { λ q. ⌜ Moves (r .entry) end q ⌝ }
-{
-    Reader {
-        file: r.file,
-        at: end,
-    }
-}
-
-// What a reader of a capture finds at an offset, for callers that hold no reader.
-pub fn read_at(file: &[u8], at: usize) -> Step
-    ensures { λ s. ⌜ s ≡ stepOf (now (file .entry)) at ⌝ }
-{
-    next_step(Reader { file, at })
 }
 
 // What walking the records finds: how many there are, and the tail offset.
