@@ -27,7 +27,7 @@ split-row : {G : Type 0} (r : Row) → ((i : ℕ) → r ≡ At i → G) → (r �
 split-row (At i) f g = f i refl
 split-row Nothing f g = g refl
 
-same-row : (r : Row) (i j : ℕ) → r ≡ At i → r ≡ At j → i ≡ j
+pub same-row : (r : Row) (i j : ℕ) → r ≡ At i → r ≡ At j → i ≡ j
 same-row r i j p q = cc
 
 -- ---- the row of a key
