@@ -1,6 +1,6 @@
 -- Rows of the table of channels: what a raised grade does, and that what a signal says is told.
 use Prim.Native.Nat.{ℕ, suc, _+_, _-_, _*_, _/_, _%_, _<_, _≤_, max}
-use mathlib.Core.Path.{_≡_, refl, sym, _∙_}
+use mathlib.Core.Path.{_≡_, refl, sym, ap, _∙_}
 use mathlib.Core.Bool.{Bool, true, false, cond, _&&_, _||_, or-true, or-false, or-assoc, or-comm}
 use mathlib.Core.List.{List, [], _∷_}
 use native.Mathlib.Omega.{arith}
@@ -8,11 +8,14 @@ use lib.Dec.{ltb, eqb}
 use borrow.Author.Tests.{lt-ltb, le-ltb, eq-eqb, ne-eqb}
 use Rattle.laws.specs.Choice.{split≤, split≡}
 use Rattle.laws.specs.Keys.{Key, eqK, eq-eqK, ne-eqK}
-use Rattle.words.specs.Words.{word}
+use Rattle.words.specs.Words.{word, putWord}
 use Rattle.words.specs.Front.{front-refl}
-use Rattle.table.specs.Table.{Slot, none, some, lookup, upd, Stored, findIn, lookup-found, lookup-nothing}
+use Rattle.table.specs.Table.{Slot, none, some, lookup, upd, findIn, lookup-found, lookup-nothing}
 use Rattle.tree.specs.Tree.{EnterPre, Entered}
+use Rattle.tree.specs.Seats.{seatOf, Seated}
 use Rattle.tree.specs.declared.Tree.{Tree}
+use Rattle.tree.specs.declared.Seating.{Seating}
+use Rattle.tree.proofs.Seats.{seated-value, seat-first}
 use Rattle.table.specs.declared.Row.{Row}
 use Rattle.table.specs.declared.Row.the-variants.{At, Nothing}
 use Rattle.items.specs.Items.{rxOf}
@@ -110,46 +113,68 @@ module _ (ok : Bool) (s : Slot) where
 
 -- ---- a grade raised
 
-module _ (w : List ℕ) (b n k v : ℕ) where
-  stored-raised : (u : List ℕ) (r : ℕ) → Stored w b n k v 0 u r → gradeOf (lookup w b n k) ≤ v → Raised w b n k v u r
-  unfolding upd saysNamed gradeOf
-  stored-raised u r s h = record {
-    named = λ j. rw (s .says j) (split≡ k j (λ e. rw (eq-eqb k j e) (sym (or-true (saysNamed (lookup w b n j))))) (λ e. rw (ne-eqb k j e) (sym (or-false (saysNamed (lookup w b n j))))));
-    grade = λ j. rw (s .says j) (split≡ k j (λ e. rw (eq-eqb k j e, ← e) (omega arith)) (λ e. rw (ne-eqb k j e)));
-    most = s .most;
-    front = s .front;
-    size = s .size;
+module _ (w : List ℕ) (x : Tree) (n k v : ℕ) (p : EnterPre w x n) (u : List ℕ) (r : Seating) (s : Seated w x n k v 0 u r) where
+  -- the grade in the row of the channel
+  row-grade : (g : ℕ) → g ≡ word u (x .rows + 4 * r .at + 2) → gradeOf (seatOf v 0 (lookup w (x .rows) n k)) ≡ g
+  unfolding gradeOf
+  row-grade g e = rw e (ap gradeOf (sym (seated-value w x n k v 0 u r s)))
+
+  -- a grade that is high enough stays
+  most : (g : ℕ) → gradeOf (seatOf v 0 (lookup w (x .rows) n k)) ≡ g → v ≤ g → max (gradeOf (lookup w (x .rows) n k)) v ≡ g
+  unfolding gradeOf seatOf
+  most g e h = go (lookup w (x .rows) n k) e where
+    go : (t : Slot) → gradeOf (seatOf v 0 t) ≡ g → max (gradeOf t) v ≡ g
+    go none e = omega (arith, e)
+    go (some a z) e = omega (arith, e)
+
+  named-seat : (t : Slot) → saysNamed (seatOf v 0 t) ≡ true
+  unfolding saysNamed seatOf
+  named-seat none = refl
+  named-seat (some a z) = refl
+
+  pub raised-kept : (g : ℕ) → g ≡ word u (x .rows + 4 * r .at + 2) → v ≤ g → RaisedIn w x n k v u (r .rows)
+  unfolding upd
+  raised-kept g e h = record {
+    raised = record {
+      named = λ j. rw (s .says j) (split≡ k j
+          (λ d. rw (eq-eqb k j d, named-seat (lookup w (x .rows) n k)) (sym (or-true (saysNamed (lookup w (x .rows) n j)))))
+          (λ d. rw (ne-eqb k j d) (sym (or-false (saysNamed (lookup w (x .rows) n j))))));
+      grade = λ j. rw (s .says j) (split≡ k j
+          (λ d. rw (eq-eqb k j d, ← d) (row-grade g e ∙ sym (most g (row-grade g e) h)))
+          (λ d. rw (ne-eqb k j d)));
+      most = s .most;
+      front = s .front;
+      size = s .size;
+    };
+    indexed = s .indexed;
   }
 
-  module _ (g : Standing) (p : g ≡ standingOf (lookup w b n k)) where
-    pub raised-new : g ≡ Unnamed → (u : List ℕ) (r : ℕ) → Stored w b n k v 0 u r → Raised w b n k v u r
-    unfolding gradeOf
-    raised-new q u r s = stored-raised u r s (rw (standing-unnamed (lookup w b n k) g p q) (omega arith))
+  -- a lower one is replaced
+  least : (g : ℕ) → gradeOf (seatOf v 0 (lookup w (x .rows) n k)) ≡ g → g < v → max (gradeOf (lookup w (x .rows) n k)) v ≡ v
+  unfolding gradeOf seatOf
+  least g e h = go (lookup w (x .rows) n k) e where
+    go : (t : Slot) → gradeOf (seatOf v 0 t) ≡ g → max (gradeOf t) v ≡ v
+    go none e = omega (arith, e)
+    go (some a z) e = omega (arith, e)
 
-    module _ (x : ℕ) (q : g ≡ Named x) where
-      pub raised-more : x < v → (u : List ℕ) (r : ℕ) → Stored w b n k v 0 u r → Raised w b n k v u r
-      raised-more h u r s = stored-raised u r s (rw (standing-named (lookup w b n k) g p x q .1) (omega arith))
-
-      pub raised-same : v ≤ x → Raised w b n k v w n
-      raised-same h = record {
-        named = λ j. split≡ k j (λ d. rw (eq-eqb k j d, ← d, standing-named (lookup w b n k) g p x q .0)) (λ d. rw (ne-eqb k j d) (sym (or-false (saysNamed (lookup w b n j)))));
-        grade = λ j. split≡ k j (λ d. rw (eq-eqb k j d, ← d, standing-named (lookup w b n k) g p x q .1) (omega arith)) (λ d. rw (ne-eqb k j d));
-        most = omega arith;
-        front = front-refl (4 * b) w;
-        size = refl;
+  pub raised-more : (g : ℕ) → g ≡ word u (x .rows + 4 * r .at + 2) → g < v → (t : List ℕ) → t ≡ putWord u (x .rows + 4 * r .at + 2) v → RaisedIn w x n k v t (r .rows)
+  unfolding upd saysNamed gradeOf
+  raised-more g e h t et =
+      let q : Entered w x n k v (word u (x .rows + 4 * r .at + 3)) t (r .rows) = seat-first w x n k v 0 u r s p v t et in
+      record {
+        raised = record {
+          named = λ j. rw (q .stored .says j) (split≡ k j
+              (λ d. rw (eq-eqb k j d) (sym (or-true (saysNamed (lookup w (x .rows) n j)))))
+              (λ d. rw (ne-eqb k j d) (sym (or-false (saysNamed (lookup w (x .rows) n j))))));
+          grade = λ j. rw (q .stored .says j) (split≡ k j
+              (λ d. rw (eq-eqb k j d, ← d) (sym (least g (row-grade g e) h)))
+              (λ d. rw (ne-eqb k j d)));
+          most = q .stored .most;
+          front = q .stored .front;
+          size = q .stored .size;
+        };
+        indexed = q .indexed;
       }
-
--- and the index
-module _ (w : List ℕ) (x : Tree) (n k v : ℕ) (p : EnterPre w x n) (g : Standing) (s : g ≡ standingOf (lookup w (x .rows) n k)) where
-  pub raised-in-new : g ≡ Unnamed → (u : List ℕ) (r : ℕ) → Entered w x n k v 0 u r → RaisedIn w x n k v u r
-  raised-in-new q u r e = record { raised = raised-new w (x .rows) n k v g s q u r (e .stored); indexed = e .indexed }
-
-  module _ (o : ℕ) (q : g ≡ Named o) where
-    pub raised-in-more : o < v → (u : List ℕ) (r : ℕ) → Entered w x n k v 0 u r → RaisedIn w x n k v u r
-    raised-in-more h u r e = record { raised = raised-more w (x .rows) n k v g s o q h u r (e .stored); indexed = e .indexed }
-
-    pub raised-in-same : v ≤ o → RaisedIn w x n k v w n
-    raised-in-same h = record { raised = raised-same w (x .rows) n k v g s o q h; indexed = p .indexed }
 
 -- ---- what is told after a signal
 

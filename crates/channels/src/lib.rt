@@ -20,11 +20,12 @@ use items::Direction;
 use l2cap::payload;
 use table::Row;
 use tree::Tree;
-use tree::enter;
+use tree::seat;
 use tree::seek;
 use words::Field;
 use words::field16;
 use words::get32;
+use words::put32;
 use words::wide32;
 
 // A channel: data with this CID in this direction of a link.
@@ -239,14 +240,13 @@ fn raise(w: &mut [u8], x: Tree, rows: usize, key: u64, v: u32) -> usize
     requires { ⌜ EnterPre (now w) x rows ⌝ }
     ensures { λ r. ⌜ RaisedIn (now (w .entry)) x rows key v (now (w .exit)) r ⌝ }
 {
-    let standing = look(w, x, rows, key);
-    let Standing::Named(old) = standing else {
-        return enter(w, x, rows, key, v, 0);
-    };
-    if v <= old {
-        return rows;
+    let s = seat(w, x, rows, key, rows, v, 0);
+    let grade = x.rows + 4 * s.at + 2;
+    if v <= get32(w, grade) {
+        return s.rows;
     }
-    enter(w, x, rows, key, v, 0)
+    put32(w, grade, v);
+    s.rows
 }
 
 // Notes what a command says. Returns the count of rows.

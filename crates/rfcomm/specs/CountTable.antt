@@ -11,11 +11,14 @@ use borrow.Author.Tests.{eq-eqb, ne-eqb}
 use Rattle.laws.specs.Choice.{split≡}
 use Rattle.laws.specs.Keys.{Key, eqK, splitK, eq-eqK, ne-eqK}
 use Rattle.laws.specs.Keyed.{put}
-use Rattle.words.specs.Words.{word}
+use Rattle.words.specs.Words.{word, putWord}
 use Rattle.words.specs.Front.{Front}
 use Rattle.table.specs.Table.{Slot, none, some, lookup, upd, Stored, Agree, findIn, find-below, lookup-found, lookup-nothing, lookup-agree}
 use Rattle.tree.specs.Tree.{SeekPre, EnterPre, Entered, stands-less}
+use Rattle.tree.specs.Seats.{seatOf, Seated}
 use Rattle.tree.specs.declared.Tree.{Tree}
+use Rattle.tree.specs.declared.Seating.{Seating}
+use Rattle.tree.proofs.Seats.{seated-value, seated-room, seat-first}
 use Rattle.table.specs.declared.Row.{Row}
 use Rattle.table.specs.declared.Row.the-variants.{At, Nothing}
 use Rattle.rfcomm.specs.Pieces.{Counts, Kind, asks, opens, carries, passed, counted, noCounts}
@@ -45,6 +48,11 @@ pub record UpPre (w : List ℕ) (b n k : ℕ) : Type 0 where
   pub base : b ≤ 8388608
   pub small : valueOf (lookup w b n k) < 65536
 
+-- a key is counted once more; the second value of a row says nothing
+pub record CountedUp (w : List ℕ) (b n k : ℕ) (u : List ℕ) (r : Seating) : Type 0 where
+  pub other : ℕ
+  pub entered : Entered w (countIndex b) n k (valueOf (lookup w b n k) + 1) other u (r .rows)
+
 pub up-count : (w : List ℕ) (b n k : ℕ) → UpPre w b n k → CountPre w b n
 up-count w b n k p = record { seek = record { stands = stands-less w (countIndex b) (n + 1) n (omega arith) (p .enter .stands); indexed = p .enter .indexed }; base = p .base }
 
@@ -59,8 +67,34 @@ module _ (w : List ℕ) (b n k : ℕ) (x : Tree) (ex : x ≡ countIndex b) where
   pub count-enter : UpPre w b n k → EnterPre w x n
   count-enter p = rw ex (p .enter)
 
-  pub count-entered : (v : ℕ) → v ≡ valueOf (lookup w b n k) → (u : List ℕ) (r : ℕ) → Entered w x n k (v + 1) 0 u r → Entered w (countIndex b) n k (valueOf (lookup w b n k) + 1) 0 u r
-  count-entered v e u r d = rw (ex, e) at d
+  module _ (p : UpPre w b n k) (u : List ℕ) (r : Seating) (s : Seated w x n k 0 0 u r) where
+    x-rows : x .rows ≡ b
+    unfolding countIndex
+    x-rows = rw ex
+
+    seat-value : (t : Slot) (y z : ℕ) → some y z ≡ seatOf 0 0 t → y ≡ valueOf t
+    unfolding seatOf valueOf
+    seat-value none y z e = cc
+    seat-value (some v a) y z e = cc
+
+    pub up-row : 4 * (b + 4 * r .at + 2) + 4 ≤ length u
+    up-row = omega (arith, seated-room w x n k 0 0 u r s (count-enter p), x-rows)
+
+    pub up-put : (v : ℕ) → v ≡ word u (b + 4 * r .at + 2) → 4 * (b + 4 * r .at + 2) + 4 ≤ length u
+    up-put v e = up-row
+
+    -- the count before
+    pub up-value : (v : ℕ) → v ≡ word u (b + 4 * r .at + 2) → v ≡ valueOf (lookup w b n k)
+    up-value v e = e ∙ rw x-rows at (seat-value (lookup w (x .rows) n k) _ _ (seated-value w x n k 0 0 u r s))
+
+    pub up-fits : (v : ℕ) → v ≡ word u (b + 4 * r .at + 2) → v < 65536
+    up-fits v e = rw (up-value v e) (p .small)
+
+    pub counted-up : (v : ℕ) → v ≡ word u (b + 4 * r .at + 2) → (t : List ℕ) → t ≡ putWord u (b + 4 * r .at + 2) (v + 1) → CountedUp w b n k t r
+    counted-up v e t et = record {
+      other = word u (countIndex b .rows + 4 * r .at + 3);
+      entered = rw (ex, up-value v e) at (seat-first w x n k 0 0 u r s (count-enter p) (v + 1) t (rw x-rows et));
+    }
 
   module _ (f : Row) (p : f ≡ findIn w (x .rows) k n) where
     seen : f ≡ findIn w b k n
@@ -118,7 +152,7 @@ module _ (m : Key → Counts) (w : List ℕ) (b n most : ℕ) (c : Counted m w b
     few = λ k. omega (arith, c .few k);
   }
 
-  module _ (u : List ℕ) (r key : ℕ) (s : Stored w b n key (valueOf (lookup w b n key) + 1) 0 u r) where
+  module _ (u : List ℕ) (r key y : ℕ) (s : Stored w b n key (valueOf (lookup w b n key) + 1) y u r) where
     value-same : valueOf (lookup u b r key) ≡ valueOf (lookup w b n key) + 1
     unfolding valueOf upd
     value-same = ap valueOf (s .says key) ∙ rw (eq-eqb key key refl)

@@ -24,11 +24,13 @@ use Rattle.channels.specs.Passing.{Signalled, Tries, signalled-front}
 use Rattle.rfcomm.specs.Pieces.{Kind, asks, opens, carries, passed, kindOf, judged, told, judged-is, Counts, counted, Piece, pieceOf, brought, counting, noCounts, pieces}
 use Rattle.rfcomm.specs.PieceTable.{pieceAt, piecesFrom, infosOf, Within, Pieced}
 use Rattle.tree.specs.Tree.{Indexed, SeekPre, EnterPre, Entered, Stands, stands-less, indexed-agree, indexed-none}
-use Rattle.rfcomm.specs.CountTable.{valueOf, countIndex, CountPre, UpPre, up-count, Counted, counted-start, counted-agree, counted-none, counted-session, counted-link}
+use Rattle.tree.specs.declared.Seating.{Seating}
+use Rattle.rfcomm.specs.CountTable.{valueOf, countIndex, CountPre, UpPre, CountedUp, up-count, Counted, counted-start, counted-agree, counted-none, counted-session, counted-link}
 use Rattle.rfcomm.specs.PieceRows.{rowOf, row-long, PutPre, partPiece, row-len, row-piece, row-within, within-front, pieces-front, infos-front, pieces-snoc}
 use Rattle.rfcomm.specs.Judging.{kindShown, Carried, Borne, JudgePre, VerdictIs, carries-held}
 use Rattle.rfcomm.specs.declared.Part.{Part}
 use Rattle.rfcomm.specs.declared.Info.{Info}
+use Rattle.rfcomm.specs.declared.Near.{Near}
 use Rattle.rfcomm.specs.declared.Taken.{Taken}
 use Rattle.rfcomm.specs.declared.Verdict.{Verdict}
 use Rattle.rfcomm.specs.declared.Verdict.the-variants.{Asks, Opens, Carries, Passed}
@@ -175,10 +177,13 @@ module _ (f w : List ℕ) (q rows : ℕ) (t : Taken) (j : ℕ) (r : Ready f w q 
       size = refl;
     }
 
-    module _ (side link : ℕ) (es : side ≡ word w (2 * q + 7 * j)) (el : link ≡ side / 2) (key : ℕ) (u : List ℕ) (n : ℕ) (at : Entered w (countIndex (6 * q)) (t .counts) key (valueOf (lookup w (6 * q) (t .counts) key) + 1) 0 u n) where
-      s : Stored w (6 * q) (t .counts) key (valueOf (lookup w (6 * q) (t .counts) key) + 1) 0 u n
+    module _ (side link : ℕ) (es : side ≡ word w (2 * q + 7 * j)) (el : link ≡ side / 2) (key : ℕ) (u : List ℕ) (sat : Seating) (up : CountedUp w (6 * q) (t .counts) key u sat) (near : Near) where
+      at : Entered w (countIndex (6 * q)) (t .counts) key (valueOf (lookup w (6 * q) (t .counts) key) + 1) (up .other) u (sat .rows)
+      at = up .entered
+
+      s : Stored w (6 * q) (t .counts) key (valueOf (lookup w (6 * q) (t .counts) key) + 1) (up .other) u (sat .rows)
       unfolding countIndex
-      s = at .stored
+      s = up .entered .stored
 
       my-link : pduAt f w (2 * q + 7 * j) .link ≡ link
       my-link = link-is f w (2 * q + 7 * j) ∙ rw (el, es)
@@ -197,8 +202,8 @@ module _ (f w : List ℕ) (q rows : ℕ) (t : Taken) (j : ℕ) (r : Ready f w q 
       beyond i h = at .beyond i (omega (arith, h, r .counts, r .few, r .quarter))
 
       counted-way : (y : Verdict) (k : Kind) → v ≡ y → kindShown f w y ≡ k → ((c : Counts) (p : Pdu) → brought c p k ≡ []) →
-          ((m : Key → Counts) → Counted m w (6 * q) (t .counts) j → Counted (put m (link ∷ []) (counted (m (link ∷ [])) k)) u (6 * q) n (j + 1)) →
-          TakenIn f w q rows t j u (record { counts = n; pieces = t .pieces })
+          ((m : Key → Counts) → Counted m w (6 * q) (t .counts) j → Counted (put m (link ∷ []) (counted (m (link ∷ [])) k)) u (6 * q) (sat .rows) (j + 1)) →
+          TakenIn f w q rows t j u (record { counts = sat .rows; pieces = t .pieces; near = near })
       counted-way y k e ek nothing does = record {
         counts = λ m ss x c. rw (kind-as y e ss x ∙ ek, my-link) (does m c);
         list = λ m ss x c. rw (kind-as y e ss x ∙ ek, kept-pieces, nothing (m (pduAt f w (2 * q + 7 * j) .link ∷ [])) (pduAt f w (2 * q + 7 * j)), append-nil);
@@ -212,22 +217,22 @@ module _ (f w : List ℕ) (q rows : ℕ) (t : Taken) (j : ℕ) (r : Ready f w q 
         size = s .size;
       }
 
-      pub taken-asks : v ≡ Asks → key ≡ 64 * link + 0 → TakenIn f w q rows t j u (record { counts = n; pieces = t .pieces })
+      pub taken-asks : v ≡ Asks → key ≡ 64 * link + 0 → TakenIn f w q rows t j u (record { counts = sat .rows; pieces = t .pieces; near = near })
       unfolding kindShown counted brought
-      taken-asks e ek = counted-way Asks asks e refl (λ c p. refl) (λ m c. counted-session m w (6 * q) (t .counts) j c link u n key s (counted (m (link ∷ [])) asks) refl refl (omega arith))
+      taken-asks e ek = counted-way Asks asks e refl (λ c p. refl) (λ m c. counted-session m w (6 * q) (t .counts) j c link u (sat .rows) key (up .other) s (counted (m (link ∷ [])) asks) refl refl (omega arith))
 
-      opens-zero : (d : ℕ) → d ≡ 0 → v ≡ Opens d → key ≡ 64 * link + d → TakenIn f w q rows t j u (record { counts = n; pieces = t .pieces })
+      opens-zero : (d : ℕ) → d ≡ 0 → v ≡ Opens d → key ≡ 64 * link + d → TakenIn f w q rows t j u (record { counts = sat .rows; pieces = t .pieces; near = near })
       unfolding kindShown counted brought
-      opens-zero d z e ek = counted-way (Opens d) (opens zero) e (rw z) (λ c p. refl) (λ m c. counted-session m w (6 * q) (t .counts) j c link u n key s (counted (m (link ∷ [])) (opens zero)) refl refl (omega arith))
+      opens-zero d z e ek = counted-way (Opens d) (opens zero) e (rw z) (λ c p. refl) (λ m c. counted-session m w (6 * q) (t .counts) j c link u (sat .rows) key (up .other) s (counted (m (link ∷ [])) (opens zero)) refl refl (omega arith))
 
-      opens-more : (d e′ : ℕ) → d ≡ suc e′ → v ≡ Opens d → key ≡ 64 * link + d → TakenIn f w q rows t j u (record { counts = n; pieces = t .pieces })
+      opens-more : (d e′ : ℕ) → d ≡ suc e′ → v ≡ Opens d → key ≡ 64 * link + d → TakenIn f w q rows t j u (record { counts = sat .rows; pieces = t .pieces; near = near })
       unfolding kindShown counted brought
       opens-more d e′ z e ek =
           let h : d < 64 = rw e at (is .borne) in
           counted-way (Opens d) (opens (suc e′)) e (rw z) (λ c p. refl)
-          (λ m c. counted-link m w (6 * q) (t .counts) j c link u n key s (suc e′) (omega arith) (omega arith) (counted (m (link ∷ [])) (opens (suc e′))) refl (λ i. refl) (omega arith))
+          (λ m c. counted-link m w (6 * q) (t .counts) j c link u (sat .rows) key (up .other) s (suc e′) (omega arith) (omega arith) (counted (m (link ∷ [])) (opens (suc e′))) refl (λ i. refl) (omega arith))
 
-      pub taken-opens : (d : ℕ) → v ≡ Opens d → key ≡ 64 * link + d → TakenIn f w q rows t j u (record { counts = n; pieces = t .pieces })
+      pub taken-opens : (d : ℕ) → v ≡ Opens d → key ≡ 64 * link + d → TakenIn f w q rows t j u (record { counts = sat .rows; pieces = t .pieces; near = near })
       taken-opens zero e ek = opens-zero zero refl e ek
       taken-opens (suc d) e ek = opens-more (suc d) d refl e ek
 
@@ -298,9 +303,9 @@ module _ (f w : List ℕ) (q rows : ℕ) (t : Taken) (j : ℕ) (r : Ready f w q 
       unfolding part partOf
       row-in = row-within f w (5 * q + 8 * t .pieces) part (long w (2 * q + 7 * j + 5)) pre u eu′ (8 * q) inside (held .least) (held .most)
 
-      pub taken-piece : TakenIn f w q rows t j u (record { counts = t .counts; pieces = t .pieces + 1 })
+      pub taken-piece : (near : Near) → TakenIn f w q rows t j u (record { counts = t .counts; pieces = t .pieces + 1; near = near })
       unfolding kindShown counted brought infosOf
-      taken-piece = record {
+      taken-piece near = record {
         counts = λ m ss x c.
             rw (kind-as (Carries i) e ss x)
             (counted-agree (put m (pduAt f w (2 * q + 7 * j) .link ∷ []) (m (pduAt f w (2 * q + 7 * j) .link ∷ []))) u w (6 * q) (t .counts) (j + 1) counts-kept
@@ -340,9 +345,10 @@ pub record Gathering (f : List ℕ) (ps : List Pdu) (w₀ w : List ℕ) (made ro
   pub same : piecesFrom f w (5 * (length f / 4)) 0 (t .pieces) ++ run counting states (map (told (signals ps)) (pdusFrom f w (2 * (length f / 4)) j (made - j))) ≡ pieces (judged ps)
   pub size : length w ≡ length w₀
 
-pub gather-start : (f w : List ℕ) (made rows : ℕ) → PiecesPre f w made rows → Gathering f (pdusFrom f w (2 * (length f / 4)) 0 made) w w made rows (record { counts = 0; pieces = 0 }) 0
+pub gather-start : (f w : List ℕ) (made rows : ℕ) (near : Near) → PiecesPre f w made rows →
+    Gathering f (pdusFrom f w (2 * (length f / 4)) 0 made) w w made rows (record { counts = 0; pieces = 0; near = near }) 0
 unfolding piecesFrom infosOf paysOf pieces
-gather-start f w made rows p =
+gather-start f w made rows near p =
     let z : made - 0 ≡ made = omega arith in
     record {
       all = omega arith;

@@ -6,12 +6,11 @@ ghost use lib.Dec.{eqb};
 ghost use lib.ListN.{length};
 ghost use Rattle.rfcomm.specs.Frames.{isSabm, isUih};
 ghost use Rattle.rfcomm.specs.Reading.{UihPre, FrameIs, LengthIs};
-ghost use Rattle.rfcomm.specs.CountTable.{valueOf, countIndex, CountPre, UpPre};
+ghost use Rattle.rfcomm.specs.CountTable.{valueOf, countIndex, CountPre, UpPre, CountedUp};
 ghost use Rattle.rfcomm.specs.Judging.{placedUih, FrameVerdict, JudgePre, VerdictIs};
 ghost use Rattle.l2cap.specs.PduFrames.{Lent};
 ghost use Rattle.rfcomm.specs.PieceRows.{stretchOf, bytesOf, rowOf, PutPre};
 ghost use Rattle.table.specs.Table.{lookup};
-ghost use Rattle.tree.specs.Tree.{Entered};
 ghost use Rattle.words.specs.Rows.{putWords};
 ghost use Rattle.words.specs.Words.{long};
 ghost use Rattle.rfcomm.specs.Gathering.{partOf, PiecePre, TakePre, Ready, TakenIn, PiecesPre, ReadPieces};
@@ -19,9 +18,10 @@ use channels::asks;
 use channels::is_tried;
 use l2cap::payload;
 use table::Row;
+use tree::Seating;
 use tree::Tree;
-use tree::enter;
-use tree::seek;
+use tree::seat;
+use tree::seek_near;
 use words::get32;
 use words::get64;
 use words::put32;
@@ -154,25 +154,40 @@ fn index_of(base: usize) -> Tree
     }
 }
 
-// How often a key was counted.
-fn count_of(w: &[u8], base: usize, rows: usize, key: u64) -> u32
+// How often a key was counted, and its row, or near if it has none.
+struct Count {
+    value: u32,
+    row: usize,
+}
+
+// How often a key was counted. The rows from near on are looked at first.
+fn count_of(w: &[u8], base: usize, rows: usize, key: u64, near: usize) -> Count
     requires { ⌜ CountPre (now w) base rows ⌝ }
-    ensures { λ r. ⌜ r ≡ valueOf (lookup (now (w .entry)) base rows key) ⌝ }
+    ensures { λ r. ⌜ r .value ≡ valueOf (lookup (now (w .entry)) base rows key) ⌝ }
 {
-    let x = seek(w, index_of(base), rows, key);
+    let x = seek_near(w, index_of(base), rows, key, near);
     match x {
-        Row::At(i) => get32(w, base + 4 * i + 2),
-        Row::Nothing => 0,
+        Row::At(i) => Count {
+            value: get32(w, base + 4 * i + 2),
+            row: i,
+        },
+        Row::Nothing => Count {
+            value: 0,
+            row: near,
+        },
     }
 }
 
-// Counts a key once more, and returns the count of rows.
-fn count_up(w: &mut [u8], base: usize, rows: usize, key: u64) -> usize
+// Counts a key once more, and returns the count of rows and its row.
+fn count_up(w: &mut [u8], base: usize, rows: usize, key: u64, near: usize) -> Seating
     requires { ⌜ UpPre (now w) base rows key ⌝ }
-    ensures { λ r. ⌜ Entered (now (w .entry)) (countIndex base) rows key (valueOf (lookup (now (w .entry)) base rows key) + 1) 0 (now (w .exit)) r ⌝ }
+    ensures { λ r. ⌜ CountedUp (now (w .entry)) base rows key (now (w .exit)) r ⌝ }
 {
-    let n = count_of(w, base, rows, key);
-    enter(w, index_of(base), rows, key, n + 1, 0)
+    let s = seat(w, index_of(base), rows, key, near, 0, 0);
+    let at = base + 4 * s.at + 2;
+    let n = get32(w, at);
+    put32(w, at, n + 1);
+    s
 }
 
 // A piece: its row's numbers but the time.
@@ -309,10 +324,17 @@ fn judge<'a>(file: &'a [u8], w: &'a [u8], row: usize, q: usize, rows: usize) -> 
     Verdict::Passed
 }
 
+// The rows of counts that were found last: of a link's sessions, and of its links on a DLCI. Pieces come in runs.
+pub struct Near {
+    pub sessions: usize,
+    pub links: usize,
+}
+
 // Rows of counts, and pieces.
 pub struct Taken {
     pub counts: usize,
     pub pieces: usize,
+    pub near: Near,
 }
 
 // The key of a link's count: its sessions under DLCI 0, else its links on the DLCI.
@@ -331,35 +353,56 @@ fn narrow(x: usize) -> u32
     x as u32
 }
 
+// A piece, and the rows of its counts.
+struct Placed {
+    part: Part,
+    near: Near,
+}
+
 // The piece that a PDU's information makes, with the counts that stand.
-fn piece_of(w: &[u8], row: usize, base: usize, rows: usize, i: Info) -> Part
+fn piece_of(w: &[u8], row: usize, base: usize, rows: usize, i: Info, near: Near) -> Placed
     requires { ⌜ PiecePre (now w) row base rows i ⌝ }
-    ensures { λ r. ⌜ r ≡ partOf (now (w .entry)) row base rows i ⌝ }
+    ensures { λ r. ⌜ r .part ≡ partOf (now (w .entry)) row base rows i ⌝ }
 {
     let side = get32(w, row);
     let link = side / 2;
-    let sessions = count_of(w, base, rows, count_key(link, 0));
-    let links = count_of(w, base, rows, count_key(link, i.dlci));
-    Part {
+    let sessions = count_of(w, base, rows, count_key(link, 0), near.sessions);
+    let links = count_of(w, base, rows, count_key(link, i.dlci), near.links);
+    let part = Part {
         dlci: i.dlci,
         way: side,
         cid: get32(w, row + 1),
-        sessions,
-        links,
+        sessions: sessions.value,
+        links: links.value,
         start: narrow(i.start),
         len: narrow(i.len),
         joined: i.joined,
-    }
+    };
+    let found = Near {
+        sessions: sessions.row,
+        links: links.row,
+    };
+    Placed { part, near: found }
 }
 
-// Takes in the piece of a PDU's information as row number n of the table at word at.
-fn take_piece(w: &mut [u8], row: usize, base: usize, rows: usize, i: Info, at: usize)
+// Takes in the piece of a PDU's information as the row at word at, and returns the rows of its counts.
+fn take_piece(
+    w: &mut [u8],
+    row: usize,
+    base: usize,
+    rows: usize,
+    i: Info,
+    near: Near,
+    at: usize,
+) -> Near
     requires { ⌜ TakePre (now w) row base rows i at ⌝ }
     ensures { λ _. ⌜ now (w .exit) ≡ putWords (now (w .entry)) at (rowOf (partOf (now (w .entry)) row base rows i) (long (now (w .entry)) (row + 5))) ⌝ }
 {
-    let p = piece_of(w, row, base, rows, i);
+    let p = piece_of(w, row, base, rows, i, near);
+    let part = p.part;
     let time = get64(w, row + 5);
-    put_piece(w, at, p, time);
+    put_piece(w, at, part, time);
+    p.near
 }
 
 // Takes in PDU number j: a count, a piece, or nothing.
@@ -370,22 +413,38 @@ fn take_pdu(file: &[u8], w: &mut [u8], q: usize, rows: usize, t: Taken, j: usize
     let row = 2 * q + 7 * j;
     let counts = t.counts;
     let pieces = t.pieces;
+    let near = t.near;
     let v = judge(file, w, row, q, rows);
     let link = get32(w, row) / 2;
     match v {
         Verdict::Asks => {
-            let c = count_up(w, 6 * q, counts, count_key(link, 0));
-            Taken { counts: c, pieces }
+            let s = count_up(w, 6 * q, counts, count_key(link, 0), near.sessions);
+            Taken {
+                counts: s.rows,
+                pieces,
+                near: Near {
+                    sessions: s.at,
+                    links: near.links,
+                },
+            }
         }
         Verdict::Opens(d) => {
-            let c = count_up(w, 6 * q, counts, count_key(link, d));
-            Taken { counts: c, pieces }
+            let s = count_up(w, 6 * q, counts, count_key(link, d), near.links);
+            Taken {
+                counts: s.rows,
+                pieces,
+                near: Near {
+                    sessions: near.sessions,
+                    links: s.at,
+                },
+            }
         }
         Verdict::Carries(i) => {
-            take_piece(w, row, 6 * q, counts, i, 5 * q + 8 * pieces);
+            let found = take_piece(w, row, 6 * q, counts, i, near, 5 * q + 8 * pieces);
             Taken {
                 counts,
                 pieces: pieces + 1,
+                near: found,
             }
         }
         Verdict::Passed => t,
@@ -401,6 +460,10 @@ pub fn read_pieces(file: &[u8], w: &mut [u8], made: usize, rows: usize) -> usize
     let mut t = Taken {
         counts: 0,
         pieces: 0,
+        near: Near {
+            sessions: 0,
+            links: 0,
+        },
     };
     let mut j = 0;
     while j < made {

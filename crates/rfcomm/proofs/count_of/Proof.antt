@@ -6,46 +6,46 @@ use Rattle.rfcomm.proofs.count_of.Tie as tie
 use Rattle.rfcomm.proofs.count_of.Reads as reads
 use Rattle.rfcomm.proofs.count_of.Lts as lts
 use Rattle.rfcomm.proofs.index_of.Reads as index-of-reads
-use Rattle.tree.proofs.seek.Reads as seek-reads
+use Rattle.tree.proofs.seek_near.Reads as seek-near-reads
 use Rattle.words.proofs.get32.Reads as get32-reads
 
--- src/lib.rt:162:21
+-- src/lib.rt:168:26
 index-of-requires : tie.Need-index-of-requires
 index-of-requires c κs = search needs
 
--- src/lib.rt:162:9
-seek-requires : tie.Need-seek-requires
-seek-requires c κs = search count-seek
+-- src/lib.rt:168:9
+seek-near-requires : tie.Need-seek-near-requires
+seek-near-requires c κs = search count-seek
 
--- src/lib.rt:164:17
+-- src/lib.rt:170:17
 enum-known-x : tie.Need-enum-known-x
 enum-known-x c = search needs
 
--- src/lib.rt:164:39
+-- src/lib.rt:171:36
 mul-get32 : tie.Need-mul-get32
-mul-get32 c = let h = count-row _ _ _ _ _ (c .before .before .before .before .index-of .ensures) _ (c .before .before .before .seek .ensures) (c .before .before .before .before .before .before .pre) _ (c .before .x .given .1) in omega arith
+mul-get32 c = let h = count-row _ _ _ _ _ (c .before .before .before .before .index-of .ensures) _ (c .before .before .before .seek-near .ensures) (c .before .before .before .before .before .before .pre) _ (c .before .x .given .1) in omega arith
 
--- src/lib.rt:164:32
+-- src/lib.rt:171:29
 add-get32 : tie.Need-add-get32
-add-get32 c = let h = count-row _ _ _ _ _ (c .before .before .before .before .index-of .ensures) _ (c .before .before .before .seek .ensures) (c .before .before .before .before .before .before .pre) _ (c .before .x .given .1) in omega arith
+add-get32 c = let h = count-row _ _ _ _ _ (c .before .before .before .before .index-of .ensures) _ (c .before .before .before .seek-near .ensures) (c .before .before .before .before .before .before .pre) _ (c .before .x .given .1) in omega arith
 
--- src/lib.rt:164:32
+-- src/lib.rt:171:29
 add-get32-2 : tie.Need-add-get32-2
-add-get32-2 c = let h = count-row _ _ _ _ _ (c .before .before .before .before .index-of .ensures) _ (c .before .before .before .seek .ensures) (c .before .before .before .before .before .before .pre) _ (c .before .x .given .1) in omega arith
+add-get32-2 c = let h = count-row _ _ _ _ _ (c .before .before .before .before .index-of .ensures) _ (c .before .before .before .seek-near .ensures) (c .before .before .before .before .before .before .pre) _ (c .before .x .given .1) in omega arith
 
--- src/lib.rt:164:23
+-- src/lib.rt:171:20
 get32-requires : tie.Need-get32-requires
-get32-requires c κs = let h = count-row _ _ _ _ _ (c .before .before .before .before .index-of .ensures) _ (c .before .before .before .seek .ensures) (c .before .before .before .before .before .before .pre) _ (c .before .x .given .1) in omega arith
+get32-requires c κs = let h = count-row _ _ _ _ _ (c .before .before .before .before .index-of .ensures) _ (c .before .before .before .seek-near .ensures) (c .before .before .before .before .before .before .pre) _ (c .before .x .given .1) in omega arith
 
--- src/lib.rt:165:25
+-- src/lib.rt:174:25
 enum-told : tie.Need-enum-told
 enum-told c = search needs
 
--- src/lib.rt:158:1
+-- src/lib.rt:164:1
 returns : tie.Need-returns
 returns c = search seek-found
 
--- src/lib.rt:158:1
+-- src/lib.rt:164:1
 returns-2 : tie.Need-returns-2
 returns-2 c = search seek-nothing
 
@@ -54,7 +54,7 @@ count-of-spec =
     tie.close
     (tie.spec
     index-of-requires
-    seek-requires
+    seek-near-requires
     enum-known-x
     mul-get32
     add-get32

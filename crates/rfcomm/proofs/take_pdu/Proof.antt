@@ -1,7 +1,7 @@
 use Rattle.rfcomm.specs.Judging.{opens-small}
-use Rattle.rfcomm.specs.Gathering.{judge-pre, up-pre, taken-passed, taken-asks, taken-opens, taken-piece, piece-pre}
-use borrow.Author.Needs.{needs}
+use Rattle.rfcomm.specs.Gathering.{up-pre, taken-passed, taken-asks, taken-opens, taken-piece, piece-pre}
 use native.Mathlib.Omega.{arith}
+use borrow.Author.Needs.{needs}
 use Rattle.rfcomm.proofs.take_pdu.Statement.{statement}
 use Rattle.rfcomm.proofs.take_pdu.Tie as tie
 use Rattle.rfcomm.proofs.take_pdu.Reads as reads
@@ -12,119 +12,119 @@ use Rattle.rfcomm.proofs.judge.Reads as judge-reads
 use Rattle.rfcomm.proofs.take_piece.Reads as take-piece-reads
 use Rattle.words.proofs.get32.Reads as get32-reads
 
--- src/lib.rt:357:15
+-- src/lib.rt:405:15
 mul-row : tie.Need-mul-row
-mul-row c = omega (arith, c .before .before .pre .quarter, c .before .before .pre .small)
+mul-row c = search needs
 
--- src/lib.rt:357:23
+-- src/lib.rt:405:23
 mul-row-2 : tie.Need-mul-row-2
-mul-row-2 c = omega (arith, c .before .before .pre .few, c .before .before .pre .small)
+mul-row-2 c = search needs
 
--- src/lib.rt:357:15
+-- src/lib.rt:405:15
 add-row : tie.Need-add-row
-add-row c = omega (arith, c .before .before .pre .quarter, c .before .before .pre .few, c .before .before .pre .small)
+add-row c = search needs
 
--- src/lib.rt:360:9
+-- src/lib.rt:409:9
 judge-requires : tie.Need-judge-requires
-judge-requires c κs = search judge-pre
+judge-requires c κs = search needs
 
--- src/lib.rt:361:16
+-- src/lib.rt:410:16
 get32-requires : tie.Need-get32-requires
-get32-requires c κs = omega (arith, c .before .before .before .before .before .pre .lent .room)
+get32-requires c κs = search needs
 
--- src/lib.rt:364:30
+-- src/lib.rt:413:30
 enum-told : tie.Need-enum-told
 enum-told c = search needs
 
--- src/lib.rt:364:33
+-- src/lib.rt:413:33
 mul-count-up : tie.Need-mul-count-up
-mul-count-up c = omega (arith, c .before .before .before .before .before .before .before .before .before .pre .quarter, c .before .before .before .before .before .before .before .before .before .pre .small)
+mul-count-up c = search needs
 
--- src/lib.rt:364:48
+-- src/lib.rt:413:48
 count-key-requires : tie.Need-count-key-requires
 count-key-requires c κs = search needs
 
--- src/lib.rt:364:17
+-- src/lib.rt:413:17
 count-up-requires : tie.Need-count-up-requires
-count-up-requires c κs = up-pre _ _ _ _ _ _ (c .before .before .before .before .before .before .before .before .before .before .pre) _
+count-up-requires c κs = search up-pre
 
--- src/lib.rt:367:24
+-- src/lib.rt:420:24
 enum-known-v : tie.Need-enum-known-v
 enum-known-v c = search needs
 
--- src/lib.rt:368:33
+-- src/lib.rt:421:33
 mul-count-up-2 : tie.Need-mul-count-up-2
-mul-count-up-2 c = omega (arith, c .before .before .before .before .before .before .before .before .before .before .pre .quarter, c .before .before .before .before .before .before .before .before .before .before .pre .small)
+mul-count-up-2 c = search needs
 
--- src/lib.rt:368:48
+-- src/lib.rt:421:48
 count-key-requires-2 : tie.Need-count-key-requires-2
-count-key-requires-2 c κs = opens-small _ _ _ _ _ _ (c .before .before .before .before .before .before .judge .ensures) _ (c .before .before .v .given .1)
+count-key-requires-2 c κs = search opens-small
 
--- src/lib.rt:368:17
+-- src/lib.rt:421:17
 count-up-requires-2 : tie.Need-count-up-requires-2
-count-up-requires-2 c κs = up-pre _ _ _ _ _ _ (c .before .before .before .before .before .before .before .before .before .before .before .pre) _
+count-up-requires-2 c κs = search up-pre
 
--- src/lib.rt:371:26
+-- src/lib.rt:428:26
 enum-known-v-2 : tie.Need-enum-known-v-2
 enum-known-v-2 c = search needs
 
--- src/lib.rt:372:32
+-- src/lib.rt:429:44
 mul-take-piece : tie.Need-mul-take-piece
-mul-take-piece c = omega (arith, c .before .before .before .before .before .before .before .before .before .before .pre .quarter, c .before .before .before .before .before .before .before .before .before .before .pre .small)
+mul-take-piece c = search needs
 
--- src/lib.rt:372:50
+-- src/lib.rt:429:68
 mul-take-piece-2 : tie.Need-mul-take-piece-2
-mul-take-piece-2 c = omega (arith, c .before .before .before .before .before .before .before .before .before .before .pre .quarter, c .before .before .before .before .before .before .before .before .before .before .pre .small)
+mul-take-piece-2 c = search needs
 
--- src/lib.rt:372:58
+-- src/lib.rt:429:76
 mul-take-piece-3 : tie.Need-mul-take-piece-3
-mul-take-piece-3 c = omega (arith, c .before .before .before .before .before .before .before .before .before .before .pre .pieces, c .before .before .before .before .before .before .before .before .before .before .pre .few, c .before .before .before .before .before .before .before .before .before .before .pre .small)
+mul-take-piece-3 c = search needs
 
--- src/lib.rt:372:50
+-- src/lib.rt:429:68
 add-take-piece : tie.Need-add-take-piece
-add-take-piece c = omega (arith, c .before .before .before .before .before .before .before .before .before .before .pre .quarter, c .before .before .before .before .before .before .before .before .before .before .pre .pieces, c .before .before .before .before .before .before .before .before .before .before .pre .few, c .before .before .before .before .before .before .before .before .before .before .pre .small)
+add-take-piece c = search needs
 
--- src/lib.rt:372:13
+-- src/lib.rt:429:17
 take-piece-requires : tie.Need-take-piece-requires
 take-piece-requires c κs = search piece-pre
 
--- src/lib.rt:373:37
-add-t35 : tie.Need-add-t35
-add-t35 c = omega (arith, c .before .before .before .before .before .before .before .before .before .before .before .before .before .pre .pieces, c .before .before .before .before .before .before .before .before .before .before .before .before .before .pre .few, c .before .before .before .before .before .before .before .before .before .before .before .before .before .pre .small)
+-- src/lib.rt:432:25
+add-t38 : tie.Need-add-t38
+add-t38 c = search needs
 
--- src/lib.rt:375:28
+-- src/lib.rt:436:28
 enum-told-2 : tie.Need-enum-told-2
 enum-told-2 c = search needs
 
--- src/lib.rt:353:1
+-- src/lib.rt:401:1
 same-length : tie.Need-same-length
 same-length c = search needs
 
--- src/lib.rt:353:1
+-- src/lib.rt:401:1
 returns : tie.Need-returns
 returns c = search taken-asks
 
--- src/lib.rt:353:1
+-- src/lib.rt:401:1
 same-length-2 : tie.Need-same-length-2
 same-length-2 c = search needs
 
--- src/lib.rt:353:1
+-- src/lib.rt:401:1
 returns-2 : tie.Need-returns-2
 returns-2 c = search taken-opens
 
--- src/lib.rt:353:1
+-- src/lib.rt:401:1
 same-length-3 : tie.Need-same-length-3
 same-length-3 c = search needs
 
--- src/lib.rt:353:1
+-- src/lib.rt:401:1
 returns-3 : tie.Need-returns-3
 returns-3 c = search taken-piece
 
--- src/lib.rt:353:1
+-- src/lib.rt:401:1
 same-length-4 : tie.Need-same-length-4
 same-length-4 c = search needs
 
--- src/lib.rt:353:1
+-- src/lib.rt:401:1
 returns-4 : tie.Need-returns-4
 returns-4 c = search taken-passed
 
@@ -151,7 +151,7 @@ take-pdu-spec =
     mul-take-piece-3
     add-take-piece
     take-piece-requires
-    add-t35
+    add-t38
     enum-told-2
     same-length
     returns

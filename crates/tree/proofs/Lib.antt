@@ -1,0 +1,2 @@
+pub mod Seats
+pub mod Turns
