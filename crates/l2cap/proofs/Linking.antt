@@ -41,12 +41,12 @@ module _ (w : List ℕ) (q n i x : ℕ) (p : LinkStep w q n i) where
   pub link-look : Look w q n
   link-look = record { seek = record { stands = stands-less w (indexOf q) (n + 1) n (omega arith) (p .opens .enter .stands); indexed = p .opens .enter .indexed }; small = p .opens .small }
 
-  module _ (key : ℕ) (ek : key ≡ word w (6 * i)) (r : ℕ) (er : r ≡ nextIn x (lookup w (3 * q) n key)) (v : List ℕ) (ev : v ≡ putWord w (7 * q + i) r) where
-    off : (j : ℕ) → (7 * q + i ≡ j → ⊥) → word v j ≡ word w j
-    off j h = rw ev (word-put-other w (7 * q + i) r j h)
+  module _ (key : ℕ) (ek : key ≡ word w (6 * i)) (r : ℕ) (er : r ≡ nextIn x (lookup w (3 * q) n key)) (v : List ℕ) (ev : v ≡ putWord w (7 * q + 2 * i) r) where
+    off : (j : ℕ) → (7 * q + 2 * i ≡ j → ⊥) → word v j ≡ word w j
+    off j h = rw ev (word-put-other w (7 * q + 2 * i) r j h)
 
     size-v : length v ≡ length w
-    size-v = rw ev (length-put w (7 * q + i) r)
+    size-v = rw ev (length-put w (7 * q + 2 * i) r)
 
     below : (j : ℕ) → j < 7 * q → word v j ≡ word w j
     below j h = off j (λ e. omega arith)
@@ -64,12 +64,12 @@ module _ (w : List ℕ) (q n i x : ℕ) (p : LinkStep w q n i) where
 
     pub link-empty : (z : ℕ) → z ≡ word w (6 * i + 3) → z ≡ 0 → LinkedStep w q n i x v n
     link-empty z ez h = record {
-      link = rw ev (word-put-same w (7 * q + i) r (omega (arith, p .low, p .room))) ∙ er ∙ rw ek;
+      link = rw ev (word-put-same w (7 * q + 2 * i) r (omega (arith, p .low, p .room))) ∙ er ∙ rw ek;
       says = λ d. absurd (d (sym ez ∙ h));
       empty = λ d k. lookup-agree v w (3 * q) n k (λ j a b. below j (omega (arith, p .opens .enter .stands .rows)));
       indexed = link-open .enter .indexed;
       most = omega arith;
-      front = rw ev (front-put (4 * (3 * q)) w (7 * q + i) r (omega arith));
+      front = rw ev (front-put (4 * (3 * q)) w (7 * q + 2 * i) r (omega arith));
       beyond = λ j a h. off j h;
       size = size-v;
     }
@@ -77,12 +77,12 @@ module _ (w : List ℕ) (q n i x : ℕ) (p : LinkStep w q n i) where
     pub link-stepped : (z : ℕ) → z ≡ word w (6 * i + 3) → (z ≡ 0 → ⊥) → (y : ℕ) → y ≡ i + 1 → (u : List ℕ) (c : ℕ) → Entered v (indexOf q) n key y 0 u c → LinkedStep w q n i x u c
     unfolding upd
     link-stepped z ez nz y ey u c e = record {
-      link = e .beyond (7 * q + i) (omega (arith, p .opens .enter .stands .rows)) ∙ rw ev (word-put-same w (7 * q + i) r (omega (arith, p .low, p .room))) ∙ er ∙ rw ek;
+      link = e .beyond (7 * q + 2 * i) (omega (arith, p .opens .enter .stands .rows)) ∙ rw ev (word-put-same w (7 * q + 2 * i) r (omega (arith, p .low, p .room))) ∙ er ∙ rw ek;
       empty = λ d. absurd (nz (ez ∙ d));
       says = λ d k. e .stored .says k ∙ rw (ey, ek) (upd-agree k);
       indexed = e .indexed;
       most = e .stored .most;
-      front = front-then (4 * (3 * q)) u v w (e .stored .front) (rw ev (front-put (4 * (3 * q)) w (7 * q + i) r (omega arith)));
+      front = front-then (4 * (3 * q)) u v w (e .stored .front) (rw ev (front-put (4 * (3 * q)) w (7 * q + 2 * i) r (omega arith)));
       beyond = λ j a h. e .beyond j (omega (arith, p .opens .enter .stands .rows)) ∙ off j h;
       size = e .stored .size ∙ size-v;
     } where
@@ -101,7 +101,7 @@ pub record Linking (w₀ : List ℕ) (q count : ℕ) (w : List ℕ) (n i : ℕ) 
   pub front : Front (4 * (3 * q)) w w₀
   pub indexed : Indexed w (indexOf q) n
   pub heads : (k : ℕ) → nextIn (suc count) (lookup w (3 * q) n k) ≡ suc (soonest (tagAt w₀ k) k i (count - i))
-  pub links : (j : ℕ) → i ≤ j → j < count → word w (7 * q + j) ≡ suc (soonest (tagAt w₀ (keyIn w₀ j)) (keyIn w₀ j) (suc j) (count - suc j))
+  pub links : (j : ℕ) → i ≤ j → j < count → word w (7 * q + 2 * j) ≡ suc (soonest (tagAt w₀ (keyIn w₀ j)) (keyIn w₀ j) (suc j) (count - suc j))
 
 next-upd : (x k : ℕ) (s : ℕ → Slot) (y z j : ℕ) → nextIn x (upd s k (some y z) j) ≡ cond (eqb k j) y (nextIn x (s j))
 unfolding nextIn upd
@@ -168,7 +168,7 @@ module _ (w₀ : List ℕ) (q count : ℕ) (g : LinkRoom w₀ q count) where
           ap (nextIn (suc count)) (s .says z k) ∙ next-upd (suc count) (word w (6 * (i - 1))) (lookup w (3 * q) n) (i - 1 + 1) 0 k
           ∙ rw (own, v .heads k, b) (cond-suc (eqb (word w₀ (6 * (i - 1))) k) (i - 1) (soonest (tagAt w₀ k) k i (count - i)) ∙ ap suc (rw t at (next-is k))))
 
-      link-is : word u (7 * q + (i - 1)) ≡ suc (soonest (tagAt w₀ (keyIn w₀ (i - 1))) (keyIn w₀ (i - 1)) (suc (i - 1)) (count - suc (i - 1)))
+      link-is : word u (7 * q + 2 * (i - 1)) ≡ suc (soonest (tagAt w₀ (keyIn w₀ (i - 1))) (keyIn w₀ (i - 1)) (suc (i - 1)) (count - suc (i - 1)))
       link-is =
           let b : suc (i - 1) ≡ i = omega arith in
           let c : x ≡ suc count = omega (arith, ex) in
@@ -184,7 +184,7 @@ module _ (w₀ : List ℕ) (q count : ℕ) (g : LinkRoom w₀ q count) where
         heads = head-is;
         links = λ j lo hi. split≡ j (i - 1)
             (λ e. rw e link-is)
-            (λ e. s .beyond (7 * q + j) (omega arith) (λ z. e (omega arith)) ∙ v .links j (more j lo e) hi);
+            (λ e. s .beyond (7 * q + 2 * j) (omega arith) (λ z. e (omega arith)) ∙ v .links j (more j lo e) hi);
       }
 
   pub linking-end : (w : List ℕ) (n i : ℕ) → Linking w₀ q count w n i → i ≤ 0 → LinkedTo w₀ q count w

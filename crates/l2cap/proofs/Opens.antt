@@ -88,17 +88,17 @@ module _ (start : ℕ) (o : Open) (i n : ℕ) where
   unfolding grown longer
   grown-more h a g e = rw (ne-eqb start 1 h, e)
 
-pub arrive-small : (w : List ℕ) (q live i : ℕ) → Arrive w q live i → (key x n : ℕ) (o : Open) → key ≡ word w (6 * i) → o ≡ openAt w (3 * q) live key → x ≡ word w (6 * i + 3) → n ≡ x → Small o n
+pub arrive-small : (w : List ℕ) (q live i : ℕ) → Arrive w q live i → (key n : ℕ) (o : Open) → key ≡ word w (6 * i) → o ≡ openAt w (3 * q) live key → n ≡ word w (6 * i + 3) → Small o n
 unfolding openAt
-arrive-small w q live i pre key x n o ke oe xe ne = record {
+arrive-small w q live i pre key n o ke oe ne = record {
   small = λ a g e.
       let h : second (lookup w (3 * q) live key) ≡ g = as-got (lookup w (3 * q) live key) a g (sym oe ∙ e) in
       omega (arith, second-le w (3 * q) live key, pre .sums);
 }
 
-pub arrive-is : (w : List ℕ) (b live i key start x n : ℕ) (o r : Open) → key ≡ word w (6 * i) → start ≡ word w (6 * i + 1) → x ≡ word w (6 * i + 3) → n ≡ x → o ≡ openAt w b live key → r ≡ grown start o i n → r ≡ nextAt w b live i
+pub arrive-is : (w : List ℕ) (b live i key start n : ℕ) (o r : Open) → key ≡ word w (6 * i) → start ≡ word w (6 * i + 1) → n ≡ word w (6 * i + 3) → o ≡ openAt w b live key → r ≡ grown start o i n → r ≡ nextAt w b live i
 unfolding nextAt
-arrive-is w b live i key start x n o r ke se xe ne oe e = e ∙ rw (oe, ne, xe, se, ke)
+arrive-is w b live i key start n o r ke se ne oe e = e ∙ rw (oe, ne, se, ke)
 
 -- ---- what the next state says of the present one
 

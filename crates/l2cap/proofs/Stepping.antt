@@ -21,11 +21,11 @@ use Rattle.l2cap.specs.Pdus.{joined, isComplete, stillOpen, completed}
 use Rattle.l2cap.specs.PduTable.{pdusFrom, paysOf}
 use Rattle.l2cap.specs.PduFrames.{Placed, placed-agree, pdus-agree, pays-agree}
 use Rattle.l2cap.specs.Rekeyed.{putBy}
-use Rattle.l2cap.specs.Steps.{since, Walk, Need, indexOf, SetOpen, asOpen, openAt, longer, grown, nextAt, Arrive, Finish, Finished, heldOf, mapOf, Sound, Step, after, Stepped}
+use Rattle.l2cap.specs.Steps.{since, begun, Walk, Need, indexOf, SetOpen, asOpen, openAt, longer, grown, nextAt, Arrive, Finish, Finished, heldOf, mapOf, Sound, Step, after, Stepped}
 use Rattle.l2cap.specs.declared.Open.{Open}
 use Rattle.l2cap.specs.declared.Open.the-variants.{Closed, From}
 use Rattle.l2cap.specs.declared.Tables.{Tables}
-use Rattle.l2cap.proofs.Walking.{number-at, piece-own, piece-other, since-one, since-snoc, since-front}
+use Rattle.l2cap.proofs.Walking.{number-at, bytes-length, piece-own, piece-other, since-one, since-snoc, since-front}
 use Rattle.l2cap.proofs.Opens.{never, as-zero, as-pos, arrive-got, arrive-none}
 
 -- ---- what is open once a packet is read
@@ -35,10 +35,6 @@ packet-start :
     packetAt f w i ≡ record { link = packetAt f w i .link; rx = packetAt f w i .rx; start = eqb (word w (6 * i + 1)) 1; time = packetAt f w i .time; bytes = packetAt f w i .bytes }
 unfolding packetAt
 packet-start f w i = refl
-
-bytes-length : (f w : List ℕ) (i : ℕ) → word w (6 * i + 2) + word w (6 * i + 3) ≤ length f → length (packetAt f w i .bytes) ≡ word w (6 * i + 3)
-unfolding packetAt
-bytes-length f w i h = length-take-le (word w (6 * i + 3)) (drop (word w (6 * i + 2)) f) (simp length-drop (omega arith))
 
 module _ (f w : List ℕ) (b live i : ℕ) (s : Sound f w b live i) where
   held-first : some (since f w (word w (6 * i)) i (i + 1)) ≡ some (packetAt f w i .bytes)
@@ -273,8 +269,12 @@ module _ (f w : List ℕ) (q : ℕ) (t : Tables) (i : ℕ) (p : Step f w q t i) 
     step-own : word w (6 * first) ≡ word w (6 * i)
     step-own = arrive-own f w (3 * q) (t .live) i (p .ready .sound) first got e
 
-    pub step-walk : (key : ℕ) → key ≡ word w (6 * i) → Walk f w q first (i + 1) key
-    step-walk key ke = record { tabled = p .tabled; quarter = p .ready .quarter; linked = p .linked; before = omega (arith, step-first .0); own = step-own ∙ sym ke }
+    -- what the machine has at hand, from the packet that began it
+    step-begun : begun f w first (i + 1) ≡ since f w (word w (6 * i)) first (i + 1)
+    step-begun = rw step-own
+
+    pub step-walk : Walk f w q first (i + 1)
+    step-walk = record { tabled = p .tabled; quarter = p .ready .quarter; linked = p .linked; before = omega (arith, step-first .0) }
 
     held-next : some (since f w (word w (6 * i)) first (i + 1)) ≡ after f w (3 * q) (t .live) i
     unfolding heldOf
@@ -290,16 +290,15 @@ module _ (f w : List ℕ) (q : ℕ) (t : Tables) (i : ℕ) (p : Step f w q t i) 
     pub step-narrow : (first + 1 ≤ 1048576) × (got ≤ 1048576)
     step-narrow = (omega (arith, step-first .0, p .tabled .total, p .tabled .small), omega (arith, step-small, p .tabled .total, p .tabled .small))
 
-    pub step-finish : (key need : ℕ) → key ≡ word w (6 * i) → Need (since f w key first (i + 1)) got need → need ≤ got → Finish f w q (t .made) (t .top) i first need
-    step-finish key need ke ni le = record {
-      walk = step-walk (word w (6 * i)) refl;
+    pub step-finish : (need : ℕ) → Need (begun f w first (i + 1)) got need → need ≤ got → Finish f w q (t .made) (t .top) i first need
+    step-finish need ni le = record {
+      walk = step-walk;
       low = omega (arith, p .tabled .total, p .ready .quarter, p .ready .bump);
       mid = omega (arith, p .ready .ends, step-small, p .tabled .total, p .ready .quarter);
       room = omega (arith, p .ready .made, p .tabled .total, p .tabled .room, p .ready .quarter);
       small = omega (arith, p .ready .made, p .tabled .total, p .tabled .small, p .ready .quarter);
-      before = step-first .0;
-      needs = (rw ke at (ni .enough le));
-      there = omega (arith, step-first .1);
+      needs = ni .enough le;
+      there = rw step-begun (omega (arith, step-first .1));
       placed = p .ready .placed;
     }
 
@@ -322,14 +321,14 @@ module _ (f w : List ℕ) (q : ℕ) (t : Tables) (i : ℕ) (p : Step f w q t i) 
 
     -- the PDU is not complete
     pub step-hold :
-        (key need : ℕ) → key ≡ word w (6 * i) → Need (since f w key first (i + 1)) got need → got < need →
+        (key need : ℕ) → key ≡ word w (6 * i) → Need (begun f w first (i + 1)) got need → got < need →
         (x y : ℕ) → x ≡ first + 1 → y ≡ got → (u : List ℕ) (c : ℕ) → Entered w (indexOf q) (t .live) key x y u c →
         Stepped f w q t i u (record { live = c; made = t .made; top = t .top })
     unfolding heldOf stillOpen completed isComplete
     step-hold key need ke ni lt x y xe ye u c en =
         let s = step-first in
         let B : List ℕ = since f w (word w (6 * i)) first (i + 1) in
-        let cmp : leb (4 + le16 B 0) (length B) ≡ false = lt-leb (4 + le16 B 0) (length B) (let g : got < 4 + le16 B 0 = (rw ke at (ni .short lt)) in omega (arith, s .1)) in
+        let cmp : leb (4 + le16 B 0) (length B) ≡ false = lt-leb (4 + le16 B 0) (length B) (let g : got < 4 + le16 B 0 = (rw step-begun at (ni .short lt)) in omega (arith, s .1)) in
         let va : asOpen (row x y) ≡ From first got = as-pos x y (λ z. omega arith) ∙ (let z : x - 1 ≡ first = omega arith in rw (z, ye)) in
         step-row w (t .made) (t .top) (From first got) x y (record {
           front = front-refl (4 * q) w;
@@ -349,7 +348,7 @@ module _ (f w : List ℕ) (q : ℕ) (t : Tables) (i : ℕ) (p : Step f w q t i) 
 
     -- the PDU is complete
     pub step-full :
-        (key need : ℕ) → key ≡ word w (6 * i) → Need (since f w key first (i + 1)) got need → need ≤ got →
+        (key need : ℕ) → key ≡ word w (6 * i) → Need (begun f w first (i + 1)) got need → need ≤ got →
         (v : List ℕ) (top : ℕ) → Finished f w (2 * q) (t .made) (t .top) i first need v top →
         (u : List ℕ) (c : ℕ) → Entered v (indexOf q) (t .live) key 0 0 u c →
         Stepped f w q t i u (record { live = c; made = t .made + 1; top = top })
@@ -357,7 +356,7 @@ module _ (f w : List ℕ) (q : ℕ) (t : Tables) (i : ℕ) (p : Step f w q t i) 
     step-full key need ke ni le v top fin u c en =
         let s = step-first in
         let B : List ℕ = since f w (word w (6 * i)) first (i + 1) in
-        let nb : need ≡ 4 + le16 B 0 = (rw ke at (ni .enough le)) in
+        let nb : need ≡ 4 + le16 B 0 = (rw step-begun at (ni .enough le)) in
         let cmp : leb (4 + le16 B 0) (length B) ≡ true = le-leb (4 + le16 B 0) (length B) (omega (arith, s .1)) in
         step-row v (t .made + 1) top Closed 0 0 (record {
           front = front-less (4 * q) (t .top) v w (p .ready .bump) (fin .front);
@@ -371,6 +370,6 @@ module _ (f w : List ℕ) (q : ℕ) (t : Tables) (i : ℕ) (p : Step f w q t i) 
           counted = λ a g z. never z;
           own = λ a g z. never z;
           beyond = λ j h. fin .above j (omega (arith, h, p .ready .made, p .tabled .total, p .ready .quarter));
-          list = fin .list ∙ rw (← held-next, cmp);
+          list = fin .list ∙ rw (step-begun, ← held-next, cmp);
           held = rw (← held-next, cmp);
         }) (as-zero 0 0 refl) key ke u c en

@@ -1,5 +1,5 @@
--- Packets in buckets by their keys: one word for each packet, from word 7 * q on, says which packet of its bucket comes next.
--- The words hold the number plus one, and the count of packets stands for none.
+-- Packets of one key, linked: two words for each packet, from word 7 * q on. The first says which packet with its key comes next,
+-- of those that bring bytes: its number plus one, and the count of packets stands for none.
 use mathlib.Core.Path.{_≡_, refl, sym, ap, _∙_}
 use mathlib.Core.List.{List}
 use mathlib.Core.Bool.{Bool, true, false, cond}
@@ -70,7 +70,7 @@ pub record Linked (w : List ℕ) (q upto : ℕ) : Type 0 where
   pub count : ℕ
   pub most : upto ≤ count
   pub low : 6 * count ≤ q
-  pub next : (i : ℕ) → i < count → word w (7 * q + i) ≡ suc (soonest (tagAt w (word w (6 * i))) (word w (6 * i)) (suc i) (count - suc i))
+  pub next : (i : ℕ) → i < count → word w (7 * q + 2 * i) ≡ suc (soonest (tagAt w (word w (6 * i))) (word w (6 * i)) (suc i) (count - suc i))
 
 pub linked-less : (w : List ℕ) (q m n : ℕ) → m ≤ n → Linked w q n → Linked w q m
 linked-less w q m n h l = record { count = l .count; most = omega (arith, l .most); low = l .low; next = l .next }
@@ -83,7 +83,7 @@ linked-agree u w q n a b l = record {
   most = l .most;
   low = l .low;
   next = λ i h.
-      b (7 * q + i) (omega arith) ∙ l .next i h
+      b (7 * q + 2 * i) (omega arith) ∙ l .next i h
       ∙ ap suc (rw (a (6 * i) (omega (arith, l .low))) (soonest-agree (tagAt w (word w (6 * i))) (tagAt u (word w (6 * i))) (word w (6 * i)) (suc i) (l .count - suc i) (λ j lo hi. tag-agree (word w (6 * i)) j (omega (arith, l .low)))));
 } where
   tag-agree : (h j : ℕ) → 6 * j + 6 ≤ q → tagAt w h j ≡ tagAt u h j
@@ -93,8 +93,8 @@ linked-agree u w q n a b l = record {
 
 -- the link of packet i can be read
 pub record Next (w : List ℕ) (q i : ℕ) : Type 0 where
-  pub room : 4 * (7 * q + i) + 4 ≤ length w
-  pub some : 0 < word w (7 * q + i)
+  pub room : 4 * (7 * q + 2 * i) + 4 ≤ length w
+  pub some : 0 < word w (7 * q + 2 * i)
 
 -- room to link the packets, with a table of their keys from word 3 * q on
 pub record LinkRoom (w : List ℕ) (q count : ℕ) : Type 0 where

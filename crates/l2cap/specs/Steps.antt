@@ -41,23 +41,23 @@ gathered k (p ∷ ps) = pieceOf k p ++ gathered k ps
 unfoldable pub since : List ℕ → List ℕ → ℕ → ℕ → ℕ → List ℕ
 since f w k first upto = gathered k (packetsFrom f w first (upto - first))
 
-unfoldable pub brought : List ℕ → ℕ → ℕ → ℕ
-brought w k i = cond (eqb (word w (6 * i)) k) (word w (6 * i + 3)) 0
+-- what the key of packet first has from there on
+abbrev pub begun : List ℕ → List ℕ → ℕ → ℕ → List ℕ
+begun f w first upto = since f w (word w (6 * first)) first upto
 
--- the packets are linked, and the first has the key
-pub record Walk (f w : List ℕ) (q first upto key : ℕ) : Type 0 where
+-- the packets are linked
+pub record Walk (f w : List ℕ) (q first upto : ℕ) : Type 0 where
   pub tabled : Tabled f w upto
   pub quarter : q ≡ length f / 4
   pub linked : Linked w q upto
-  pub before : first ≤ upto
-  pub own : word w (6 * first) ≡ key
+  pub before : first < upto
 
 pub record Paste (f w : List ℕ) (i left to : ℕ) : Type 0 where
   pub tabled : Tabled f w (i + 1)
   pub room : to + left ≤ length w
 
-pub record Gather (f w : List ℕ) (q first upto key need to : ℕ) : Type 0 where
-  pub walk : Walk f w q first upto key
+pub record Gather (f w : List ℕ) (q first upto need to : ℕ) : Type 0 where
+  pub walk : Walk f w q first upto
   pub low : 24 * upto ≤ to
   pub high : to + need ≤ 28 * q
   pub room : to + need ≤ length w
@@ -125,18 +125,17 @@ pub record PutPdu (w : List ℕ) (at s l : ℕ) : Type 0 where
   pub len : l < 4294967296
 
 pub record Finish (f w : List ℕ) (q made top i first need : ℕ) : Type 0 where
-  pub walk : Walk f w q first (i + 1) (word w (6 * i))
+  pub walk : Walk f w q first (i + 1)
   pub low : 24 * i + 24 ≤ top
   pub mid : top + need ≤ 4 * (2 * q)
   pub room : 4 * (2 * q + 7 * made) + 28 ≤ length w
   pub small : 2 * q + 7 * made ≤ 16777216
-  pub before : first ≤ i
-  pub needs : need ≡ 4 + le16 (since f w (word w (6 * i)) first (i + 1)) 0
-  pub there : need ≤ length (since f w (word w (6 * i)) first (i + 1))
+  pub needs : need ≡ 4 + le16 (begun f w first (i + 1)) 0
+  pub there : need ≤ length (begun f w first (i + 1))
   pub placed : Placed f w (2 * q) made top
 
 pub record Finished (f w : List ℕ) (b made top i first need : ℕ) (u : List ℕ) (r : ℕ) : Type 0 where
-  pub list : pdusFrom f u b 0 (made + 1) ≡ pdusFrom f w b 0 made ++ (pduOf (since f w (word w (6 * i)) first (i + 1)) (packetAt f w i) ∷ [])
+  pub list : pdusFrom f u b 0 (made + 1) ≡ pdusFrom f w b 0 made ++ (pduOf (begun f w first (i + 1)) (packetAt f w i) ∷ [])
   pub placed : Placed f u b (made + 1) r
   pub pays : paysOf u b (made + 1) + 4 ≡ paysOf w b made + need
   pub front : Front top u w
@@ -209,11 +208,11 @@ pub record LinkStep (w : List ℕ) (q rows i : ℕ) : Type 0 where
 
 -- packet i is linked to what the table says of its key; if it brings bytes, the table then says i
 pub record LinkedStep (w : List ℕ) (q rows i x : ℕ) (u : List ℕ) (r : ℕ) : Type 0 where
-  pub link : word u (7 * q + i) ≡ nextIn x (lookup w (3 * q) rows (word w (6 * i)))
+  pub link : word u (7 * q + 2 * i) ≡ nextIn x (lookup w (3 * q) rows (word w (6 * i)))
   pub says : (word w (6 * i + 3) ≡ 0 → ⊥) → (k : ℕ) → lookup u (3 * q) r k ≡ upd (lookup w (3 * q) rows) (word w (6 * i)) (some (i + 1) 0) k
   pub empty : word w (6 * i + 3) ≡ 0 → (k : ℕ) → lookup u (3 * q) r k ≡ lookup w (3 * q) rows k
   pub indexed : Indexed u (indexOf q) r
   pub most : r ≤ rows + 1
   pub front : Front (4 * (3 * q)) u w
-  pub beyond : (j : ℕ) → 7 * q ≤ j → (7 * q + i ≡ j → ⊥) → word u j ≡ word w j
+  pub beyond : (j : ℕ) → 7 * q ≤ j → (7 * q + 2 * i ≡ j → ⊥) → word u j ≡ word w j
   pub size : length u ≡ length w

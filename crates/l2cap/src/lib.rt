@@ -12,7 +12,7 @@ ghost use Rattle.l2cap.specs.Pdus.{pdus};
 ghost use Rattle.l2cap.specs.PduTable.{pduAt, Reassembled};
 ghost use Rattle.l2cap.specs.PduFrames.{Lent};
 ghost use Rattle.l2cap.specs.Links.{Next, LinkRoom, LinkedTo, nextIn};
-ghost use Rattle.l2cap.specs.Steps.{pieceOf, since, brought, Walk, Paste, Gather, Need, indexOf, openAt, grown, nextAt, Small, Look, SetOpen, Arrive, putPdu, PutPdu, Finish, Finished, Step, Stepped, Run, LinkStep, LinkedStep};
+ghost use Rattle.l2cap.specs.Steps.{begun, Walk, Paste, Gather, Need, indexOf, openAt, grown, nextAt, Small, Look, SetOpen, Arrive, putPdu, PutPdu, Finish, Finished, Step, Stepped, Run, LinkStep, LinkedStep};
 use table::Row;
 use tree::Tree;
 use tree::enter;
@@ -37,36 +37,41 @@ pub struct Tables {
     pub top: usize,
 }
 
-// The number of bytes that packet i brings to the key.
-fn brings(w: &[u8], i: usize, key: u32) -> usize
+// The number of bytes of packet i.
+fn len_of(w: &[u8], i: usize) -> usize
     requires { ⌜ 24 * i + 24 ≤ length (now w) ⌝ }
-    ensures { λ r. ⌜ r ≡ brought (now (w .entry)) key i ⌝ }
+    ensures { λ r. ⌜ r ≡ word (now (w .entry)) (6 * i + 3) ⌝ }
 {
-    if get32(w, 6 * i) == key {
-        return wide32(get32(w, 6 * i + 3));
-    }
-    0
+    wide32(get32(w, 6 * i + 3))
 }
 
-// The next packet of the bucket of packet i; the count of packets if there is none.
+// Where they start in the file.
+fn place_of(w: &[u8], i: usize) -> usize
+    requires { ⌜ 24 * i + 24 ≤ length (now w) ⌝ }
+    ensures { λ r. ⌜ r ≡ word (now (w .entry)) (6 * i + 2) ⌝ }
+{
+    wide32(get32(w, 6 * i + 2))
+}
+
+// The next packet with the key of packet i that has bytes; the count of packets if there is none.
 fn later(w: &[u8], q: usize, i: usize) -> usize
     requires { ⌜ Next (now w) q i ⌝ }
-    ensures { λ r. ⌜ word (now (w .entry)) (7 * q + i) ≡ r + 1 ⌝ }
+    ensures { λ r. ⌜ word (now (w .entry)) (7 * q + 2 * i) ≡ r + 1 ⌝ }
 {
-    wide32(get32(w, 7 * q + i)) - 1
+    wide32(get32(w, 7 * q + 2 * i)) - 1
 }
 
-// The byte number at of what the key has from the packets first .. upto - 1; 0 if it is not there.
-fn byte_of(file: &[u8], w: &[u8], q: usize, first: usize, upto: usize, key: u32, at: usize) -> u8
-    requires { ⌜ Walk (now file) (now w) q first upto key ⌝ }
-    ensures { λ r. ⌜ r ≡ getD (since (now (file .entry)) (now (w .entry)) key first upto) at 0 ⌝ }
+// The byte number at of what the key of packet first has from the packets first .. upto - 1; 0 if it is not there.
+fn byte_of(file: &[u8], w: &[u8], q: usize, first: usize, upto: usize, at: usize) -> u8
+    requires { ⌜ Walk (now file) (now w) q first upto ⌝ }
+    ensures { λ r. ⌜ r ≡ getD (begun (now (file .entry)) (now (w .entry)) first upto) at 0 ⌝ }
 {
     let mut i = first;
     let mut j = at;
     while i < upto {
-        let n = brings(w, i, key);
+        let n = len_of(w, i);
         if j < n {
-            let s = wide32(get32(w, 6 * i + 2));
+            let s = place_of(w, i);
             return file[s + j];
         }
         j -= n;
@@ -82,26 +87,30 @@ fn pair(a: u8, b: u8) -> u32
     (a as u32) + 256 * (b as u32)
 }
 
-// The 16-bit number at a place of what the key has: it may be split over fragments.
-fn half(file: &[u8], w: &[u8], q: usize, first: usize, upto: usize, key: u32, at: usize) -> u32
-    requires { ⌜ (Walk (now file) (now w) q first upto key) × (at < 4) ⌝ }
-    ensures { λ r. ⌜ (r ≡ le16 (since (now (file .entry)) (now (w .entry)) key first upto) at) × (r < 65536) ⌝ }
+// The 16-bit number at a place of what the key has. It may be split over fragments, and nearly always lies in the first.
+fn half(file: &[u8], w: &[u8], q: usize, first: usize, upto: usize, at: usize) -> u32
+    requires { ⌜ (Walk (now file) (now w) q first upto) × (at < 4) ⌝ }
+    ensures { λ r. ⌜ (r ≡ le16 (begun (now (file .entry)) (now (w .entry)) first upto) at) × (r < 65536) ⌝ }
 {
+    if at + 2 <= len_of(w, first) {
+        let s = place_of(w, first) + at;
+        return pair(file[s], file[s + 1]);
+    }
     pair(
-        byte_of(file, w, q, first, upto, key, at),
-        byte_of(file, w, q, first, upto, key, at + 1),
+        byte_of(file, w, q, first, upto, at),
+        byte_of(file, w, q, first, upto, at + 1),
     )
 }
 
 // How many bytes make the PDU complete. With fewer than 4 its length is not there, and no packet is walked for it.
-fn needed(file: &[u8], w: &[u8], q: usize, first: usize, upto: usize, key: u32, got: usize) -> usize
-    requires { ⌜ Walk (now file) (now w) q first upto key ⌝ }
-    ensures { λ r. ⌜ Need (since (now (file .entry)) (now (w .entry)) key first upto) got r ⌝ }
+fn needed(file: &[u8], w: &[u8], q: usize, first: usize, upto: usize, got: usize) -> usize
+    requires { ⌜ Walk (now file) (now w) q first upto ⌝ }
+    ensures { λ r. ⌜ Need (begun (now (file .entry)) (now (w .entry)) first upto) got r ⌝ }
 {
     if got < 4 {
         return 4;
     }
-    4 + wide32(half(file, w, q, first, upto, key, 0))
+    4 + wide32(half(file, w, q, first, upto, 0))
 }
 
 fn least(a: usize, b: usize) -> usize
@@ -122,13 +131,13 @@ fn part(s: &[u8], a: usize, n: usize) -> &[u8]
     &s[a..e]
 }
 
-// Stores what packet i brings to the key, left bytes of it at most, and returns the place after it.
-fn paste(file: &[u8], w: &mut [u8], i: usize, key: u32, left: usize, to: usize) -> usize
+// Stores the bytes of packet i, left of them at most, and returns the place after them.
+fn paste(file: &[u8], w: &mut [u8], i: usize, left: usize, to: usize) -> usize
     requires { ⌜ Paste (now file) (now w) i left to ⌝ }
-    ensures { λ r. ⌜ Writes (now (w .entry)) to (take left (pieceOf key (packetAt (now (file .entry)) (now (w .entry)) i))) r (now (w .exit)) ⌝ }
+    ensures { λ r. ⌜ Writes (now (w .entry)) to (take left (packetAt (now (file .entry)) (now (w .entry)) i .bytes)) r (now (w .exit)) ⌝ }
 {
-    let n = least(brings(w, i, key), left);
-    let s = wide32(get32(w, 6 * i + 2));
+    let n = least(len_of(w, i), left);
+    let s = place_of(w, i);
     copy_to(part(file, s, n), w, to)
 }
 
@@ -139,18 +148,17 @@ fn gather(
     q: usize,
     first: usize,
     upto: usize,
-    key: u32,
     need: usize,
     to: usize,
 ) -> usize
-    requires { ⌜ Gather (now file) (now w) q first upto key need to ⌝ }
-    ensures { λ r. ⌜ Writes (now (w .entry)) to (take need (since (now (file .entry)) (now (w .entry)) key first upto)) r (now (w .exit)) ⌝ }
+    requires { ⌜ Gather (now file) (now w) q first upto need to ⌝ }
+    ensures { λ r. ⌜ Writes (now (w .entry)) to (take need (begun (now (file .entry)) (now (w .entry)) first upto)) r (now (w .exit)) ⌝ }
 {
     let end = to + need;
     let mut i = first;
     let mut pos = to;
     while i < upto {
-        pos = paste(file, w, i, key, end - pos, pos);
+        pos = paste(file, w, i, end - pos, pos);
         i = later(w, q, i);
     }
     pos
@@ -230,7 +238,7 @@ fn arrive(w: &[u8], q: usize, live: usize, i: usize) -> Open
 {
     let key = get32(w, 6 * i);
     let start = get32(w, 6 * i + 1);
-    let n = wide32(get32(w, 6 * i + 3));
+    let n = len_of(w, i);
     let o = look(w, q, live, key);
     fragment(o, start, i, n)
 }
@@ -272,14 +280,14 @@ fn finish(
     ensures { λ r. ⌜ Finished (now (file .entry)) (now (w .entry)) (2 * q) made top i first need (now (w .exit)) r ⌝ }
 {
     let key = get32(w, 6 * i);
-    let cid = half(file, w, q, first, i + 1, key, 2);
+    let cid = half(file, w, q, first, i + 1, 2);
     let time = get64(w, 6 * i + 4);
     if first == i {
-        let s = wide32(get32(w, 6 * i + 2));
+        let s = place_of(w, i);
         put_pdu(w, 2 * q + 7 * made, key, cid, 0, s + 4, need - 4, time);
         return top;
     }
-    let end = gather(file, w, q, first, i + 1, key, need, top);
+    let end = gather(file, w, q, first, i + 1, need, top);
     put_pdu(w, 2 * q + 7 * made, key, cid, 1, top + 4, need - 4, time);
     end
 }
@@ -297,7 +305,7 @@ fn step(file: &[u8], w: &mut [u8], q: usize, t: Tables, i: usize) -> Tables
     let Open::From(first, got) = next else {
         return t;
     };
-    let need = needed(file, w, q, first, i + 1, key, got);
+    let need = needed(file, w, q, first, i + 1, got);
     if need <= got {
         let end = finish(file, w, q, made, top, i, first, need);
         let rows = set_open(w, q, live, key, 0, 0);
@@ -337,7 +345,7 @@ fn link_row(w: &mut [u8], q: usize, rows: usize, i: usize, none: u32) -> usize
     let key = get32(w, 6 * i);
     let n = get32(w, 6 * i + 3);
     let next = next_of(w, q, rows, key, none);
-    put32(w, 7 * q + i, next);
+    put32(w, 7 * q + 2 * i, next);
     if n == 0 {
         return rows;
     }
