@@ -80,6 +80,9 @@ module _ (f w : List ℕ) (q made top i first need : ℕ) (pre : Finish f w q ma
     len = omega (arith, pre .mid, pre .small);
   }
 
+  pub single-fits : (s : ℕ) → s ≡ word w (6 * i + 2) → s + 4 < 18446744073709551616
+  single-fits s e = omega (arith, pre .walk .tabled .fits .fits i (omega arith), pre .walk .tabled .small)
+
   pub finish-file :
       (key c s t : ℕ) → key ≡ word w (6 * i) → ((c ≡ le16 (begun f w first (i + 1)) 2) × (c < 65536)) → t ≡ long w (6 * i + 4) → first ≡ i → s ≡ word w (6 * i + 2) →
       (u : List ℕ) → u ≡ putPdu w (2 * q + 7 * made) key c 0 (s + 4) (need - 4) t → Finished f w (2 * q) made top i first need u top

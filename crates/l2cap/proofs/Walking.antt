@@ -148,8 +148,8 @@ module _ (f w : List ℕ) (q first upto at : ℕ) (pre : Walk f w q first upto) 
     pub seek-next : i < upto → Next w q i
     seek-next h = record { room = omega (arith, pre .quarter, pre .tabled .total, pre .tabled .room); some = link-some w q upto (pre .linked) i h }
 
-    pub seek-more : i < upto → (r : ℕ) → word w (7 * q + 2 * i) ≡ r + 1 → i < r
-    seek-more h r e = link-more w q upto (pre .linked) i r h e
+    pub seek-less : i < upto → (r : ℕ) → word w (7 * q + 2 * i) ≡ r + 1 → upto - r < upto - i
+    seek-less h r e = omega (arith, link-more w q upto (pre .linked) i r h e)
 
     fit : i < upto → word w (6 * i + 2) + word w (6 * i + 3) ≤ length f
     fit h = pre .tabled .fits .fits i h
@@ -170,6 +170,9 @@ module _ (f w : List ℕ) (q first upto at : ℕ) (pre : Walk f w q first upto) 
     pub seek-inside : (n r : ℕ) → n ≡ word w (6 * i + 3) → i < upto → j < n → r ≡ word w (6 * i + 2) → r + j < length f
     seek-inside n r e h l p = omega (arith, fit h)
 
+    pub seek-fits : (n r : ℕ) → n ≡ word w (6 * i + 3) → i < upto → j < n → r ≡ word w (6 * i + 2) → r + j < 18446744073709551616
+    seek-fits n r e h l p = omega (arith, seek-inside n r e h l p, pre .tabled .small)
+
     pub seek-here : (n r : ℕ) → n ≡ word w (6 * i + 3) → i < upto → j < n → r ≡ word w (6 * i + 2) → getD f (r + j) 0 ≡ getD (begun f w first upto) at 0
     seek-here n r e h l p = rw p (sym (byte-here f w (word w (6 * first)) i upto j h (s .mine h) (fit h) (omega arith)) ∙ s .same)
 
@@ -183,6 +186,15 @@ module _ (f w : List ℕ) (q first upto at : ℕ) (pre : Walk f w q first upto) 
 
   pub half-inside : s + at + 1 < length f
   half-inside = omega (arith, fit₀)
+
+  pub half-first : s + at < length f
+  half-first = omega (arith, half-inside)
+
+  pub half-fits : s + at < 18446744073709551616
+  half-fits = omega (arith, half-inside, pre .tabled .small)
+
+  pub half-next : s + at + 1 < 18446744073709551616
+  half-next = omega (arith, half-inside, pre .tabled .small)
 
   pub half-here : (r : ℕ) → ((r ≡ getD f (s + at) 0 + 256 * getD f (s + at + 1) 0) × (r < 65536)) → ((r ≡ le16 (begun f w first upto) at) × (r < 65536))
   unfolding le16
@@ -201,12 +213,12 @@ take-min a b l =
     (λ h. let z : min b a ≡ a = omega arith in rw z (take-take a b l h))
     (λ h. let z : min b a ≡ b = omega arith in rw z (take-all a (take b l) (simp length-take (omega arith))))
 
+pub paste-room : (f w : List ℕ) (i left to : ℕ) → Paste f w i left to → (b n s : ℕ) → n ≡ min b left → (p : List ℕ) → p ≡ take n (drop s f) → to + length p ≤ length w
+paste-room f w i left to pre b n s ne p e = rw e (simp length-take (omega (arith, pre .room)))
+
 module _ (f w : List ℕ) (i left to : ℕ) (pre : Paste f w i left to) (b n s : ℕ) (be : b ≡ word w (6 * i + 3)) (ne : n ≡ min b left) (se : s ≡ word w (6 * i + 2)) where
   pub paste-part : s + n ≤ length f
   paste-part = omega (arith, pre .tabled .fits .fits i (omega arith))
-
-  pub paste-room : (p : List ℕ) → p ≡ take n (drop s f) → to + length p ≤ length w
-  paste-room p e = rw e (simp length-take (omega (arith, pre .room)))
 
   pub paste-is : (p : List ℕ) → p ≡ take n (drop s f) → (r : ℕ) (u : List ℕ) → Writes w to p r u → Writes w to (take left (packetAt f w i .bytes)) r u
   paste-is p e r u v =
@@ -277,8 +289,8 @@ module _ (f w₀ : List ℕ) (q first upto need to : ℕ) (pre : Gather f w₀ q
       }
 
       module _ (x : ℕ) (e : word u (7 * q + 2 * i) ≡ x + 1) where
-        pub gather-more : i < x
-        gather-more = link-more w₀ q upto (pre .walk .linked) i x h (sym link₁ ∙ e)
+        pub gather-less : upto - x < upto - i
+        gather-less = omega (arith, link-more w₀ q upto (pre .walk .linked) i x h (sym link₁ ∙ e))
 
         pub gather-turn : Gathering f w₀ q first upto need to u x r
         gather-turn =
