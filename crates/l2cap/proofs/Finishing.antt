@@ -18,7 +18,7 @@ use Rattle.btsnoop.specs.PacketTable.{packetAt}
 use Rattle.l2cap.specs.Pdus.{Pdu, pduOf}
 use Rattle.l2cap.specs.PduTable.{pduAt, pdusFrom, paysOf, Inside}
 use Rattle.l2cap.specs.PduFrames.{Placed, pdus-snoc, pays-next, placed-agree, pdus-agree, pays-agree}
-use Rattle.l2cap.specs.Steps.{since, Walk, Gather, putPdu, PutPdu, Finish, Finished}
+use Rattle.l2cap.specs.Steps.{begun, Gather, putPdu, PutPdu, Finish, Finished}
 use Rattle.l2cap.proofs.Walking.{since-one, piece-own, word-behind}
 use Rattle.l2cap.proofs.Rows.{row-outside, row-length, row-front, row-len, row-new, row-inside}
 
@@ -59,47 +59,46 @@ part-sets vs l at a m h g =
     ∙ take-append-le m (drop a vs) (drop (at + length vs) l) (simp length-drop (omega arith))
 
 module _ (f w : List ℕ) (q made top i first need : ℕ) (pre : Finish f w q made top i first need) where
-  pub finish-walk : (key : ℕ) → key ≡ word w (6 * i) → Walk f w q first (i + 1) key
-  finish-walk key e = rw e (pre .walk)
-
-  pub finish-gather : (key : ℕ) → key ≡ word w (6 * i) → Gather f w q first (i + 1) key need top
-  finish-gather key e = record { walk = finish-walk key e; low = omega (arith, pre .low); high = omega (arith, pre .mid); room = omega (arith, pre .mid, pre .room) }
+  pub finish-gather : Gather f w q first (i + 1) need top
+  finish-gather = record { walk = pre .walk; low = omega (arith, pre .low); high = omega (arith, pre .mid); room = omega (arith, pre .mid, pre .room) }
 
   -- ---- a single fragment: the payload stays in the file
 
-  since-single : first ≡ i → since f w (word w (6 * i)) first (i + 1) ≡ take (word w (6 * i + 3)) (drop (word w (6 * i + 2)) f)
+  since-single : first ≡ i → begun f w first (i + 1) ≡ take (word w (6 * i + 3)) (drop (word w (6 * i + 2)) f)
   unfolding packetAt
   since-single e = rw e (since-one f w (word w (6 * i)) i ∙ piece-own f w (word w (6 * i)) i refl)
 
-  single-length : first ≡ i → length (since f w (word w (6 * i)) first (i + 1)) ≡ word w (6 * i + 3)
+  single-length : first ≡ i → length (begun f w first (i + 1)) ≡ word w (6 * i + 3)
   single-length e =
       rw (since-single e)
       (length-take-le (word w (6 * i + 3)) (drop (word w (6 * i + 2)) f) (simp length-drop (omega (arith, pre .walk .tabled .fits .fits i (omega arith)))))
 
-  pub single-put : (x s : ℕ) → first ≡ i → x ≡ word w (6 * i + 2) → s ≡ x → PutPdu w (2 * q + 7 * made) (s + 4) (need - 4)
-  single-put x s e xe se = record {
+  pub single-put : (s : ℕ) → first ≡ i → s ≡ word w (6 * i + 2) → PutPdu w (2 * q + 7 * made) (s + 4) (need - 4)
+  single-put s e se = record {
     room = pre .room;
     start = omega (arith, single-length e, pre .there, pre .needs, pre .walk .tabled .fits .fits i (omega arith), pre .walk .tabled .small);
     len = omega (arith, pre .mid, pre .small);
   }
 
+  pub single-fits : (s : ℕ) → s ≡ word w (6 * i + 2) → s + 4 < 18446744073709551616
+  single-fits s e = omega (arith, pre .walk .tabled .fits .fits i (omega arith), pre .walk .tabled .small)
+
   pub finish-file :
-      (key c x s t : ℕ) → key ≡ word w (6 * i) → ((c ≡ le16 (since f w key first (i + 1)) 2) × (c < 65536)) → t ≡ long w (6 * i + 4) → first ≡ i → x ≡ word w (6 * i + 2) → s ≡ x →
+      (key c s t : ℕ) → key ≡ word w (6 * i) → ((c ≡ le16 (begun f w first (i + 1)) 2) × (c < 65536)) → t ≡ long w (6 * i + 4) → first ≡ i → s ≡ word w (6 * i + 2) →
       (u : List ℕ) → u ≡ putPdu w (2 * q + 7 * made) key c 0 (s + 4) (need - 4) t → Finished f w (2 * q) made top i first need u top
   unfolding packetAt pduOf
-  finish-file key c x s t ke ce te fe xe se u e =
-      let B : List ℕ = since f w (word w (6 * i)) first (i + 1) in
+  finish-file key c s t ke ce te fe se u e =
+      let B : List ℕ = begun f w first (i + 1) in
       let l3 : length B ≡ word w (6 * i + 3) = single-length fe in
       let m : need - 4 ≡ le16 B 0 = omega (arith, pre .needs) in
       let pay : take (need - 4) (drop (s + 4) f) ≡ take (le16 B 0) (drop 4 B) =
-      rw (m, se, xe)
+      rw (m, se)
       (ap (take (le16 B 0)) (sym (drop-drop 4 (word w (6 * i + 2)) f))
       ∙ part-take 4 (le16 B 0) (word w (6 * i + 3)) (drop (word w (6 * i + 2)) f) (omega (arith, pre .needs, pre .there))
       ∙ ap (λ (l : List ℕ). take (le16 B 0) (drop 4 l)) (sym (since-single fe))) in
-      let cb : c ≡ le16 B 2 = (rw ke at (ce .0)) in
       let z = row-more f w u w (2 * q) made top top key c 0 (s + 4) (need - 4) t (pre .room) (omega (arith, pre .mid)) (omega arith) (ce .1) e (λ j lo hi. refl) (front-refl top w) (pre .placed) f refl (omega (arith, pre .needs, pre .there, pre .walk .tabled .fits .fits i (omega arith))) in
       record {
-        list = z .list ∙ rw (pay, cb, te, ke);
+        list = z .list ∙ rw (pay, ce .0, te, ke);
         placed = z .placed;
         pays = omega (arith, z .pays, pre .needs);
         front = z .front;
@@ -112,13 +111,12 @@ module _ (f w : List ℕ) (q made top i first need : ℕ) (pre : Finish f w q ma
   -- ---- several: the bytes are joined at top, with their header
 
   pub finish-work :
-      (key c t : ℕ) → key ≡ word w (6 * i) → ((c ≡ le16 (since f w key first (i + 1)) 2) × (c < 65536)) → t ≡ long w (6 * i + 4) →
-      (r : ℕ) (v : List ℕ) → Writes w top (take need (since f w key first (i + 1))) r v → (u : List ℕ) → u ≡ putPdu v (2 * q + 7 * made) key c 1 (top + 4) (need - 4) t →
+      (key c t : ℕ) → key ≡ word w (6 * i) → ((c ≡ le16 (begun f w first (i + 1)) 2) × (c < 65536)) → t ≡ long w (6 * i + 4) →
+      (r : ℕ) (v : List ℕ) → Writes w top (take need (begun f w first (i + 1))) r v → (u : List ℕ) → u ≡ putPdu v (2 * q + 7 * made) key c 1 (top + 4) (need - 4) t →
       Finished f w (2 * q) made top i first need u r
   unfolding packetAt pduOf
-  finish-work key c t ke ce te r v g₀ u e =
-      let B : List ℕ = since f w (word w (6 * i)) first (i + 1) in
-      let g : Writes w top (take need B) r v = (rw ke at g₀) in
+  finish-work key c t ke ce te r v g u e =
+      let B : List ℕ = begun f w first (i + 1) in
       let m : need - 4 ≡ le16 B 0 = omega (arith, pre .needs) in
       let ln : length (take need B) ≡ need = length-take-le need B (pre .there) in
       let lv : length v ≡ length w = writes-long w top (take need B) r v g in
@@ -128,12 +126,11 @@ module _ (f w : List ℕ) (q made top i first need : ℕ) (pre : Finish f w q ma
       ∙ (rw (g .writes) (part-sets (take need B) w top 4 (need - 4) (omega (arith, pre .mid, pre .room)) (omega (arith, pre .needs))))
       ∙ sym (part-take 4 (need - 4) need B (omega (arith, pre .needs)))
       ∙ ap (λ (n : ℕ). take n (drop 4 B)) m in
-      let cb : c ≡ le16 B 2 = (rw ke at (ce .0)) in
       let ag : (j : ℕ) → 2 * q ≤ j → word v j ≡ word w j = (λ j lo. rw (g .writes) (word-behind (take need B) w top j (omega (arith, pre .mid)))) in
       let fr : Front top v w = rw (g .writes) (front-sets top (take need B) w top (omega arith)) in
       let z = row-more f v u w (2 * q) made top r key c 1 (top + 4) (need - 4) t (omega (arith, pre .room)) (omega (arith, pre .mid)) (omega arith) (ce .1) e (λ j lo hi. ag j lo) fr (pre .placed) u refl (omega (arith, pre .needs)) in
       record {
-        list = z .list ∙ rw (pay, cb, te, ke);
+        list = z .list ∙ rw (pay, ce .0, te, ke);
         placed = z .placed;
         pays = omega (arith, z .pays, pre .needs);
         front = z .front;

@@ -1,20 +1,19 @@
 -- What is open: the row of a key, and what a fragment makes of it.
-use mathlib.Core.Path.{_≡_, refl, sym, _∙_}
+use mathlib.Core.Path.{_≡_, refl, sym, ap, _∙_}
 use mathlib.Core.Bool.{Bool, true, false, cond}
 use Prim.Native.Nat.{ℕ, zero, suc, _+_, _-_, _*_, _<_, _≤_}
 use mathlib.Core.List.{List}
 use native.Mathlib.Omega.{arith}
 use lib.ListN.{length}
 use lib.Dec.{eqb}
-use borrow.Author.Tests.{eq-eqb, ne-eqb, lt-ltb, le-ltb}
-use Rattle.laws.specs.Choice.{split≤}
-use Rattle.words.specs.Words.{word}
-use Rattle.table.specs.Table.{Slot, none as no-row, some as row, findIn, lookup, lookup-found, lookup-nothing, second, second-le, find-below}
-use Rattle.tree.specs.Tree.{SeekPre, EnterPre, Entered}
-use Rattle.tree.specs.declared.Tree.{Tree}
-use Rattle.table.specs.declared.Row.{Row}
-use Rattle.table.specs.declared.Row.the-variants.{At, Nothing}
-use Rattle.l2cap.specs.Steps.{indexOf, Look, SetOpen, asOpen, openAt, longer, grown, nextAt, Small, Arrive}
+use borrow.Author.Tests.{eq-eqb, ne-eqb}
+use Rattle.words.specs.Words.{word, long, putWord, length-put, word-put-same, word-put-other}
+use Rattle.words.specs.Front.{Front, front-then, front-put}
+use Rattle.table.specs.Table.{Slot, none as no-row, some as row, findIn, lookup, lookup-found, second, find-below, long-agree, Stored, store-old}
+use Rattle.table.specs.declared.Row.the-variants.{At}
+use Rattle.tree.specs.Tree.{find-agree}
+use Rattle.l2cap.specs.Links.{firstOf}
+use Rattle.l2cap.specs.Steps.{asOpen, openAt, openIn, longer, grown, nextAt, nextBy, Arrive, putOpen}
 use Rattle.l2cap.specs.declared.Open.{Open}
 use Rattle.l2cap.specs.declared.Open.the-variants.{Closed, From}
 
@@ -39,66 +38,95 @@ as-got no-row a g e = never e
 as-got (row zero y) a g e = never e
 as-got (row (suc x) y) a g e = cc
 
--- ---- the row of a key
+pub as-blank : (s : Slot) → firstOf s ≡ 0 → asOpen s ≡ Closed
+unfolding asOpen firstOf
+as-blank no-row e = refl
+as-blank (row zero g) e = refl
+as-blank (row (suc a) g) e = absurd (omega (arith, e))
 
-module _ (w : List ℕ) (q n : ℕ) (x : Tree) (ex : x ≡ indexOf q) where
-  pub look-seek : Look w q n → SeekPre w x n
-  look-seek p = rw ex (p .seek)
+module _ (w : List ℕ) (at a z : ℕ) (ae : a ≡ word w (at + 2)) (ze : z ≡ a) where
+  pub look-zero : z ≡ 0 → Closed ≡ openIn w at
+  unfolding openIn
+  look-zero o = sym (as-zero (word w (at + 2)) (word w (at + 3)) (sym ae ∙ sym ze ∙ o))
 
-  pub open-enter : SetOpen w q n → EnterPre w x n
-  open-enter p = rw ex (p .enter)
+  pub look-from : (z ≡ 0 → ⊥) → (g h : ℕ) → g ≡ word w (at + 3) → h ≡ g → From (z - 1) h ≡ openIn w at
+  unfolding openIn
+  look-from o g h ge he = sym (as-pos (word w (at + 2)) (word w (at + 3)) (λ t. o (ze ∙ ae ∙ t)) ∙ rw (ze, ae, he, ge))
 
-  pub open-entered : (key k a b : ℕ) → k ≡ key → (u : List ℕ) (r : ℕ) → Entered w x n k a b u r → Entered w (indexOf q) n key a b u r
-  open-entered key k a b e u r d = rw (ex, e) at d
-
-  module _ (k y : ℕ) (f : Row) (ye : y ≡ k) (e : f ≡ findIn w (x .rows) y n) where
-    found : f ≡ findIn w (3 * q) k n
-    found = rw (ex, ye) at e
-
-    pub look-row : Look w q n → (i : ℕ) → f ≡ At i → 4 * (3 * q + 4 * i) + 16 ≤ length w
-    look-row p i d = omega (arith, find-below w (3 * q) k n i (sym found ∙ d), p .seek .stands .rows, p .seek .stands .room)
-
-    pub look-none : f ≡ Nothing → Closed ≡ openAt w (3 * q) n k
-    unfolding openAt asOpen
-    look-none d = rw (lookup-nothing w (3 * q) k n (sym found ∙ d))
-
-    look-some : (i : ℕ) → f ≡ At i → openAt w (3 * q) n k ≡ asOpen (row (word w (3 * q + 4 * i + 2)) (word w (3 * q + 4 * i + 3)))
-    unfolding openAt
-    look-some i d = rw (lookup-found w (3 * q) k n i (sym found ∙ d))
-
-    pub look-zero : (i a z : ℕ) → f ≡ At i → a ≡ word w (3 * q + 4 * i + 2) → z ≡ a → z ≡ 0 → Closed ≡ openAt w (3 * q) n k
-    look-zero i a z d p r o = sym (look-some i d ∙ as-zero (word w (3 * q + 4 * i + 2)) (word w (3 * q + 4 * i + 3)) (sym p ∙ sym r ∙ o))
-
-    pub look-from : (i a z g h : ℕ) → f ≡ At i → a ≡ word w (3 * q + 4 * i + 2) → z ≡ a → (z ≡ 0 → ⊥) → g ≡ word w (3 * q + 4 * i + 3) → h ≡ g → From (z - 1) h ≡ openAt w (3 * q) n k
-    look-from i a z g h d p r o p2 q2 =
-        sym (look-some i d ∙ as-pos (word w (3 * q + 4 * i + 2)) (word w (3 * q + 4 * i + 3)) (λ t. o (r ∙ p ∙ t)) ∙ rw (r, p, q2, p2))
+pub open-is : (w : List ℕ) (at y z : ℕ) (v u : List ℕ) → v ≡ putWord w (at + 2) y → u ≡ putWord v (at + 3) z → u ≡ putOpen w at y z
+unfolding putOpen
+open-is w at y z v u ev eu = rw (eu, ev)
 
 -- ---- a fragment
 
-module _ (start : ℕ) (o : Open) (i n : ℕ) where
-  pub grown-start : start ≡ 1 → From i n ≡ grown start o i n
-  unfolding grown
-  grown-start h = rw (eq-eqb start 1 h)
+module _ (w : List ℕ) (at i start n : ℕ) (se : start ≡ word w (6 * i + 1)) (ne : n ≡ word w (6 * i + 3)) where
+  pub arrive-start : start ≡ 1 → From i n ≡ nextBy w at i
+  unfolding nextBy grown
+  arrive-start h = rw (← se, eq-eqb start 1 h, ne)
 
-  pub grown-none : (start ≡ 1 → ⊥) → o ≡ Closed → Closed ≡ grown start o i n
-  unfolding grown longer
-  grown-none h e = rw (ne-eqb start 1 h, e)
+  module _ (h : start ≡ 1 → ⊥) (o : Open) (oe : o ≡ openIn w at) where
+    pub arrive-closed : o ≡ Closed → Closed ≡ nextBy w at i
+    unfolding nextBy grown longer
+    arrive-closed e = rw (← se, ne-eqb start 1 h, ← oe, e)
 
-  pub grown-more : (start ≡ 1 → ⊥) → (a g : ℕ) → o ≡ From a g → From a (g + n) ≡ grown start o i n
-  unfolding grown longer
-  grown-more h a g e = rw (ne-eqb start 1 h, e)
+    pub arrive-more : (a g : ℕ) → o ≡ From a g → From a (g + n) ≡ nextBy w at i
+    unfolding nextBy grown longer
+    arrive-more a g e = rw (← se, ne-eqb start 1 h, ← oe, e, ne)
 
-pub arrive-small : (w : List ℕ) (q live i : ℕ) → Arrive w q live i → (key x n : ℕ) (o : Open) → key ≡ word w (6 * i) → o ≡ openAt w (3 * q) live key → x ≡ word w (6 * i + 3) → n ≡ x → Small o n
-unfolding openAt
-arrive-small w q live i pre key x n o ke oe xe ne = record {
-  small = λ a g e.
-      let h : second (lookup w (3 * q) live key) ≡ g = as-got (lookup w (3 * q) live key) a g (sym oe ∙ e) in
-      omega (arith, second-le w (3 * q) live key, pre .sums);
-}
+    pub arrive-small : Arrive w at i → (a g : ℕ) → o ≡ From a g → g + n < 18446744073709551616
+    unfolding openIn second
+    arrive-small p a g e =
+        let d : word w (at + 3) ≡ g = as-got (row (word w (at + 2)) (word w (at + 3))) a g (sym oe ∙ e) in
+        omega (arith, p .sums)
 
-pub arrive-is : (w : List ℕ) (b live i key start x n : ℕ) (o r : Open) → key ≡ word w (6 * i) → start ≡ word w (6 * i + 1) → x ≡ word w (6 * i + 3) → n ≡ x → o ≡ openAt w b live key → r ≡ grown start o i n → r ≡ nextAt w b live i
-unfolding nextAt
-arrive-is w b live i key start x n o r ke se xe ne oe e = e ∙ rw (oe, ne, xe, se, ke)
+-- ---- the row of a key
+
+module _ (w : List ℕ) (b n k r : ℕ) (e : findIn w b k n ≡ At r) where
+  pub open-row : openAt w b n k ≡ openIn w (b + 4 * r)
+  unfolding openAt openIn
+  open-row = ap asOpen (lookup-found w b k n r e)
+
+  -- its values are set
+  module _ (y z : ℕ) (room : 4 * (b + 4 * n) ≤ length w) (u : List ℕ) (eu : u ≡ putOpen w (b + 4 * r) y z) where
+    less : r < n
+    less = find-below w b k n r e
+
+    pub set-other : (j : ℕ) → (b + 4 * r + 2 ≡ j → ⊥) → (b + 4 * r + 3 ≡ j → ⊥) → word u j ≡ word w j
+    unfolding putOpen
+    set-other j n2 n3 = rw eu (simp word-put-other)
+
+    set-size : length u ≡ length w
+    unfolding putOpen
+    set-size = rw eu (simp length-put)
+
+    set-front : Front (4 * b) u w
+    unfolding putOpen
+    set-front = rw eu (front-then (4 * b) _ _ w (front-put (4 * b) _ (b + 4 * r + 3) z (omega arith)) (front-put (4 * b) w (b + 4 * r + 2) y (omega arith)))
+
+    set-first : word u (b + 4 * r + 2) ≡ y
+    unfolding putOpen
+    set-first =
+        let n3 : b + 4 * r + 3 ≡ b + 4 * r + 2 → ⊥ = λ t. omega arith in
+        rw eu (word-put-other _ (b + 4 * r + 3) z (b + 4 * r + 2) n3 ∙ word-put-same w (b + 4 * r + 2) y (omega (arith, less)))
+
+    set-last : word u (b + 4 * r + 3) ≡ z
+    unfolding putOpen
+    set-last = rw eu (word-put-same _ (b + 4 * r + 3) z (simp length-put (omega (arith, less))))
+
+    keys : (j : ℕ) → j < n → long u (b + 4 * j) ≡ long w (b + 4 * j)
+    keys j h = long-agree u w (b + 4 * j) (set-other (b + 4 * j) (λ t. omega arith) (λ t. omega arith)) (set-other (b + 4 * j + 1) (λ t. omega arith) (λ t. omega arith))
+
+    pub set-stored : Stored w b n k y z u n
+    set-stored = store-old w u b n k r y z e (record {
+      keys = keys;
+      first = set-first;
+      last = set-last;
+      firsts = λ j h q. set-other (b + 4 * j + 2) (λ t. q (omega arith)) (λ t. omega arith);
+      lasts = λ j h q. set-other (b + 4 * j + 3) (λ t. omega arith) (λ t. q (omega arith));
+    }) set-front set-size
+
+    pub set-finds : (j : ℕ) → findIn u b j n ≡ findIn w b j n
+    set-finds j = find-agree u w b j n keys
 
 -- ---- what the next state says of the present one
 

@@ -1,5 +1,5 @@
 -- The run over all packets.
-use mathlib.Core.Path.{_≡_, refl, sym, _∙_}
+use mathlib.Core.Path.{_≡_, refl, sym, ap, _∙_, fun-ext}
 use mathlib.Core.List.{List, _++_, append-assoc, append-nil}
 use mathlib.Core.Option.{Option, none}
 use Prim.Native.Nat.{ℕ, _+_, _-_, _*_, _/_, _<_, _≤_}
@@ -10,9 +10,9 @@ use borrow.Author.Tests.{eq-eqb, ne-eqb}
 use Rattle.laws.specs.Choice.{split≡}
 use Rattle.laws.specs.Lists.{All}
 use Rattle.laws.specs.Keys.{eqK}
+use Rattle.words.specs.Words.{word}
 use Rattle.words.specs.Front.{Front, front-refl, front-then, front-word}
-use Rattle.table.specs.Table.{lookup, sumOf}
-use Rattle.tree.specs.Tree.{indexed-none}
+use Rattle.table.specs.Table.{lookup}
 use Rattle.container.specs.Packets.{Packet}
 use Rattle.btsnoop.specs.PacketTable.{packetAt, packetsFrom, dataOf, Tabled}
 use Rattle.btsnoop.proofs.PacketFrames.{packets-next, packets-none, data-mono, tabled-less, two-ways, packet-front, packets-front, tabled-front}
@@ -20,10 +20,11 @@ use Rattle.l2cap.specs.Pdus.{Pdu, packetKey, reassembly, pdus}
 use Rattle.l2cap.specs.PduTable.{pdusFrom, paysOf, Reassembled}
 use Rattle.l2cap.specs.PduFrames.{inside-top}
 use Rattle.l2cap.specs.Rekeyed.{runBy, rekey, run-by}
-use Rattle.l2cap.specs.Links.{Linked, linked-less, linked-agree, LinkRoom, LinkedTo}
-use Rattle.l2cap.specs.Steps.{numberOf, indexOf, asOpen, openAt, heldOf, mapOf, Ready, Step, Stepped, Run}
+use Rattle.l2cap.specs.Links.{Linked, linked-less, linked-agree, Seats, LinkRoom, LinkedTo}
+use Rattle.l2cap.specs.Steps.{numberOf, openAt, heldOf, mapOf, Ready, Step, Stepped, Run}
+use Rattle.l2cap.specs.declared.Open.the-variants.{Closed}
 use Rattle.l2cap.specs.declared.Tables.{Tables}
-use Rattle.l2cap.proofs.Opens.{never}
+use Rattle.l2cap.proofs.Opens.{never, as-blank}
 
 -- ---- link and direction as one number
 
@@ -54,30 +55,39 @@ pub record Running (f w₀ : List ℕ) (q count : ℕ) (w : List ℕ) (t : Table
   pub size : length w ≡ length w₀
   pub front : Front (4 * q) w w₀
   pub linked : Linked w q count
+  pub seats : Seats w q (t .live) count
   pub same : pdusFrom f w (2 * q) 0 (t .made) ++ runNumbered (mapOf f w (3 * q) (t .live) i) (packetsFrom f w₀ i (count - i)) ≡ pdus (packetsFrom f w₀ 0 count)
 
-module _ (f w₀ : List ℕ) (q count : ℕ) (pre : Run f w₀ q count) where
-  pub run-start : Running f w₀ q count w₀ (record { live = 0; made = 0; top = 4 * q }) 0
-  unfolding pdusFrom paysOf sumOf dataOf mapOf openAt lookup asOpen heldOf
+module _ (f w₀ : List ℕ) (q n count : ℕ) (pre : Run f w₀ q n count) where
+  closed : (k : ℕ) → openAt w₀ (3 * q) n k ≡ Closed
+  unfolding openAt
+  closed k = as-blank (lookup w₀ (3 * q) n k) (pre .blank .says k)
+
+  nothing : _≡_ {A = ℕ → Option (List ℕ)} (mapOf f w₀ (3 * q) n 0) (λ k. none)
+  unfolding mapOf heldOf
+  nothing = fun-ext (λ k. ap (heldOf f w₀ k 0) (closed k))
+
+  pub run-start : Running f w₀ q count w₀ (record { live = n; made = 0; top = 4 * q }) 0
+  unfolding pdusFrom paysOf dataOf
   run-start =
       let z : count - 0 ≡ count = omega arith in
       record {
         within = omega arith;
         ready = record {
           quarter = pre .quarter;
-          live = omega arith;
+          live = omega (arith, pre .few, pre .linked .most, pre .linked .low);
           made = omega arith;
           bump = omega arith;
           ends = omega arith;
-          few = omega arith;
-          sound = record { sound = λ k a g x. never x; own = λ k a g x. never x };
-          indexed = pre .indexed;
+          few = omega (arith, pre .blank .sum);
+          sound = record { sound = λ k a g x. never (sym (closed k) ∙ x); own = λ k a g x. never (sym (closed k) ∙ x) };
           placed = λ j h. absurd (omega arith);
         };
         size = refl;
         front = front-refl (4 * q) w₀;
         linked = pre .linked;
-        same = rw z (sym (pdus-numbered (packetsFrom f w₀ 0 count) (two-ways f w₀ 0 count)));
+        seats = pre .seats;
+        same = rw (z, nothing) (sym (pdus-numbered (packetsFrom f w₀ 0 count) (two-ways f w₀ 0 count)));
       }
 
   module _ (w : List ℕ) (t : Tables) (i : ℕ) (v : Running f w₀ q count w t i) where
@@ -85,7 +95,7 @@ module _ (f w₀ : List ℕ) (q count : ℕ) (pre : Run f w₀ q count) where
     low = omega (arith, pre .tabled .total, v .ready .quarter)
 
     pub run-step : i < count → Step f w q t i
-    run-step h = record { ready = v .ready; tabled = tabled-less f w (i + 1) count (omega arith) (tabled-front (4 * q) f w w₀ count low (v .front) (v .size) (pre .tabled)); linked = linked-less w q (i + 1) count (omega arith) (v .linked) }
+    run-step h = record { ready = v .ready; tabled = tabled-less f w (i + 1) count (omega arith) (tabled-front (4 * q) f w w₀ count low (v .front) (v .size) (pre .tabled)); linked = linked-less w q (i + 1) count (omega arith) (v .linked); seats = record { row = λ j l. v .seats .row j (omega arith) } }
 
     pub run-turn : i < count → (u : List ℕ) (r : Tables) → Stepped f w q t i u r → Running f w₀ q count u r (i + 1)
     unfolding runBy
@@ -97,6 +107,11 @@ module _ (f w₀ : List ℕ) (q count : ℕ) (pre : Run f w₀ q count) where
           size = st .size ∙ v .size;
           front = front-then (4 * q) u w w₀ (st .front) (v .front);
           linked = linked-agree u w q count (λ j l. front-word (4 * q) u w j (omega arith) (st .front)) (st .beyond) (v .linked);
+          seats = record {
+            row = λ j l.
+                let a : word u (6 * j) ≡ word w (6 * j) = front-word (4 * q) u w (6 * j) (omega (arith, low)) (st .front) in
+                rw (a, st .beyond (7 * q + 2 * j + 1) (omega arith)) (st .finds (word w (6 * j)) ∙ v .seats .row j l);
+          };
           same = rw (st .list, st .map, append-assoc, pk) (rw (packets-next f w₀ i count h) at (v .same));
         }
 
@@ -119,16 +134,18 @@ module _ (f w : List ℕ) (count : ℕ) (pre : Tabled f w count) (q : ℕ) (e : 
   pub link-room : LinkRoom w q count
   link-room = record { low = omega (arith, pre .total); small = omega (arith, pre .small); room = omega (arith, pre .room) }
 
-  module _ (v : List ℕ) (l : LinkedTo w q count v) where
+  module _ (v : List ℕ) (c : ℕ) (l : LinkedTo w q count v c) where
     low₀ : 24 * count ≤ 4 * (3 * q)
     low₀ = omega (arith, pre .total)
 
-    pub link-run : Run f v q count
+    pub link-run : Run f v q c count
     link-run = record {
       tabled = tabled-front (4 * (3 * q)) f v w count low₀ (l .front) (l .size) pre;
       quarter = e;
       linked = l .linked;
-      indexed = indexed-none v (indexOf q);
+      seats = l .seats;
+      few = l .few;
+      blank = l .blank;
     }
 
     pub run-all : (u : List ℕ) (n : ℕ) → Reassembled f u n (pdus (packetsFrom f v 0 count)) → Reassembled f u n (pdus (packetsFrom f w 0 count))

@@ -5,28 +5,28 @@ use mathlib.Core.List.{List, _++_, append-nil}
 use mathlib.Core.Option.{Option, none, some}
 use Prim.Native.Nat.{ℕ, _+_, _-_, _*_, _<_, _≤_}
 use native.Mathlib.Omega.{arith}
-use lib.ListN.{length, drop, length-drop, length-append}
-use lib.Seq.{length-take-le}
+use lib.ListN.{length, length-append}
 use lib.Dec.{eqb, leb}
 use borrow.Author.Tests.{eq-eqb, ne-eqb, le-leb, lt-leb}
 use Rattle.laws.specs.Choice.{split≡}
 use Rattle.laws.specs.Numbers.{le16}
-use Rattle.words.specs.Words.{word}
+use Rattle.words.specs.Words.{word, long}
 use Rattle.words.specs.Front.{Front, front-then, front-word, front-less, front-refl}
-use Rattle.table.specs.Table.{some as row, lookup, upd, second, sumOf, Stored, Agree, lookup-agree, long-agree, sum-agree, second-le}
-use Rattle.tree.specs.Tree.{Stands, Entered, stands-less, stands-same, indexed-agree}
+use Rattle.table.specs.Table.{some as row, findIn, lookup, upd, second, sumOf, Stored, Agree, find-below, lookup-found, lookup-agree, long-agree, sum-agree, second-le}
+use Rattle.table.specs.declared.Row.the-variants.{At}
+use Rattle.tree.specs.Tree.{find-agree}
 use Rattle.btsnoop.specs.PacketTable.{packetAt, dataOf}
 use Rattle.btsnoop.proofs.PacketFrames.{data-next, data-front}
 use Rattle.l2cap.specs.Pdus.{joined, isComplete, stillOpen, completed}
 use Rattle.l2cap.specs.PduTable.{pdusFrom, paysOf}
 use Rattle.l2cap.specs.PduFrames.{Placed, placed-agree, pdus-agree, pays-agree}
 use Rattle.l2cap.specs.Rekeyed.{putBy}
-use Rattle.l2cap.specs.Steps.{since, Walk, Need, indexOf, SetOpen, asOpen, openAt, longer, grown, nextAt, Arrive, Finish, Finished, heldOf, mapOf, Sound, Step, after, Stepped}
+use Rattle.l2cap.specs.Steps.{since, begun, Walk, Need, rowAt, RowPre, asOpen, openAt, longer, grown, nextAt, nextBy, Arrive, putOpen, Finish, Finished, heldOf, mapOf, Sound, Step, after, Stepped}
 use Rattle.l2cap.specs.declared.Open.{Open}
 use Rattle.l2cap.specs.declared.Open.the-variants.{Closed, From}
 use Rattle.l2cap.specs.declared.Tables.{Tables}
-use Rattle.l2cap.proofs.Walking.{number-at, piece-own, piece-other, since-one, since-snoc, since-front}
-use Rattle.l2cap.proofs.Opens.{never, as-zero, as-pos, arrive-got, arrive-none}
+use Rattle.l2cap.proofs.Walking.{number-at, bytes-length, piece-own, piece-other, since-one, since-snoc, since-front}
+use Rattle.l2cap.proofs.Opens.{never, as-zero, as-pos, open-row, set-other, set-stored, set-finds, arrive-got, arrive-none}
 
 -- ---- what is open once a packet is read
 
@@ -35,10 +35,6 @@ packet-start :
     packetAt f w i ≡ record { link = packetAt f w i .link; rx = packetAt f w i .rx; start = eqb (word w (6 * i + 1)) 1; time = packetAt f w i .time; bytes = packetAt f w i .bytes }
 unfolding packetAt
 packet-start f w i = refl
-
-bytes-length : (f w : List ℕ) (i : ℕ) → word w (6 * i + 2) + word w (6 * i + 3) ≤ length f → length (packetAt f w i .bytes) ≡ word w (6 * i + 3)
-unfolding packetAt
-bytes-length f w i h = length-take-le (word w (6 * i + 3)) (drop (word w (6 * i + 2)) f) (simp length-drop (omega arith))
 
 module _ (f w : List ℕ) (b live i : ℕ) (s : Sound f w b live i) where
   held-first : some (since f w (word w (6 * i)) i (i + 1)) ≡ some (packetAt f w i .bytes)
@@ -179,198 +175,228 @@ record Storing (f w : List ℕ) (q : ℕ) (t : Tables) (i : ℕ) (v : List ℕ) 
   held : heldOf f w (word w (6 * i)) (i + 1) o ≡ stillOpen (after f w (3 * q) (t .live) i)
 
 module _ (f w : List ℕ) (q : ℕ) (t : Tables) (i : ℕ) (p : Step f w q t i) where
-  small : q ≤ 1048576
-  small = omega (arith, p .tabled .small, p .ready .quarter)
+  seat : findIn w (3 * q) (word w (6 * i)) (t .live) ≡ At (word w (7 * q + 2 * i + 1))
+  seat = p .seats .row i (omega arith)
 
-  -- one row more has room, and so has its index
-  stands : Stands w (indexOf q) (t .live + 1)
-  stands = record {
-    rows = omega (arith, p .tabled .total, p .ready .live, p .ready .quarter);
-    room = omega (arith, p .tabled .total, p .ready .live, p .tabled .room, p .ready .quarter);
-    few = omega (arith, p .tabled .total, p .tabled .small, p .ready .live);
-  }
+  below : word w (7 * q + 2 * i + 1) < t .live
+  below = find-below w (3 * q) (word w (6 * i)) (t .live) (word w (7 * q + 2 * i + 1)) seat
 
-  pub step-arrive : Arrive w q (t .live) i
-  step-arrive = record {
-    low = omega (arith, p .tabled .total, p .tabled .room);
-    look = record { seek = record { stands = stands-less w (indexOf q) (t .live + 1) (t .live) (omega arith) stands; indexed = p .ready .indexed }; small = small };
-    sums = omega (arith, p .tabled .total, p .tabled .small, p .ready .few, data-next w i);
+  pub step-row : RowPre w q i
+  unfolding rowAt
+  step-row = record {
+    room = omega (arith, p .tabled .total, p .tabled .room, p .ready .quarter);
+    small = omega (arith, below, p .ready .live, p .tabled .small, p .ready .quarter);
   }
 
   low : 24 * i + 24 ≤ 4 * q
   low = omega (arith, p .tabled .total, p .ready .quarter)
 
-  step-row :
-      (v : List ℕ) (made top : ℕ) (o : Open) (x y : ℕ) → Storing f w q t i v made top o y → asOpen (row x y) ≡ o →
-      (key : ℕ) → key ≡ word w (6 * i) → (u : List ℕ) (c : ℕ) → Entered v (indexOf q) (t .live) key x y u c →
-      Stepped f w q t i u (record { live = c; made = made; top = top })
-  step-row v made top o x y b oe key ke u c en =
-      let so : Stored v (3 * q) (t .live) (word w (6 * i)) x y u c = (rw ke at (en .stored)) in
-      let lk : (j : ℕ) → lookup v (3 * q) (t .live) j ≡ lookup w (3 * q) (t .live) j = (λ j. lookup-agree v w (3 * q) (t .live) j (b .rows)) in
-      let says : (j : ℕ) → openAt u (3 * q) c j ≡ cond (eqb (word w (6 * i)) j) o (openAt w (3 * q) (t .live) j) =
-      (λ j. stored-open v w u (3 * q) (t .live) (word w (6 * i)) x y c lk so j ∙ rw oe) in
-      let sum : sumOf u (3 * q) c + second (lookup w (3 * q) (t .live) (word w (6 * i))) ≡ sumOf w (3 * q) (t .live) + y =
-      (rw (lk (word w (6 * i)), sum-agree v w (3 * q) (t .live) (b .rows)) at (so .sum)) in
-      let fro : Front (8 * q) u v = front-less (8 * q) (4 * (3 * q)) u v (omega arith) (so .front) in
-      let frn : Front (4 * q) u w = front-then (4 * q) u v w (front-less (4 * q) (8 * q) u v (omega arith) fro) (b .front) in
-      let frt : Front top u v = front-less top (8 * q) u v (omega (arith, b .ends, b .few, second-le w (3 * q) (t .live) (word w (6 * i)), p .tabled .total, p .ready .quarter)) fro in
-      let ag : Agree (2 * q) (2 * q + 7 * made) u v = (λ j lo hi. front-word (4 * (3 * q)) u v j (omega (arith, b .most, p .tabled .total, p .ready .quarter)) (so .front)) in
-      let py : paysOf u (2 * q) made ≡ paysOf v (2 * q) made = pays-agree u v (2 * q) made ag in
-      let dt : dataOf u (i + 1) ≡ dataOf w (i + 1) = data-front (4 * q) u w (i + 1) (omega (arith, low)) frn in
-      record {
-        ready = record {
-          quarter = p .ready .quarter;
-          live = omega (arith, so .most, p .ready .live);
-          made = b .most;
-          bump = b .bump;
-          ends = rw py (b .ends);
-          few = rw (py, dt) (omega (arith, sum, b .few));
-          sound = next-sound f u w (3 * q) (t .live) c i (4 * q) o (p .ready .sound) frn low says (b .counted) (b .own);
-          indexed = en .indexed;
-          placed = placed-agree f u v (2 * q) made top top (omega arith) ag (b .placed);
-        };
-        front = frn;
-        beyond = λ j h. en .beyond j (omega (arith, h, p .tabled .total, p .ready .live, p .ready .quarter)) ∙ b .beyond j h;
-        size = so .size ∙ b .size;
-        list = pdus-agree f u v (2 * q) 0 made made top (omega arith) ag frt (b .placed) ∙ b .list;
-        map = next-map f u w (3 * q) (t .live) c i (4 * q) o (p .ready .sound) frn low says (b .counted) (b .own) ∙ rw (b .held, number-at f w i);
-      }
+  module _ (at : ℕ) (ae : at ≡ rowAt w q i) where
+    at-is : at ≡ 3 * q + 4 * word w (7 * q + 2 * i + 1)
+    unfolding rowAt
+    at-is = ae
 
-  -- a continuation of nothing
-  pub step-skip : nextAt w (3 * q) (t .live) i ≡ Closed → Stepped f w q t i w t
-  unfolding heldOf stillOpen completed
-  step-skip e =
-      let k : ℕ = word w (6 * i) in
-      let hn : none ≡ after f w (3 * q) (t .live) i = (rw e at (arrive-held f w (3 * q) (t .live) i (p .ready .sound))) in
-      let no : openAt w (3 * q) (t .live) k ≡ Closed = arrive-none w (3 * q) (t .live) i e in
-      let says : (j : ℕ) → openAt w (3 * q) (t .live) j ≡ cond (eqb k j) Closed (openAt w (3 * q) (t .live) j) =
-      (λ j. split≡ k j (λ z. rw (eq-eqb k j z) (ap (openAt w (3 * q) (t .live)) (sym z) ∙ no)) (λ z. rw (ne-eqb k j z))) in
-      let vs : (a g : ℕ) → Closed ≡ From a g → (a ≤ i) × (g ≡ length (since f w k a (i + 1))) = (λ a g x. never x) in
-      let vo : (a g : ℕ) → Closed ≡ From a g → word w (6 * a) ≡ k = (λ a g x. never x) in
-      record {
-        ready = record {
-          quarter = p .ready .quarter;
-          live = omega (arith, p .ready .live);
-          made = omega (arith, p .ready .made);
-          bump = p .ready .bump;
-          ends = p .ready .ends;
-          few = omega (arith, p .ready .few, data-next w i);
-          sound = next-sound f w w (3 * q) (t .live) (t .live) i (4 * q) Closed (p .ready .sound) (front-refl (4 * q) w) low says vs vo;
-          indexed = p .ready .indexed;
-          placed = p .ready .placed;
-        };
-        front = front-refl (4 * q) w;
-        beyond = λ j h. refl;
-        size = refl;
-        list = sym (rw (← hn) (append-nil (pdusFrom f w (2 * q) 0 (t .made))));
-        map = next-map f w w (3 * q) (t .live) (t .live) i (4 * q) Closed (p .ready .sound) (front-refl (4 * q) w) low says vs vo ∙ rw (← hn, number-at f w i);
-      }
+    pub at-room : 4 * at + 16 ≤ length w
+    at-room = omega (arith, at-is, below, p .ready .live, p .tabled .room, p .ready .quarter)
 
-  module _ (first got : ℕ) (e : nextAt w (3 * q) (t .live) i ≡ From first got) where
-    pub step-first : (first ≤ i) × (got ≡ length (since f w (word w (6 * i)) first (i + 1)))
-    step-first = arrive-sound f w (3 * q) (t .live) i (p .ready .sound) (p .tabled .fits .fits i (omega arith)) first got e
+    pub full-room : (first need : ℕ) (v : List ℕ) (top : ℕ) → Finished f w (2 * q) (t .made) (t .top) i first need v top → 4 * at + 16 ≤ length v
+    full-room first need v top fin = rw (fin .size) at-room
 
-    step-own : word w (6 * first) ≡ word w (6 * i)
-    step-own = arrive-own f w (3 * q) (t .live) i (p .ready .sound) first got e
+    -- the bytes so far
+    at-got : second (lookup w (3 * q) (t .live) (word w (6 * i))) ≡ word w (at + 3)
+    unfolding second
+    at-got = rw at-is (ap second (lookup-found w (3 * q) (word w (6 * i)) (t .live) (word w (7 * q + 2 * i + 1)) seat))
 
-    pub step-walk : (key : ℕ) → key ≡ word w (6 * i) → Walk f w q first (i + 1) key
-    step-walk key ke = record { tabled = p .tabled; quarter = p .ready .quarter; linked = p .linked; before = omega (arith, step-first .0); own = step-own ∙ sym ke }
-
-    held-next : some (since f w (word w (6 * i)) first (i + 1)) ≡ after f w (3 * q) (t .live) i
-    unfolding heldOf
-    held-next = (rw e at (arrive-held f w (3 * q) (t .live) i (p .ready .sound)))
-
-    -- what is made and open, with the new bytes in place of the key's old ones
-    step-got : 4 * t .made + paysOf w (2 * q) (t .made) + sumOf w (3 * q) (t .live) + got ≤ dataOf w (i + 1) + second (lookup w (3 * q) (t .live) (word w (6 * i)))
-    step-got = omega (arith, arrive-got w (3 * q) (t .live) i first got e, data-next w i, p .ready .few)
-
-    step-small : got + 4 * t .made + paysOf w (2 * q) (t .made) ≤ dataOf w (i + 1)
-    step-small = omega (arith, step-got, second-le w (3 * q) (t .live) (word w (6 * i)))
-
-    pub step-narrow : (first + 1 ≤ 1048576) × (got ≤ 1048576)
-    step-narrow = (omega (arith, step-first .0, p .tabled .total, p .tabled .small), omega (arith, step-small, p .tabled .total, p .tabled .small))
-
-    pub step-finish : (key need : ℕ) → key ≡ word w (6 * i) → Need (since f w key first (i + 1)) got need → need ≤ got → Finish f w q (t .made) (t .top) i first need
-    step-finish key need ke ni le = record {
-      walk = step-walk (word w (6 * i)) refl;
-      low = omega (arith, p .tabled .total, p .ready .quarter, p .ready .bump);
-      mid = omega (arith, p .ready .ends, step-small, p .tabled .total, p .ready .quarter);
-      room = omega (arith, p .ready .made, p .tabled .total, p .tabled .room, p .ready .quarter);
-      small = omega (arith, p .ready .made, p .tabled .total, p .tabled .small, p .ready .quarter);
-      before = step-first .0;
-      needs = (rw ke at (ni .enough le));
-      there = omega (arith, step-first .1);
-      placed = p .ready .placed;
+    pub step-arrive : Arrive w at i
+    step-arrive = record {
+      low = omega (arith, p .tabled .total, p .tabled .room);
+      room = at-room;
+      sums = omega (arith, at-got, second-le w (3 * q) (t .live) (word w (6 * i)), p .tabled .total, p .tabled .small, p .ready .few, data-next w i);
     }
 
-    pub hold-open : SetOpen w q (t .live)
-    hold-open = record { enter = record { stands = stands; indexed = p .ready .indexed }; small = small }
+    next-by : nextBy w at i ≡ nextAt w (3 * q) (t .live) i
+    unfolding nextBy nextAt
+    next-by = rw (at-is, ← open-row w (3 * q) (t .live) (word w (6 * i)) (word w (7 * q + 2 * i + 1)) seat)
 
-    -- the PDU's end is written below the open rows
-    pub full-open : (need : ℕ) (v : List ℕ) (top : ℕ) → Finished f w (2 * q) (t .made) (t .top) i first need v top → SetOpen v q (t .live)
-    full-open need v top fin =
-        let up : (j : ℕ) → 3 * q ≤ j → word v j ≡ word w j = (λ j h. fin .above j (omega (arith, p .ready .made, p .tabled .total, p .ready .quarter))) in
+    -- the key's row gets o
+    step-set :
+        (v : List ℕ) (made top : ℕ) (o : Open) (x y : ℕ) → Storing f w q t i v made top o y → asOpen (row x y) ≡ o →
+        (u : List ℕ) → u ≡ putOpen v at x y → Stepped f w q t i u (record { live = t .live; made = made; top = top })
+    step-set v made top o x y b oe u eu =
+        let k : ℕ = word w (6 * i) in
+        let r : ℕ = word w (7 * q + 2 * i + 1) in
+        let c : ℕ = t .live in
+        let kv : (j : ℕ) → j < c → long v (3 * q + 4 * j) ≡ long w (3 * q + 4 * j) =
+        (λ j h. long-agree v w (3 * q + 4 * j) (b .rows (3 * q + 4 * j) (omega arith) (omega arith)) (b .rows (3 * q + 4 * j + 1) (omega arith) (omega arith))) in
+        let fv : (j : ℕ) → findIn v (3 * q) j c ≡ findIn w (3 * q) j c = (λ j. find-agree v w (3 * q) j c kv) in
+        let ev : u ≡ putOpen v (3 * q + 4 * r) x y = rw (← at-is) eu in
+        let rv : 4 * (3 * q + 4 * c) ≤ length v = omega (arith, b .size, p .ready .live, p .tabled .room, p .ready .quarter) in
+        let so : Stored v (3 * q) c k x y u c = set-stored v (3 * q) c k r (fv k ∙ seat) x y rv u ev in
+        let up : (j : ℕ) → 7 * q ≤ j → word u j ≡ word v j =
+        (λ j h. set-other v (3 * q) c k r (fv k ∙ seat) x y rv u ev j (λ z. omega (arith, below, p .ready .live)) (λ z. omega (arith, below, p .ready .live))) in
+        let lk : (j : ℕ) → lookup v (3 * q) c j ≡ lookup w (3 * q) c j = (λ j. lookup-agree v w (3 * q) c j (b .rows)) in
+        let says : (j : ℕ) → openAt u (3 * q) c j ≡ cond (eqb k j) o (openAt w (3 * q) c j) =
+        (λ j. stored-open v w u (3 * q) c k x y c lk so j ∙ rw oe) in
+        let sum : sumOf u (3 * q) c + second (lookup w (3 * q) c k) ≡ sumOf w (3 * q) c + y =
+        (rw (lk k, sum-agree v w (3 * q) c (b .rows)) at (so .sum)) in
+        let fro : Front (8 * q) u v = front-less (8 * q) (4 * (3 * q)) u v (omega arith) (so .front) in
+        let frn : Front (4 * q) u w = front-then (4 * q) u v w (front-less (4 * q) (8 * q) u v (omega arith) fro) (b .front) in
+        let frt : Front top u v = front-less top (8 * q) u v (omega (arith, b .ends, b .few, second-le w (3 * q) c k, p .tabled .total, p .ready .quarter)) fro in
+        let ag : Agree (2 * q) (2 * q + 7 * made) u v = (λ j lo hi. front-word (4 * (3 * q)) u v j (omega (arith, b .most, p .tabled .total, p .ready .quarter)) (so .front)) in
+        let py : paysOf u (2 * q) made ≡ paysOf v (2 * q) made = pays-agree u v (2 * q) made ag in
+        let dt : dataOf u (i + 1) ≡ dataOf w (i + 1) = data-front (4 * q) u w (i + 1) (omega (arith, low)) frn in
         record {
-          enter = record {
-            stands = stands-same v w (indexOf q) (t .live + 1) (fin .size) stands;
-            indexed = indexed-agree w (indexOf q) (t .live) (p .ready .indexed) v
-                (λ j h. long-agree v w (3 * q + 4 * j) (up (3 * q + 4 * j) (omega arith)) (up (3 * q + 4 * j + 1) (omega arith)))
-                (λ j lo hi. up j (omega arith));
+          ready = record {
+            quarter = p .ready .quarter;
+            live = p .ready .live;
+            made = b .most;
+            bump = b .bump;
+            ends = rw py (b .ends);
+            few = rw (py, dt) (omega (arith, sum, b .few));
+            sound = next-sound f u w (3 * q) c c i (4 * q) o (p .ready .sound) frn low says (b .counted) (b .own);
+            placed = placed-agree f u v (2 * q) made top top (omega arith) ag (b .placed);
           };
-          small = small;
+          front = frn;
+          beyond = λ j h. up j h ∙ b .beyond j h;
+          finds = λ j. set-finds v (3 * q) c k r (fv k ∙ seat) x y rv u ev j ∙ fv j;
+          size = so .size ∙ b .size;
+          list = pdus-agree f u v (2 * q) 0 made made top (omega arith) ag frt (b .placed) ∙ b .list;
+          map = next-map f u w (3 * q) c c i (4 * q) o (p .ready .sound) frn low says (b .counted) (b .own) ∙ rw (b .held, number-at f w i);
         }
 
-    -- the PDU is not complete
-    pub step-hold :
-        (key need : ℕ) → key ≡ word w (6 * i) → Need (since f w key first (i + 1)) got need → got < need →
-        (x y : ℕ) → x ≡ first + 1 → y ≡ got → (u : List ℕ) (c : ℕ) → Entered w (indexOf q) (t .live) key x y u c →
-        Stepped f w q t i u (record { live = c; made = t .made; top = t .top })
-    unfolding heldOf stillOpen completed isComplete
-    step-hold key need ke ni lt x y xe ye u c en =
-        let s = step-first in
-        let B : List ℕ = since f w (word w (6 * i)) first (i + 1) in
-        let cmp : leb (4 + le16 B 0) (length B) ≡ false = lt-leb (4 + le16 B 0) (length B) (let g : got < 4 + le16 B 0 = (rw ke at (ni .short lt)) in omega (arith, s .1)) in
-        let va : asOpen (row x y) ≡ From first got = as-pos x y (λ z. omega arith) ∙ (let z : x - 1 ≡ first = omega arith in rw (z, ye)) in
-        step-row w (t .made) (t .top) (From first got) x y (record {
-          front = front-refl (4 * q) w;
-          rows = λ j lo hi. refl;
-          size = refl;
-          most = omega (arith, p .ready .made);
-          bump = p .ready .bump;
-          ends = p .ready .ends;
-          few = omega (arith, step-got);
-          placed = p .ready .placed;
-          counted = λ a g z. let m : first ≡ a = cc in let n : got ≡ g = cc in rw (← m, ← n) s;
-          own = λ a g z. let m : first ≡ a = cc in rw (← m) step-own;
-          beyond = λ j h. refl;
-          list = sym (rw (← held-next, cmp) (append-nil (pdusFrom f w (2 * q) 0 (t .made))));
-          held = rw (← held-next, cmp);
-        }) va key ke u c en
+    module _ (next : Open) (ne : next ≡ nextBy w at i) where
+      next-is : next ≡ nextAt w (3 * q) (t .live) i
+      next-is = ne ∙ next-by
 
-    -- the PDU is complete
-    pub step-full :
-        (key need : ℕ) → key ≡ word w (6 * i) → Need (since f w key first (i + 1)) got need → need ≤ got →
-        (v : List ℕ) (top : ℕ) → Finished f w (2 * q) (t .made) (t .top) i first need v top →
-        (u : List ℕ) (c : ℕ) → Entered v (indexOf q) (t .live) key 0 0 u c →
-        Stepped f w q t i u (record { live = c; made = t .made + 1; top = top })
-    unfolding heldOf stillOpen completed isComplete
-    step-full key need ke ni le v top fin u c en =
-        let s = step-first in
-        let B : List ℕ = since f w (word w (6 * i)) first (i + 1) in
-        let nb : need ≡ 4 + le16 B 0 = (rw ke at (ni .enough le)) in
-        let cmp : leb (4 + le16 B 0) (length B) ≡ true = le-leb (4 + le16 B 0) (length B) (omega (arith, s .1)) in
-        step-row v (t .made + 1) top Closed 0 0 (record {
-          front = front-less (4 * q) (t .top) v w (p .ready .bump) (fin .front);
-          rows = λ j lo hi. fin .above j (omega (arith, p .ready .made, p .tabled .total, p .ready .quarter));
-          size = fin .size;
-          most = omega (arith, p .ready .made);
-          bump = omega (arith, p .ready .bump, fin .least);
-          ends = omega (arith, fin .most, fin .pays, p .ready .ends);
-          few = omega (arith, fin .pays, step-got);
-          placed = fin .placed;
-          counted = λ a g z. never z;
-          own = λ a g z. never z;
-          beyond = λ j h. fin .above j (omega (arith, h, p .ready .made, p .tabled .total, p .ready .quarter));
-          list = fin .list ∙ rw (← held-next, cmp);
-          held = rw (← held-next, cmp);
-        }) (as-zero 0 0 refl) key ke u c en
+      -- a continuation of nothing
+      pub step-skip : next ≡ Closed → Stepped f w q t i w t
+      unfolding heldOf stillOpen completed
+      step-skip e₀ =
+          let e : nextAt w (3 * q) (t .live) i ≡ Closed = sym next-is ∙ e₀ in
+          let k : ℕ = word w (6 * i) in
+          let hn : none ≡ after f w (3 * q) (t .live) i = (rw e at (arrive-held f w (3 * q) (t .live) i (p .ready .sound))) in
+          let no : openAt w (3 * q) (t .live) k ≡ Closed = arrive-none w (3 * q) (t .live) i e in
+          let says : (j : ℕ) → openAt w (3 * q) (t .live) j ≡ cond (eqb k j) Closed (openAt w (3 * q) (t .live) j) =
+          (λ j. split≡ k j (λ z. rw (eq-eqb k j z) (ap (openAt w (3 * q) (t .live)) (sym z) ∙ no)) (λ z. rw (ne-eqb k j z))) in
+          let vs : (a g : ℕ) → Closed ≡ From a g → (a ≤ i) × (g ≡ length (since f w k a (i + 1))) = (λ a g x. never x) in
+          let vo : (a g : ℕ) → Closed ≡ From a g → word w (6 * a) ≡ k = (λ a g x. never x) in
+          record {
+            ready = record {
+              quarter = p .ready .quarter;
+              live = p .ready .live;
+              made = omega (arith, p .ready .made);
+              bump = p .ready .bump;
+              ends = p .ready .ends;
+              few = omega (arith, p .ready .few, data-next w i);
+              sound = next-sound f w w (3 * q) (t .live) (t .live) i (4 * q) Closed (p .ready .sound) (front-refl (4 * q) w) low says vs vo;
+              placed = p .ready .placed;
+            };
+            front = front-refl (4 * q) w;
+            beyond = λ j h. refl;
+            finds = λ j. refl;
+            size = refl;
+            list = sym (rw (← hn) (append-nil (pdusFrom f w (2 * q) 0 (t .made))));
+            map = next-map f w w (3 * q) (t .live) (t .live) i (4 * q) Closed (p .ready .sound) (front-refl (4 * q) w) low says vs vo ∙ rw (← hn, number-at f w i);
+          }
+
+      module _ (first got : ℕ) (fe : next ≡ From first got) where
+        e : nextAt w (3 * q) (t .live) i ≡ From first got
+        e = sym next-is ∙ fe
+
+        step-first : (first ≤ i) × (got ≡ length (since f w (word w (6 * i)) first (i + 1)))
+        step-first = arrive-sound f w (3 * q) (t .live) i (p .ready .sound) (p .tabled .fits .fits i (omega arith)) first got e
+
+        step-own : word w (6 * first) ≡ word w (6 * i)
+        step-own = arrive-own f w (3 * q) (t .live) i (p .ready .sound) first got e
+
+        -- what the machine has at hand, from the packet that began it
+        step-begun : begun f w first (i + 1) ≡ since f w (word w (6 * i)) first (i + 1)
+        step-begun = rw step-own
+
+        pub step-walk : Walk f w q first (i + 1)
+        step-walk = record { tabled = p .tabled; quarter = p .ready .quarter; linked = p .linked; before = omega (arith, step-first .0) }
+
+        held-next : some (since f w (word w (6 * i)) first (i + 1)) ≡ after f w (3 * q) (t .live) i
+        unfolding heldOf
+        held-next = (rw e at (arrive-held f w (3 * q) (t .live) i (p .ready .sound)))
+
+        -- what is made and open, with the new bytes in place of the key's old ones
+        step-got : 4 * t .made + paysOf w (2 * q) (t .made) + sumOf w (3 * q) (t .live) + got ≤ dataOf w (i + 1) + second (lookup w (3 * q) (t .live) (word w (6 * i)))
+        step-got = omega (arith, arrive-got w (3 * q) (t .live) i first got e, data-next w i, p .ready .few)
+
+        step-small : got + 4 * t .made + paysOf w (2 * q) (t .made) ≤ dataOf w (i + 1)
+        step-small = omega (arith, step-got, second-le w (3 * q) (t .live) (word w (6 * i)))
+
+        pub narrow-first : first + 1 < 4294967296
+        narrow-first = omega (arith, step-first .0, p .tabled .total, p .tabled .small)
+
+        pub first-fits : first + 1 < 18446744073709551616
+        first-fits = omega (arith, narrow-first)
+
+        pub narrow-got : got < 4294967296
+        narrow-got = omega (arith, step-small, p .tabled .total, p .tabled .small)
+
+        pub step-finish : (need : ℕ) → Need (begun f w first (i + 1)) got need → need ≤ got → Finish f w q (t .made) (t .top) i first need
+        step-finish need ni le = record {
+          walk = step-walk;
+          low = omega (arith, p .tabled .total, p .ready .quarter, p .ready .bump);
+          mid = omega (arith, p .ready .ends, step-small, p .tabled .total, p .ready .quarter);
+          room = omega (arith, p .ready .made, p .tabled .total, p .tabled .room, p .ready .quarter);
+          small = omega (arith, p .ready .made, p .tabled .total, p .tabled .small, p .ready .quarter);
+          needs = ni .enough le;
+          there = rw step-begun (omega (arith, step-first .1));
+          placed = p .ready .placed;
+        }
+
+        -- the PDU is not complete
+        pub step-hold :
+            (need : ℕ) → Need (begun f w first (i + 1)) got need → got < need →
+            (x y : ℕ) → x ≡ first + 1 → y ≡ got → (u : List ℕ) → u ≡ putOpen w at x y → Stepped f w q t i u t
+        unfolding heldOf stillOpen completed isComplete
+        step-hold need ni lt x y xe ye u eu =
+            let s = step-first in
+            let B : List ℕ = since f w (word w (6 * i)) first (i + 1) in
+            let cmp : leb (4 + le16 B 0) (length B) ≡ false = lt-leb (4 + le16 B 0) (length B) (let g : got < 4 + le16 B 0 = (rw step-begun at (ni .short lt)) in omega (arith, s .1)) in
+            let va : asOpen (row x y) ≡ From first got = as-pos x y (λ z. omega arith) ∙ (let z : x - 1 ≡ first = omega arith in rw (z, ye)) in
+            step-set w (t .made) (t .top) (From first got) x y (record {
+              front = front-refl (4 * q) w;
+              rows = λ j lo hi. refl;
+              size = refl;
+              most = omega (arith, p .ready .made);
+              bump = p .ready .bump;
+              ends = p .ready .ends;
+              few = omega (arith, step-got);
+              placed = p .ready .placed;
+              counted = λ a g z. let m : first ≡ a = cc in let n : got ≡ g = cc in rw (← m, ← n) s;
+              own = λ a g z. let m : first ≡ a = cc in rw (← m) step-own;
+              beyond = λ j h. refl;
+              list = sym (rw (← held-next, cmp) (append-nil (pdusFrom f w (2 * q) 0 (t .made))));
+              held = rw (← held-next, cmp);
+            }) va u eu
+
+        -- the PDU is complete
+        pub step-full :
+            (need : ℕ) → Need (begun f w first (i + 1)) got need → need ≤ got →
+            (v : List ℕ) (top : ℕ) → Finished f w (2 * q) (t .made) (t .top) i first need v top →
+            (u : List ℕ) → u ≡ putOpen v at 0 0 → Stepped f w q t i u (record { live = t .live; made = t .made + 1; top = top })
+        unfolding heldOf stillOpen completed isComplete
+        step-full need ni le v top fin u eu =
+            let s = step-first in
+            let B : List ℕ = since f w (word w (6 * i)) first (i + 1) in
+            let nb : need ≡ 4 + le16 B 0 = (rw step-begun at (ni .enough le)) in
+            let cmp : leb (4 + le16 B 0) (length B) ≡ true = le-leb (4 + le16 B 0) (length B) (omega (arith, s .1)) in
+            step-set v (t .made + 1) top Closed 0 0 (record {
+              front = front-less (4 * q) (t .top) v w (p .ready .bump) (fin .front);
+              rows = λ j lo hi. fin .above j (omega (arith, p .ready .made, p .tabled .total, p .ready .quarter));
+              size = fin .size;
+              most = omega (arith, p .ready .made);
+              bump = omega (arith, p .ready .bump, fin .least);
+              ends = omega (arith, fin .most, fin .pays, p .ready .ends);
+              few = omega (arith, fin .pays, step-got);
+              placed = fin .placed;
+              counted = λ a g z. never z;
+              own = λ a g z. never z;
+              beyond = λ j h. fin .above j (omega (arith, h, p .ready .made, p .tabled .total, p .ready .quarter));
+              list = fin .list ∙ rw (step-begun, ← held-next, cmp);
+              held = rw (← held-next, cmp);
+            }) (as-zero 0 0 refl) u eu

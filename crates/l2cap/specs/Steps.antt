@@ -9,16 +9,14 @@ use lib.Dec.{eqb, ltb}
 use Rattle.laws.specs.Numbers.{le16}
 use Rattle.words.specs.Words.{word, putWord}
 use Rattle.words.specs.Front.{Front}
-use Rattle.table.specs.Table.{Slot, none as no-row, some as row, lookup, sumOf, upd, some}
-use Rattle.tree.specs.Tree.{Indexed, SeekPre, EnterPre}
-use Rattle.tree.specs.declared.Tree.{Tree}
+use Rattle.table.specs.Table.{Slot, none as no-row, some as row, findIn, lookup, sumOf}
 use Rattle.container.specs.Packets.{Packet}
 use Rattle.btsnoop.specs.PacketTable.{packetAt, packetsFrom, dataOf, Tabled}
 use Rattle.l2cap.specs.Pdus.{joined, stillOpen, completed, pduOf}
 use Rattle.l2cap.specs.PduTable.{pdusFrom, paysOf}
 use Rattle.l2cap.specs.PduFrames.{Placed}
 use Rattle.l2cap.specs.Rekeyed.{putBy}
-use Rattle.l2cap.specs.Links.{Linked, nextIn}
+use Rattle.l2cap.specs.Links.{Linked, Seats, Blank}
 use Rattle.l2cap.specs.declared.Open.{Open}
 use Rattle.l2cap.specs.declared.Open.the-variants.{Closed, From}
 use Rattle.l2cap.specs.declared.Tables.{Tables}
@@ -41,23 +39,23 @@ gathered k (p ∷ ps) = pieceOf k p ++ gathered k ps
 unfoldable pub since : List ℕ → List ℕ → ℕ → ℕ → ℕ → List ℕ
 since f w k first upto = gathered k (packetsFrom f w first (upto - first))
 
-unfoldable pub brought : List ℕ → ℕ → ℕ → ℕ
-brought w k i = cond (eqb (word w (6 * i)) k) (word w (6 * i + 3)) 0
+-- what the key of packet first has from there on
+abbrev pub begun : List ℕ → List ℕ → ℕ → ℕ → List ℕ
+begun f w first upto = since f w (word w (6 * first)) first upto
 
--- the packets are linked, and the first has the key
-pub record Walk (f w : List ℕ) (q first upto key : ℕ) : Type 0 where
+-- the packets are linked
+pub record Walk (f w : List ℕ) (q first upto : ℕ) : Type 0 where
   pub tabled : Tabled f w upto
   pub quarter : q ≡ length f / 4
   pub linked : Linked w q upto
-  pub before : first ≤ upto
-  pub own : word w (6 * first) ≡ key
+  pub before : first < upto
 
 pub record Paste (f w : List ℕ) (i left to : ℕ) : Type 0 where
   pub tabled : Tabled f w (i + 1)
   pub room : to + left ≤ length w
 
-pub record Gather (f w : List ℕ) (q first upto key need to : ℕ) : Type 0 where
-  pub walk : Walk f w q first upto key
+pub record Gather (f w : List ℕ) (q first upto need to : ℕ) : Type 0 where
+  pub walk : Walk f w q first upto
   pub low : 24 * upto ≤ to
   pub high : to + need ≤ 28 * q
   pub room : to + need ≤ length w
@@ -68,10 +66,6 @@ pub record Need (B : List ℕ) (got r : ℕ) : Type 0 where
   pub short : got < r → got < 4 + le16 B 0
 
 -- ---- what is open
-
--- where the open PDUs stand and their index
-abbrev pub indexOf : ℕ → Tree
-indexOf q = record { rows = 3 * q; links = 5 * q }
 
 -- a row holds the number of the first packet and one more, or 0 if nothing is open, and the bytes so far
 unfoldable pub asOpen : Slot → Open
@@ -93,21 +87,28 @@ grown start o i n = cond (eqb start 1) (From i n) (longer o n)
 unfoldable pub nextAt : List ℕ → ℕ → ℕ → ℕ → Open
 nextAt w b live i = grown (word w (6 * i + 1)) (openAt w b live (word w (6 * i))) i (word w (6 * i + 3))
 
-pub record Small (o : Open) (n : ℕ) : Type 0 where
-  pub small : (a g : ℕ) → o ≡ From a g → g + n ≤ 67108864
+-- where the row of packet i's key stands, and that it can be read
+unfoldable pub rowAt : List ℕ → ℕ → ℕ → ℕ
+rowAt w q i = 3 * q + 4 * word w (7 * q + 2 * i + 1)
 
-pub record Look (w : List ℕ) (q live : ℕ) : Type 0 where
-  pub seek : SeekPre w (indexOf q) live
-  pub small : q ≤ 1048576
+pub record RowPre (w : List ℕ) (q i : ℕ) : Type 0 where
+  pub room : 4 * (7 * q + 2 * i) + 8 ≤ length w
+  pub small : rowAt w q i ≤ 67108864
 
-pub record SetOpen (w : List ℕ) (q live : ℕ) : Type 0 where
-  pub enter : EnterPre w (indexOf q) live
-  pub small : q ≤ 1048576
+-- by the row at a word: what is open, and what is open once packet i is read
+unfoldable pub openIn : List ℕ → ℕ → Open
+openIn w at = asOpen (row (word w (at + 2)) (word w (at + 3)))
 
-pub record Arrive (w : List ℕ) (q live i : ℕ) : Type 0 where
+unfoldable pub nextBy : List ℕ → ℕ → ℕ → Open
+nextBy w at i = grown (word w (6 * i + 1)) (openIn w at) i (word w (6 * i + 3))
+
+pub record Arrive (w : List ℕ) (at i : ℕ) : Type 0 where
   pub low : 24 * i + 24 ≤ length w
-  pub look : Look w q live
-  pub sums : sumOf w (3 * q) live + word w (6 * i + 3) ≤ 67108864
+  pub room : 4 * at + 16 ≤ length w
+  pub sums : word w (at + 3) + word w (6 * i + 3) ≤ 67108864
+
+unfoldable pub putOpen : List ℕ → ℕ → ℕ → ℕ → List ℕ
+putOpen w at y z = putWord (putWord w (at + 2) y) (at + 3) z
 
 -- ---- a PDU's row
 
@@ -125,18 +126,17 @@ pub record PutPdu (w : List ℕ) (at s l : ℕ) : Type 0 where
   pub len : l < 4294967296
 
 pub record Finish (f w : List ℕ) (q made top i first need : ℕ) : Type 0 where
-  pub walk : Walk f w q first (i + 1) (word w (6 * i))
+  pub walk : Walk f w q first (i + 1)
   pub low : 24 * i + 24 ≤ top
   pub mid : top + need ≤ 4 * (2 * q)
   pub room : 4 * (2 * q + 7 * made) + 28 ≤ length w
   pub small : 2 * q + 7 * made ≤ 16777216
-  pub before : first ≤ i
-  pub needs : need ≡ 4 + le16 (since f w (word w (6 * i)) first (i + 1)) 0
-  pub there : need ≤ length (since f w (word w (6 * i)) first (i + 1))
+  pub needs : need ≡ 4 + le16 (begun f w first (i + 1)) 0
+  pub there : need ≤ length (begun f w first (i + 1))
   pub placed : Placed f w (2 * q) made top
 
 pub record Finished (f w : List ℕ) (b made top i first need : ℕ) (u : List ℕ) (r : ℕ) : Type 0 where
-  pub list : pdusFrom f u b 0 (made + 1) ≡ pdusFrom f w b 0 made ++ (pduOf (since f w (word w (6 * i)) first (i + 1)) (packetAt f w i) ∷ [])
+  pub list : pdusFrom f u b 0 (made + 1) ≡ pdusFrom f w b 0 made ++ (pduOf (begun f w first (i + 1)) (packetAt f w i) ∷ [])
   pub placed : Placed f u b (made + 1) r
   pub pays : paysOf u b (made + 1) + 4 ≡ paysOf w b made + need
   pub front : Front top u w
@@ -164,19 +164,19 @@ pub record Sound (f w : List ℕ) (b live i : ℕ) : Type 0 where
 -- i packets are read. Every data byte is in one open PDU or one made, or dropped: so all areas have room.
 pub record Ready (f w : List ℕ) (q : ℕ) (t : Tables) (i : ℕ) : Type 0 where
   pub quarter : q ≡ length f / 4
-  pub live : t .live ≤ i
+  pub live : 2 * t .live ≤ q
   pub made : t .made ≤ i
   pub bump : 4 * q ≤ t .top
   pub ends : t .top ≤ 4 * q + 4 * t .made + paysOf w (2 * q) (t .made)
   pub few : 4 * t .made + paysOf w (2 * q) (t .made) + sumOf w (3 * q) (t .live) ≤ dataOf w i
   pub sound : Sound f w (3 * q) (t .live) i
-  pub indexed : Indexed w (indexOf q) (t .live)
   pub placed : Placed f w (2 * q) (t .made) (t .top)
 
 pub record Step (f w : List ℕ) (q : ℕ) (t : Tables) (i : ℕ) : Type 0 where
   pub ready : Ready f w q t i
   pub tabled : Tabled f w (i + 1)
   pub linked : Linked w q (i + 1)
+  pub seats : Seats w q (t .live) (i + 1)
 
 -- the state that packet i finds, and the bytes at hand after it
 abbrev pub after : List ℕ → List ℕ → ℕ → ℕ → ℕ → Option (List ℕ)
@@ -186,34 +186,18 @@ pub record Stepped (f w : List ℕ) (q : ℕ) (t : Tables) (i : ℕ) (u : List �
   pub ready : Ready f u q r (i + 1)
   pub front : Front (4 * q) u w
   pub beyond : (j : ℕ) → 7 * q ≤ j → word u j ≡ word w j
+  pub finds : (k : ℕ) → findIn u (3 * q) k (r .live) ≡ findIn w (3 * q) k (t .live)
   pub size : length u ≡ length w
   pub list : pdusFrom f u (2 * q) 0 (r .made) ≡ pdusFrom f w (2 * q) 0 (t .made) ++ completed (after f w (3 * q) (t .live) i) (packetAt f w i)
   pub map : _≡_ {A = ℕ → Option (List ℕ)} (mapOf f u (3 * q) (r .live) (i + 1)) (putBy eqb (mapOf f w (3 * q) (t .live) i) (numberOf (packetAt f w i)) (stillOpen (after f w (3 * q) (t .live) i)))
 
 -- ---- all steps
 
--- a table of packets, linked, and nothing open
-pub record Run (f w : List ℕ) (q count : ℕ) : Type 0 where
+-- a table of packets, linked, and n rows with their keys where nothing is open
+pub record Run (f w : List ℕ) (q n count : ℕ) : Type 0 where
   pub tabled : Tabled f w count
   pub quarter : q ≡ length f / 4
   pub linked : Linked w q count
-  pub indexed : Indexed w (indexOf q) 0
-
--- ---- the packets linked
-
--- packet i can be linked, with the keys of those behind it in the table
-pub record LinkStep (w : List ℕ) (q rows i : ℕ) : Type 0 where
-  pub opens : SetOpen w q rows
-  pub low : 24 * i + 24 ≤ 4 * q
-  pub room : 32 * q ≤ length w
-
--- packet i is linked to what the table says of its key; if it brings bytes, the table then says i
-pub record LinkedStep (w : List ℕ) (q rows i x : ℕ) (u : List ℕ) (r : ℕ) : Type 0 where
-  pub link : word u (7 * q + i) ≡ nextIn x (lookup w (3 * q) rows (word w (6 * i)))
-  pub says : (word w (6 * i + 3) ≡ 0 → ⊥) → (k : ℕ) → lookup u (3 * q) r k ≡ upd (lookup w (3 * q) rows) (word w (6 * i)) (some (i + 1) 0) k
-  pub empty : word w (6 * i + 3) ≡ 0 → (k : ℕ) → lookup u (3 * q) r k ≡ lookup w (3 * q) rows k
-  pub indexed : Indexed u (indexOf q) r
-  pub most : r ≤ rows + 1
-  pub front : Front (4 * (3 * q)) u w
-  pub beyond : (j : ℕ) → 7 * q ≤ j → (7 * q + i ≡ j → ⊥) → word u j ≡ word w j
-  pub size : length u ≡ length w
+  pub seats : Seats w q n count
+  pub few : n ≤ count
+  pub blank : Blank w (3 * q) n

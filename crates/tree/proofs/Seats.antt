@@ -23,7 +23,7 @@ use Rattle.tree.specs.declared.Spot.the-variants.{Taken, Free}
 no-row : {A : Type 0} (r : Row) (i : ℕ) → r ≡ Nothing → r ≡ At i → A
 no-row r i p q = let z : _≡_ {A = ℕ} 0 1 = cc in absurd (omega arith)
 
-split-row : {G : Type 0} (r : Row) → ((i : ℕ) → r ≡ At i → G) → (r ≡ Nothing → G) → G
+pub split-row : {G : Type 0} (r : Row) → ((i : ℕ) → r ≡ At i → G) → (r ≡ Nothing → G) → G
 split-row (At i) f g = f i refl
 split-row Nothing f g = g refl
 
@@ -47,6 +47,7 @@ module _ (w : List ℕ) (x : Tree) (n k y z : ℕ) (p : EnterPre w x n) where
     known = λ j f. (refl, (refl, same-row (findIn w (x .rows) k n) i j e f));
     fresh = λ f. no-row (findIn w (x .rows) k n) i f e;
     row = e;
+    others = λ j q. refl;
     few = find-below w (x .rows) k n i e;
     says = says-old (lookup w (x .rows) n) k y z (word w (x .rows + 4 * i + 2)) (word w (x .rows + 4 * i + 3)) (lookup-found w (x .rows) k n i e);
     indexed = p .indexed;
@@ -63,6 +64,7 @@ module _ (w : List ℕ) (x : Tree) (n k y z : ℕ) (p : EnterPre w x n) where
     known = λ j f. no-row (findIn w (x .rows) k n) j e f;
     fresh = λ f. (a .entered, (refl, refl));
     row = a .row;
+    others = a .others;
     few = omega arith;
     says = λ j. a .entered .stored .says j ∙ says-new (lookup w (x .rows) n) k y z (lookup-nothing w (x .rows) k n e) j;
     indexed = a .entered .indexed;

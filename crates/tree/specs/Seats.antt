@@ -23,6 +23,7 @@ pub record Seated (w : List ℕ) (x : Tree) (n k y z : ℕ) (u : List ℕ) (r : 
   pub known : (i : ℕ) → findIn w (x .rows) k n ≡ At i → (u ≡ w) × ((r .rows ≡ n) × (r .at ≡ i))
   pub fresh : findIn w (x .rows) k n ≡ Nothing → Entered w x n k y z u (n + 1) × ((r .rows ≡ n + 1) × (r .at ≡ n))
   pub row : findIn u (x .rows) k (r .rows) ≡ At (r .at)
+  pub others : (j : ℕ) → (k ≡ j → ⊥) → findIn u (x .rows) j (r .rows) ≡ findIn w (x .rows) j n
   pub few : r .at < r .rows
   pub says : (j : ℕ) → lookup u (x .rows) (r .rows) j ≡ upd (lookup w (x .rows) n) k (seatOf y z (lookup w (x .rows) n k)) j
   pub indexed : Indexed u x (r .rows)

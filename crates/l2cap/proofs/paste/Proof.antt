@@ -1,53 +1,41 @@
 use Rattle.l2cap.proofs.Walking.{paste-part, paste-room, paste-is}
+use native.Mathlib.Omega.{arith}
 use borrow.Author.Needs.{needs}
 use Rattle.l2cap.proofs.paste.Statement.{statement}
 use Rattle.l2cap.proofs.paste.Tie as tie
 use Rattle.l2cap.proofs.paste.Reads as reads
 use Rattle.l2cap.proofs.paste.Lts as lts
-use Rattle.l2cap.proofs.brings.Reads as brings-reads
 use Rattle.l2cap.proofs.least.Reads as least-reads
+use Rattle.l2cap.proofs.len_of.Reads as len-of-reads
 use Rattle.l2cap.proofs.part.Reads as part-reads
+use Rattle.l2cap.proofs.place_of.Reads as place-of-reads
 use Rattle.words.proofs.copy_to.Reads as copy-to-reads
-use Rattle.words.proofs.get32.Reads as get32-reads
-use Rattle.words.proofs.wide32.Reads as wide32-reads
 
--- src/lib.rt:117:19
-brings-requires : tie.Need-brings-requires
-brings-requires c κs = search needs
+-- src/lib.rt:137:19
+len-of-requires : tie.Need-len-of-requires
+len-of-requires c κs = search needs
 
--- src/lib.rt:117:9
+-- src/lib.rt:137:9
 least-requires : tie.Need-least-requires
 least-requires c κs = search needs
 
--- src/lib.rt:118:29
-mul-get32 : tie.Need-mul-get32
-mul-get32 c = search needs
+-- src/lib.rt:138:9
+place-of-requires : tie.Need-place-of-requires
+place-of-requires c κs = search needs
 
--- src/lib.rt:118:29
-add-get32 : tie.Need-add-get32
-add-get32 c = search needs
-
--- src/lib.rt:118:20
-get32-requires : tie.Need-get32-requires
-get32-requires c κs = search needs
-
--- src/lib.rt:118:9
-wide32-requires : tie.Need-wide32-requires
-wide32-requires c κs = search needs
-
--- src/lib.rt:119:13
+-- src/lib.rt:139:13
 part-requires : tie.Need-part-requires
 part-requires c κs = search paste-part
 
--- src/lib.rt:119:5
+-- src/lib.rt:139:5
 copy-to-requires : tie.Need-copy-to-requires
 copy-to-requires c κs = search paste-room
 
--- src/lib.rt:113:1
+-- src/lib.rt:133:1
 same-length : tie.Need-same-length
 same-length c = search needs
 
--- src/lib.rt:113:1
+-- src/lib.rt:133:1
 returns : tie.Need-returns
 returns c = search paste-is
 
@@ -55,12 +43,9 @@ pub paste-spec : {M : Type 1} → statement M
 paste-spec =
     tie.close
     (tie.spec
-    brings-requires
+    len-of-requires
     least-requires
-    mul-get32
-    add-get32
-    get32-requires
-    wide32-requires
+    place-of-requires
     part-requires
     copy-to-requires
     same-length

@@ -9,21 +9,21 @@ use Rattle.l2cap.proofs.reassemble.Lts as lts
 use Rattle.l2cap.proofs.link_packets.Reads as link-packets-reads
 use Rattle.l2cap.proofs.run.Reads as run-reads
 
--- src/lib.rt:380:5
+-- src/lib.rt:412:9
 link-packets-requires : tie.Need-link-packets-requires
 link-packets-requires c κs = search needs
 
--- src/lib.rt:381:5
+-- src/lib.rt:413:5
 run-requires : tie.Need-run-requires
-run-requires c κs = link-run _ _ _ (c .before .before .before .before .before .before .before .pre) _ refl _ (c .before .before .before .link-packets .ensures)
+run-requires c κs = link-run _ _ _ (c .before .before .before .before .before .before .before .pre) _ refl _ _ (c .before .before .before .link-packets .ensures)
 
--- src/lib.rt:375:1
+-- src/lib.rt:407:1
 same-length : tie.Need-same-length
 same-length c = search needs
 
--- src/lib.rt:375:1
+-- src/lib.rt:407:1
 returns : tie.Need-returns
-returns c = run-all _ _ _ (c .before .before .before .before .before .before .before .before .before .before .pre) _ refl _ (c .before .before .before .before .before .before .link-packets .ensures) _ _ (c .before .before .run .ensures)
+returns c = run-all _ _ _ (c .before .before .before .before .before .before .before .before .before .before .pre) _ refl _ _ (c .before .before .before .before .before .before .link-packets .ensures) _ _ (c .before .before .run .ensures)
 
 pub reassemble-spec : {M : Type 1} → statement M
 reassemble-spec = tie.close (tie.spec link-packets-requires run-requires same-length returns)
