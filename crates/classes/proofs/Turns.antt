@@ -1,10 +1,11 @@
--- Different keys part after a bounded number of turns: their first 87 bits are not the same.
+-- Different keys part after a bounded number of turns: they are in different trees, or one of their first 87 bits is not the same.
 use mathlib.Core.Path.{_≡_, refl, sym, ap, _∙_}
 use mathlib.Core.List.{List, [], _∷_}
 use Prim.Native.Nat.{ℕ, zero, suc, _+_, _*_, _/_, _%_, _<_, _≤_}
 use native.Mathlib.Omega.{arith}
 use Rattle.laws.specs.Keys.{Key}
-use Rattle.classes.specs.Classes.{mixOf, pairOf, firstOf, secondOf, turnOf, bitsOf, turn-used, turn-on}
+use Rattle.classes.specs.Bits.{mixOf, pairOf, firstOf, secondOf, turnOf, rootsOf, bitsOf}
+use Rattle.classes.proofs.Bits.{turn-used, turn-on, roots-case}
 
 twice : ℕ → ℕ
 twice zero = 1
@@ -25,10 +26,10 @@ unfolding turned
 turned-first k r zero = refl
 turned-first k r (suc d) = ap (turnOf k) (turned-first k r d)
 
-bits-turned : (k : Key) (m d : ℕ) → bitsOf k (m + d) ≡ turned k (bitsOf k m) d
+bits-turned : (m : ℕ) (k : Key) (n d : ℕ) → bitsOf m k (n + d) ≡ turned k (bitsOf m k n) d
 unfolding turned bitsOf
-bits-turned k m zero = let z : m + 0 ≡ m = omega arith in rw z
-bits-turned k m (suc d) = let z : m + suc d ≡ suc (m + d) = omega arith in rw z (ap (turnOf k) (bits-turned k m d))
+bits-turned m k n zero = let z : n + 0 ≡ n = omega arith in rw z
+bits-turned m k n (suc d) = let z : n + suc d ≡ suc (n + d) = omega arith in rw z (ap (turnOf k) (bits-turned m k n d))
 
 -- a number with its highest bit, the mark, above n others
 record Marked (n a : ℕ) : Type 0 where
@@ -80,17 +81,23 @@ pub record Ranged (dlci side cid counts : ℕ) : Type 0 where
   pub cids : cid < 65536
   pub many : counts < 4294967296
 
-mix-marked : (a b c d : ℕ) → Marked 24 (mixOf a b c d)
-unfolding twice mixOf
-mix-marked a b c d = record { least = omega arith; most = omega arith }
+mix-least : (a b c d : ℕ) → 16777216 ≤ mixOf a b c d
+unfolding mixOf
+mix-least a b c d = omega arith
 
-second-bits : (a b c d : ℕ) → bitsOf (a ∷ b ∷ c ∷ d ∷ []) 24 ≡ pairOf b d
-unfolding firstOf secondOf bitsOf
-second-bits a b c d = bits-turned (a ∷ b ∷ c ∷ d ∷ []) 0 24 ∙ used (a ∷ b ∷ c ∷ d ∷ []) 23 (mixOf a b c d) (mix-marked a b c d)
+mix-most : (a b c d : ℕ) → mixOf a b c d < 33554432
+unfolding mixOf
+mix-most a b c d = omega arith
 
 pair-marked : (b d : ℕ) → d < 4294967296 → Marked 63 (pairOf b d)
 unfolding twice pairOf
 pair-marked b d h = record { least = omega arith; most = omega arith }
+
+-- the trees are so many that what is left of a first number is marked too
+record Halved (m e : ℕ) : Type 0 where
+  few : e < 24
+  marked : (x : ℕ) → 16777216 ≤ x → x < 33554432 → Marked (suc e) (x / m)
+  whole : (x y : ℕ) → x % m ≡ y % m → x / m ≡ y / m → x ≡ y
 
 module _ (a b c d e f g h : ℕ) (p : Ranged a b c d) (q : Ranged e f g h) where
   same-pair : pairOf b d ≡ pairOf f h → (b ≡ f) × (d ≡ h)
@@ -103,30 +110,66 @@ module _ (a b c d e f g h : ℕ) (p : Ranged a b c d) (q : Ranged e f g h) where
       let v : c + 106039 * a ≡ g + 106039 * e = same-sum _ c a g e (p .cids) (p .dlcis) (q .cids) (q .dlcis) (rw (x, y) at z) in
       (omega (arith, v, p .cids, q .cids), omega (arith, v, p .cids, q .cids))
 
-  -- two keys whose first 87 bits are the same are the same
-  pub keys-part : ((n : ℕ) → n < 87 → bitsOf (a ∷ b ∷ c ∷ d ∷ []) n % 2 ≡ bitsOf (e ∷ f ∷ g ∷ h ∷ []) n % 2) → _≡_ {A = Key} (a ∷ b ∷ c ∷ d ∷ []) (e ∷ f ∷ g ∷ h ∷ [])
-  unfolding firstOf secondOf bitsOf
-  keys-part bit =
-      let m : mixOf a b c d ≡ mixOf e f g h = same-bits k l 23 (mixOf a b c d) (mixOf e f g h) (mix-marked a b c d) (mix-marked e f g h) early in
-      let r : pairOf b d ≡ pairOf f h = same-bits k l 62 (pairOf b d) (pairOf f h) (pair-marked b d (p .many)) (pair-marked f h (q .many)) late in
-      let s : (b ≡ f) × (d ≡ h) = same-pair r in
-      let t : (a ≡ e) × (c ≡ g) = same-mix (s .0) (s .1) m in
-      rw (t .0, s .0, t .1, s .1) where
-        k : Key
-        k = a ∷ b ∷ c ∷ d ∷ []
+  module _ (m t : ℕ) (o : Halved m t) (same : mixOf a b c d % m ≡ mixOf e f g h % m) (bit : (n : ℕ) → n < 87 → bitsOf m (a ∷ b ∷ c ∷ d ∷ []) n % 2 ≡ bitsOf m (e ∷ f ∷ g ∷ h ∷ []) n % 2) where
+    k-marked : Marked (suc t) (mixOf a b c d / m)
+    k-marked = o .marked (mixOf a b c d) (mix-least a b c d) (mix-most a b c d)
 
-        l : Key
-        l = e ∷ f ∷ g ∷ h ∷ []
+    l-marked : Marked (suc t) (mixOf e f g h / m)
+    l-marked = o .marked (mixOf e f g h) (mix-least e f g h) (mix-most e f g h)
 
-        early : (n : ℕ) → n < 24 → turned k (mixOf a b c d) n % 2 ≡ turned l (mixOf e f g h) n % 2
-        early n o =
-            let z : 0 + n ≡ n = omega arith in
-            let x : bitsOf k n ≡ turned k (mixOf a b c d) n = rw z at (bits-turned k 0 n) in
-            let y : bitsOf l n ≡ turned l (mixOf e f g h) n = rw z at (bits-turned l 0 n) in
-            rw (← x, ← y) (bit n (omega arith))
+    early : (n : ℕ) → n < suc t → turned (a ∷ b ∷ c ∷ d ∷ []) (mixOf a b c d / m) n % 2 ≡ turned (e ∷ f ∷ g ∷ h ∷ []) (mixOf e f g h / m) n % 2
+    unfolding firstOf bitsOf
+    early n r =
+        let z : 0 + n ≡ n = omega arith in
+        let x : bitsOf m (a ∷ b ∷ c ∷ d ∷ []) n ≡ turned (a ∷ b ∷ c ∷ d ∷ []) (mixOf a b c d / m) n = rw z at (bits-turned m (a ∷ b ∷ c ∷ d ∷ []) 0 n) in
+        let y : bitsOf m (e ∷ f ∷ g ∷ h ∷ []) n ≡ turned (e ∷ f ∷ g ∷ h ∷ []) (mixOf e f g h / m) n = rw z at (bits-turned m (e ∷ f ∷ g ∷ h ∷ []) 0 n) in
+        rw (← x, ← y) (bit n (omega (arith, o .few)))
 
-        late : (n : ℕ) → n < 63 → turned k (pairOf b d) n % 2 ≡ turned l (pairOf f h) n % 2
-        late n o =
-            let x : bitsOf k (24 + n) ≡ turned k (pairOf b d) n = bits-turned k 24 n ∙ rw (second-bits a b c d) in
-            let y : bitsOf l (24 + n) ≡ turned l (pairOf f h) n = bits-turned l 24 n ∙ rw (second-bits e f g h) in
-            rw (← x, ← y) (bit (24 + n) (omega arith))
+    k-second : bitsOf m (a ∷ b ∷ c ∷ d ∷ []) (0 + suc t) ≡ pairOf b d
+    unfolding firstOf secondOf bitsOf
+    k-second = bits-turned m (a ∷ b ∷ c ∷ d ∷ []) 0 (suc t) ∙ used (a ∷ b ∷ c ∷ d ∷ []) t (mixOf a b c d / m) k-marked
+
+    l-second : bitsOf m (e ∷ f ∷ g ∷ h ∷ []) (0 + suc t) ≡ pairOf f h
+    unfolding firstOf secondOf bitsOf
+    l-second = bits-turned m (e ∷ f ∷ g ∷ h ∷ []) 0 (suc t) ∙ used (e ∷ f ∷ g ∷ h ∷ []) t (mixOf e f g h / m) l-marked
+
+    late : (n : ℕ) → n < 63 → turned (a ∷ b ∷ c ∷ d ∷ []) (pairOf b d) n % 2 ≡ turned (e ∷ f ∷ g ∷ h ∷ []) (pairOf f h) n % 2
+    late n r =
+        let x : bitsOf m (a ∷ b ∷ c ∷ d ∷ []) (0 + suc t + n) ≡ turned (a ∷ b ∷ c ∷ d ∷ []) (pairOf b d) n = bits-turned m (a ∷ b ∷ c ∷ d ∷ []) (0 + suc t) n ∙ rw k-second in
+        let y : bitsOf m (e ∷ f ∷ g ∷ h ∷ []) (0 + suc t + n) ≡ turned (e ∷ f ∷ g ∷ h ∷ []) (pairOf f h) n = bits-turned m (e ∷ f ∷ g ∷ h ∷ []) (0 + suc t) n ∙ rw l-second in
+        rw (← x, ← y) (bit (0 + suc t + n) (omega (arith, o .few)))
+
+    same-key : _≡_ {A = Key} (a ∷ b ∷ c ∷ d ∷ []) (e ∷ f ∷ g ∷ h ∷ [])
+    same-key =
+        let x : mixOf a b c d / m ≡ mixOf e f g h / m = same-bits (a ∷ b ∷ c ∷ d ∷ []) (e ∷ f ∷ g ∷ h ∷ []) t _ _ k-marked l-marked early in
+        let y : pairOf b d ≡ pairOf f h = same-bits (a ∷ b ∷ c ∷ d ∷ []) (e ∷ f ∷ g ∷ h ∷ []) 62 _ _ (pair-marked b d (p .many)) (pair-marked f h (q .many)) late in
+        let s : (b ≡ f) × (d ≡ h) = same-pair y in
+        let r : (a ≡ e) × (c ≡ g) = same-mix (s .0) (s .1) (o .whole _ _ same x) in
+        rw (r .0, s .0, r .1, s .1)
+
+-- trees of n rows
+halved-1 : Halved 1 23
+unfolding twice
+halved-1 = record { few = omega arith; marked = λ x l h. record { least = omega arith; most = omega arith }; whole = λ x y e f. omega arith }
+
+halved-256 : Halved 256 15
+unfolding twice
+halved-256 = record { few = omega arith; marked = λ x l h. record { least = omega arith; most = omega arith }; whole = λ x y e f. omega arith }
+
+halved-4096 : Halved 4096 11
+unfolding twice
+halved-4096 = record { few = omega arith; marked = λ x l h. record { least = omega arith; most = omega arith }; whole = λ x y e f. omega arith }
+
+halved-65536 : Halved 65536 7
+unfolding twice
+halved-65536 = record { few = omega arith; marked = λ x l h. record { least = omega arith; most = omega arith }; whole = λ x y e f. omega arith }
+
+-- two keys are the same that have the same tree and the same first 87 bits
+pub keys-part : (n a b c d e f g h : ℕ) → Ranged a b c d → Ranged e f g h → firstOf (a ∷ b ∷ c ∷ d ∷ []) % rootsOf n ≡ firstOf (e ∷ f ∷ g ∷ h ∷ []) % rootsOf n → ((j : ℕ) → j < 87 → bitsOf (rootsOf n) (a ∷ b ∷ c ∷ d ∷ []) j % 2 ≡ bitsOf (rootsOf n) (e ∷ f ∷ g ∷ h ∷ []) j % 2) → _≡_ {A = Key} (a ∷ b ∷ c ∷ d ∷ []) (e ∷ f ∷ g ∷ h ∷ [])
+unfolding firstOf
+keys-part n a b c d e f g h p q =
+    roots-case n (λ (m : ℕ). mixOf a b c d % m ≡ mixOf e f g h % m → ((j : ℕ) → j < 87 → bitsOf m (a ∷ b ∷ c ∷ d ∷ []) j % 2 ≡ bitsOf m (e ∷ f ∷ g ∷ h ∷ []) j % 2) → _≡_ {A = Key} (a ∷ b ∷ c ∷ d ∷ []) (e ∷ f ∷ g ∷ h ∷ []))
+    (λ l. same-key a b c d e f g h p q 1 23 halved-1)
+    (λ l. same-key a b c d e f g h p q 256 15 halved-256)
+    (λ l. same-key a b c d e f g h p q 4096 11 halved-4096)
+    (λ l. same-key a b c d e f g h p q 65536 7 halved-65536)

@@ -1,4 +1,4 @@
-use Rattle.classes.specs.Classes.{first-is-mixed}
+use Rattle.classes.proofs.Bits.{first-is-mixed}
 use native.Mathlib.Omega.{arith}
 use borrow.Author.Needs.{needs}
 use Rattle.classes.proofs.first_bits.Statement.{statement}

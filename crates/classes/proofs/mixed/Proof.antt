@@ -1,4 +1,4 @@
-use Rattle.classes.specs.Classes.{mixOf}
+use Rattle.classes.specs.Bits.{mixOf}
 use native.Mathlib.Omega.{arith}
 use borrow.Author.Needs.{needs}
 use Rattle.classes.proofs.mixed.Statement.{statement}

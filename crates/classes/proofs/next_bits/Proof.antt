@@ -1,4 +1,4 @@
-use Rattle.classes.specs.Classes.{turn-used, turn-on}
+use Rattle.classes.proofs.Bits.{turn-used, turn-on}
 use native.Mathlib.Omega.{arith}
 use borrow.Author.Needs.{needs}
 use Rattle.classes.proofs.next_bits.Statement.{statement}

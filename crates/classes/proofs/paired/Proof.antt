@@ -1,4 +1,4 @@
-use Rattle.classes.specs.Classes.{pairOf}
+use Rattle.classes.specs.Bits.{pairOf}
 use native.Mathlib.Omega.{arith}
 use borrow.Author.Needs.{needs}
 use Rattle.classes.proofs.paired.Statement.{statement}

@@ -1,4 +1,4 @@
-use Rattle.classes.specs.Classes.{second-is-paired}
+use Rattle.classes.proofs.Bits.{second-is-paired}
 use native.Mathlib.Omega.{arith}
 use borrow.Author.Needs.{needs}
 use Rattle.classes.proofs.second_bits.Statement.{statement}
