@@ -1,0 +1,5 @@
+pub mod Bits
+pub mod Forest
+pub mod Walking
+pub mod Chains
+pub mod Turns
