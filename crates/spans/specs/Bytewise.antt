@@ -13,7 +13,8 @@ use Rattle.laws.specs.Keyed.{Machine, step, run, after}
 use Rattle.laws.specs.Count.{count, nub}
 use Rattle.items.specs.Items.{Span}
 use Rattle.rfcomm.specs.Pieces.{Piece}
-use Rattle.spans.specs.Scan.{seek, begun, end, ended, spansN, restN, spansOf, restOf, capped}
+use Rattle.search.specs.Seek.{seek}
+use Rattle.spans.specs.Scan.{begun, end, ended, spansN, restN, spansOf, restOf, capped}
 use Rattle.spans.specs.Scanning.{shorter}
 use Rattle.spans.specs.Spans.{scanner, emptied, spans, unfinished}
 

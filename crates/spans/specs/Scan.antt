@@ -3,12 +3,8 @@ use Prim.Native.Nat.{ℕ, zero, suc}
 use mathlib.Core.Bool.{Bool, cond}
 use mathlib.Core.List.{List, [], _∷_}
 use lib.ListN.{length, take, drop}
-use lib.Dec.{eqb, leb, ltb}
-
--- how many bytes stand before the first x
-unfoldable pub seek : ℕ → List ℕ → ℕ
-seek x [] = 0
-seek x (y ∷ l) = cond (eqb y x) 0 (suc (seek x l))
+use lib.Dec.{leb, ltb}
+use Rattle.search.specs.Seek.{seek}
 
 -- from the first 3E on
 abbrev pub begun : List ℕ → List ℕ

@@ -8,7 +8,8 @@ use lib.ListN.{length, take, drop, length-drop}
 use lib.Dec.{ltb}
 use borrow.Author.Tests.{ltb-true}
 use Rattle.laws.specs.Choice.{splitB}
-use Rattle.spans.specs.Scan.{seek, begun, end, ended, spansN, restN, spansOf, restOf}
+use Rattle.search.specs.Seek.{seek}
+use Rattle.spans.specs.Scan.{begun, end, ended, spansN, restN, spansOf, restOf}
 
 -- ---- the equations
 

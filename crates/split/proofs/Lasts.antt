@@ -10,7 +10,8 @@ use lib.Dec.{leb}
 use borrow.Author.Tests.{le-leb, lt-leb}
 use Rattle.laws.specs.Choice.{splitB, split≤}
 use Rattle.laws.specs.Lists.{drop-end}
-use Rattle.spans.specs.Scan.{seek, begun, end, ended, restN, restOf, capped}
+use Rattle.search.specs.Seek.{seek}
+use Rattle.spans.specs.Scan.{begun, end, ended, restN, restOf, capped}
 use Rattle.split.specs.Last.{lastn}
 use Rattle.split.specs.Rows.{cappedLength}
 

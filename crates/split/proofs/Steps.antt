@@ -16,7 +16,8 @@ use Rattle.laws.specs.Stores.{sets-append}
 use Rattle.words.specs.Words.{word, putWord, length-put, word-put-same, word-put-other}
 use Rattle.words.specs.Front.{Front, front-refl, front-then, front-less, front-put, front-sets, front-word}
 use Rattle.rfcomm.specs.PieceTable.{infosOf}
-use Rattle.spans.specs.Scan.{seek, ended, spansOf, restOf, capped}
+use Rattle.search.specs.Seek.{seek}
+use Rattle.spans.specs.Scan.{ended, spansOf, restOf, capped}
 use Rattle.spans.specs.Spans.{scanner}
 use Rattle.spans.specs.Bytewise.{Quiet, AllQuiet, quiet-scanned, no-end, closes}
 use Rattle.split.specs.Last.{lastn}

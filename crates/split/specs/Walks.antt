@@ -13,7 +13,8 @@ use Rattle.items.specs.Items.{Span, span, spanItem, spanList}
 use Rattle.mdr.specs.Frame.{unpacksOf}
 use Rattle.channels.specs.Channels.{any}
 use Rattle.rfcomm.specs.Pieces.{Piece}
-use Rattle.spans.specs.Scan.{seek, ended, spansOf, restOf}
+use Rattle.search.specs.Seek.{seek}
+use Rattle.spans.specs.Scan.{ended, spansOf, restOf}
 use Rattle.spans.specs.Spans.{scanner, spans, unfinished}
 use Rattle.spans.specs.Parts.{tagged, tallyAll, Room, WritePre as PartPre}
 use Rattle.spans.specs.declared.Tally.{Tally}

@@ -10,7 +10,7 @@ ghost use lib.Seq.{sets};
 ghost use Rattle.laws.specs.Keys.{eqK};
 ghost use Rattle.laws.specs.Stores.{Writes};
 ghost use Rattle.items.specs.Items.{rxOf};
-ghost use Rattle.spans.specs.Scan.{seek};
+ghost use Rattle.search.specs.Seek.{seek};
 ghost use Rattle.spans.specs.Parts.{CountedIs, WroteIs};
 ghost use Rattle.split.specs.Last.{lastn};
 ghost use Rattle.split.specs.Rows.{keyAt, lenAt, inWork, bytesAt, heldOf, streamTo, cappedLength, sign, Laid};

@@ -5,7 +5,7 @@ use Rattle.spans.proofs.next_span.Statement.{statement}
 use Rattle.spans.proofs.next_span.Tie as tie
 use Rattle.spans.proofs.next_span.Reads as reads
 use Rattle.spans.proofs.next_span.Lts as lts
-use Rattle.spans.proofs.find_soon.Reads as find-soon-reads
+use Rattle.search.proofs.find_soon.Reads as find-soon-reads
 
 -- src/lib.rt:185:9
 find-soon-requires : tie.Need-find-soon-requires

@@ -1,6 +1,6 @@
 use Rattle.split.proofs.Tables.{laid-row}
 use Rattle.split.proofs.Gathers.{within-work, within-file, whole-work, whole-file}
-use Rattle.spans.specs.Scan.{seek}
+use Rattle.search.specs.Seek.{seek}
 use mathlib.Core.Path.{_∙_, ap}
 use native.Mathlib.Omega.{arith}
 use borrow.Author.Needs.{needs}

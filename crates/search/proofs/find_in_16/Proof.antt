@@ -1,11 +1,11 @@
-use Rattle.spans.proofs.Buffers.{placed-room, placed-sought}
+use Rattle.search.proofs.Searching.{placed-room, placed-sought}
 use native.Mathlib.Omega.{arith}
 use borrow.Author.Needs.{needs}
-use Rattle.spans.proofs.find_in_16.Statement.{statement}
-use Rattle.spans.proofs.find_in_16.Tie as tie
-use Rattle.spans.proofs.find_in_16.Reads as reads
-use Rattle.spans.proofs.find_in_16.Lts as lts
-use Rattle.spans.proofs.place_of.Reads as place-of-reads
+use Rattle.search.proofs.find_in_16.Statement.{statement}
+use Rattle.search.proofs.find_in_16.Tie as tie
+use Rattle.search.proofs.find_in_16.Reads as reads
+use Rattle.search.proofs.find_in_16.Lts as lts
+use Rattle.search.proofs.place_of.Reads as place-of-reads
 
 -- src/lib.rt:64:14
 add-to : tie.Need-add-to

@@ -1,11 +1,11 @@
-use Rattle.spans.proofs.Buffers.{soon-first, soon-second}
+use Rattle.search.proofs.Searching.{soon-first, soon-second}
 use native.Mathlib.Omega.{arith}
 use borrow.Author.Needs.{needs}
-use Rattle.spans.proofs.find_soon.Statement.{statement}
-use Rattle.spans.proofs.find_soon.Tie as tie
-use Rattle.spans.proofs.find_soon.Reads as reads
-use Rattle.spans.proofs.find_soon.Lts as lts
-use Rattle.spans.proofs.find_byte.Reads as find-byte-reads
+use Rattle.search.proofs.find_soon.Statement.{statement}
+use Rattle.search.proofs.find_soon.Tie as tie
+use Rattle.search.proofs.find_soon.Reads as reads
+use Rattle.search.proofs.find_soon.Lts as lts
+use Rattle.search.proofs.find_byte.Reads as find-byte-reads
 
 -- src/lib.rt:166:13
 sub-if1 : tie.Need-sub-if1

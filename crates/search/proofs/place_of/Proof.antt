@@ -1,10 +1,10 @@
-use Rattle.spans.proofs.Buffers.{Placing, placing-start, placing-hit, placing-miss, placing-end}
+use Rattle.search.proofs.Searching.{Placing, placing-start, placing-hit, placing-miss, placing-end}
 use borrow.Author.Needs.{needs}
 use native.Mathlib.Omega.{arith}
-use Rattle.spans.proofs.place_of.Statement.{statement}
-use Rattle.spans.proofs.place_of.Tie as tie
-use Rattle.spans.proofs.place_of.Reads as reads
-use Rattle.spans.proofs.place_of.Lts as lts
+use Rattle.search.proofs.place_of.Statement.{statement}
+use Rattle.search.proofs.place_of.Tie as tie
+use Rattle.search.proofs.place_of.Reads as reads
+use Rattle.search.proofs.place_of.Lts as lts
 
 abbrev Inv-loop : tie.InvT-loop
 Inv-loop part x best₀ i₀ best i = Placing part x best i

@@ -1,14 +1,14 @@
-use Rattle.spans.proofs.Buffers.{among-part, passed-none}
+use Rattle.search.proofs.Searching.{among-part, passed-none}
 use native.Mathlib.Omega.{arith}
 use borrow.Author.Needs.{needs}
-use Rattle.spans.proofs.find_byte.Statement.{statement}
-use Rattle.spans.proofs.find_byte.Tie as tie
-use Rattle.spans.proofs.find_byte.Reads as reads
-use Rattle.spans.proofs.find_byte.Lts as lts
-use Rattle.spans.proofs.find_in_32.Reads as find-in-32-reads
-use Rattle.spans.proofs.find_short.Reads as find-short-reads
-use Rattle.spans.proofs.is_without.Reads as is-without-reads
-use Rattle.spans.proofs.pass_blocks.Reads as pass-blocks-reads
+use Rattle.search.proofs.find_byte.Statement.{statement}
+use Rattle.search.proofs.find_byte.Tie as tie
+use Rattle.search.proofs.find_byte.Reads as reads
+use Rattle.search.proofs.find_byte.Lts as lts
+use Rattle.search.proofs.find_in_32.Reads as find-in-32-reads
+use Rattle.search.proofs.find_short.Reads as find-short-reads
+use Rattle.search.proofs.is_without.Reads as is-without-reads
+use Rattle.search.proofs.pass_blocks.Reads as pass-blocks-reads
 
 -- src/lib.rt:143:8
 sub-if1 : tie.Need-sub-if1

@@ -1,13 +1,13 @@
-use Rattle.spans.proofs.Buffers.{half-among, half-found}
+use Rattle.search.proofs.Searching.{half-among, half-found}
 use native.Mathlib.Omega.{arith}
 use borrow.Author.Needs.{needs}
-use Rattle.spans.proofs.find_in_32.Statement.{statement}
-use Rattle.spans.proofs.find_in_32.Tie as tie
-use Rattle.spans.proofs.find_in_32.Reads as reads
-use Rattle.spans.proofs.find_in_32.Lts as lts
-use Rattle.spans.proofs.either.Reads as either-reads
-use Rattle.spans.proofs.find_in_16.Reads as find-in-16-reads
-use Rattle.spans.proofs.is_without.Reads as is-without-reads
+use Rattle.search.proofs.find_in_32.Statement.{statement}
+use Rattle.search.proofs.find_in_32.Tie as tie
+use Rattle.search.proofs.find_in_32.Reads as reads
+use Rattle.search.proofs.find_in_32.Lts as lts
+use Rattle.search.proofs.either.Reads as either-reads
+use Rattle.search.proofs.find_in_16.Reads as find-in-16-reads
+use Rattle.search.proofs.is_without.Reads as is-without-reads
 
 -- src/lib.rt:80:14
 add-to : tie.Need-add-to

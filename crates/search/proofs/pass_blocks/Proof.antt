@@ -1,13 +1,13 @@
 use Prim.Native.Nat.{_-_}
 use lib.ListN.{length}
-use Rattle.spans.proofs.Buffers.{Seeking, seeking-start, seeking-part, passed-block, passed-last}
+use Rattle.search.proofs.Searching.{Seeking, seeking-start, seeking-part, passed-block, passed-last}
 use borrow.Author.Needs.{needs}
 use native.Mathlib.Omega.{arith}
-use Rattle.spans.proofs.pass_blocks.Statement.{statement}
-use Rattle.spans.proofs.pass_blocks.Tie as tie
-use Rattle.spans.proofs.pass_blocks.Reads as reads
-use Rattle.spans.proofs.pass_blocks.Lts as lts
-use Rattle.spans.proofs.is_without.Reads as is-without-reads
+use Rattle.search.proofs.pass_blocks.Statement.{statement}
+use Rattle.search.proofs.pass_blocks.Tie as tie
+use Rattle.search.proofs.pass_blocks.Reads as reads
+use Rattle.search.proofs.pass_blocks.Lts as lts
+use Rattle.search.proofs.is_without.Reads as is-without-reads
 
 abbrev Inv-loop : tie.InvT-loop
 Inv-loop s from x last i₀ i = Seeking s «from» x i

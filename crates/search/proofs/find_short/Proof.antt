@@ -1,14 +1,14 @@
-use Rattle.spans.proofs.Buffers.{among-part, short-room, short-none, short-found}
+use Rattle.search.proofs.Searching.{among-part, short-room, short-none, short-found}
 use native.Mathlib.Omega.{arith}
 use borrow.Author.Needs.{needs}
-use Rattle.spans.proofs.find_short.Statement.{statement}
-use Rattle.spans.proofs.find_short.Tie as tie
-use Rattle.spans.proofs.find_short.Reads as reads
-use Rattle.spans.proofs.find_short.Lts as lts
-use Rattle.spans.proofs.either.Reads as either-reads
-use Rattle.spans.proofs.find_few.Reads as find-few-reads
-use Rattle.spans.proofs.find_in_16.Reads as find-in-16-reads
-use Rattle.spans.proofs.is_without.Reads as is-without-reads
+use Rattle.search.proofs.find_short.Statement.{statement}
+use Rattle.search.proofs.find_short.Tie as tie
+use Rattle.search.proofs.find_short.Reads as reads
+use Rattle.search.proofs.find_short.Lts as lts
+use Rattle.search.proofs.either.Reads as either-reads
+use Rattle.search.proofs.find_few.Reads as find-few-reads
+use Rattle.search.proofs.find_in_16.Reads as find-in-16-reads
+use Rattle.search.proofs.is_without.Reads as is-without-reads
 
 -- src/lib.rt:106:8
 sub-if1 : tie.Need-sub-if1

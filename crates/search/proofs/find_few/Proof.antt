@@ -1,12 +1,12 @@
 use lib.ListN.{length}
 use Prim.Native.Nat.{_-_}
-use Rattle.spans.proofs.Buffers.{Seeking, seeking-hit, seeking-miss, seeking-end, seeking-start}
+use Rattle.search.proofs.Searching.{Seeking, seeking-hit, seeking-miss, seeking-end, seeking-start}
 use borrow.Author.Needs.{needs}
 use native.Mathlib.Omega.{arith}
-use Rattle.spans.proofs.find_few.Statement.{statement}
-use Rattle.spans.proofs.find_few.Tie as tie
-use Rattle.spans.proofs.find_few.Reads as reads
-use Rattle.spans.proofs.find_few.Lts as lts
+use Rattle.search.proofs.find_few.Statement.{statement}
+use Rattle.search.proofs.find_few.Tie as tie
+use Rattle.search.proofs.find_few.Reads as reads
+use Rattle.search.proofs.find_few.Lts as lts
 
 abbrev Inv-loop : tie.InvT-loop
 Inv-loop s from x i₀ i = Seeking s «from» x i

@@ -1,13 +1,13 @@
 use Prim.Native.Nat.{_-_}
 use lib.ListN.{length}
-use Rattle.spans.proofs.Buffers.{Lacking, lacking-start, lacking-more, lacking-same, lacking-end}
+use Rattle.search.proofs.Searching.{Lacking, lacking-start, lacking-more, lacking-same, lacking-end}
 use borrow.Author.Needs.{needs}
 use native.Mathlib.Omega.{arith}
-use Rattle.spans.proofs.is_without.Statement.{statement}
-use Rattle.spans.proofs.is_without.Tie as tie
-use Rattle.spans.proofs.is_without.Reads as reads
-use Rattle.spans.proofs.is_without.Lts as lts
-use Rattle.spans.proofs.one_if.Reads as one-if-reads
+use Rattle.search.proofs.is_without.Statement.{statement}
+use Rattle.search.proofs.is_without.Tie as tie
+use Rattle.search.proofs.is_without.Reads as reads
+use Rattle.search.proofs.is_without.Lts as lts
+use Rattle.search.proofs.one_if.Reads as one-if-reads
 
 abbrev Inv-loop : tie.InvT-loop
 Inv-loop part x most₀ i₀ most i = Lacking part x most i
