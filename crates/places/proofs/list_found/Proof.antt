@@ -1,42 +1,30 @@
-use Rattle.stretches.specs.Places.{plan-few}
+use Rattle.places.proofs.PlacesLaws.{plan-few}
 use native.Mathlib.Omega.{arith}
 use borrow.Author.Needs.{needs}
-use Rattle.stretches.proofs.list_found.Statement.{statement}
-use Rattle.stretches.proofs.list_found.Tie as tie
-use Rattle.stretches.proofs.list_found.Reads as reads
-use Rattle.stretches.proofs.list_found.Lts as lts
-use Rattle.streams.proofs.plan.Reads as plan-reads
-use Rattle.stretches.proofs.list_open.Reads as list-open-reads
+use Rattle.places.proofs.list_found.Statement.{statement}
+use Rattle.places.proofs.list_found.Tie as tie
 
--- src/lib.rt:195:9
 returns : tie.Need-returns
 returns c = search needs
 
--- src/lib.rt:198:25
 enum-known-answer : tie.Need-enum-known-answer
 enum-known-answer c = search needs
 
--- src/lib.rt:199:9
 returns-2 : tie.Need-returns-2
 returns-2 c = search needs
 
--- src/lib.rt:201:24
 cast-plan : tie.Need-cast-plan
 cast-plan c = search needs
 
--- src/lib.rt:201:9
 plan-requires : tie.Need-plan-requires
 plan-requires c κs = search needs
 
--- src/lib.rt:202:5
 list-open-requires : tie.Need-list-open-requires
 list-open-requires c κs = search plan-few
 
--- src/lib.rt:189:1
 same-length : tie.Need-same-length
 same-length c = search needs
 
--- src/lib.rt:189:1
 returns-3 : tie.Need-returns-3
 returns-3 c = search needs
 
