@@ -1,8 +1,8 @@
 use Rattle.mdr.specs.Told.{toldPacked}
-use Rattle.lumbryth.proofs.Telling.{shows-as}
+use Rattle.telling.proofs.TellLaws.{shows-as}
 use borrow.Author.Needs.{needs}
-use Rattle.lumbryth.proofs.shown_packed.Statement.{statement}
-use Rattle.lumbryth.proofs.shown_packed.Tie as tie
+use Rattle.telling.proofs.shown_packed.Statement.{statement}
+use Rattle.telling.proofs.shown_packed.Tie as tie
 
 enum-known-p : tie.Need-enum-known-p
 enum-known-p c = search needs

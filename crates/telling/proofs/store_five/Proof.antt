@@ -1,37 +1,27 @@
-use Rattle.lumbryth.specs.Imports.{stored-five}
+use Rattle.telling.proofs.TellLaws.{stored-five}
 use native.Mathlib.Omega.{arith}
 use borrow.Author.Needs.{needs}
-use Rattle.lumbryth.proofs.store_five.Statement.{statement}
-use Rattle.lumbryth.proofs.store_five.Tie as tie
-use Rattle.lumbryth.proofs.store_five.Reads as reads
-use Rattle.lumbryth.proofs.store_five.Lts as lts
-use Rattle.lumbryth.proofs.put.Reads as put-reads
+use Rattle.telling.proofs.store_five.Statement.{statement}
+use Rattle.telling.proofs.store_five.Tie as tie
 
--- src/lib.rt:266:5
 put-requires : tie.Need-put-requires
 put-requires c κs = search needs
 
--- src/lib.rt:267:5
 put-requires-2 : tie.Need-put-requires-2
 put-requires-2 c κs = search needs
 
--- src/lib.rt:268:5
 put-requires-3 : tie.Need-put-requires-3
 put-requires-3 c κs = search needs
 
--- src/lib.rt:269:5
 put-requires-4 : tie.Need-put-requires-4
 put-requires-4 c κs = search needs
 
--- src/lib.rt:270:5
 put-requires-5 : tie.Need-put-requires-5
 put-requires-5 c κs = search needs
 
--- src/lib.rt:263:1
 same-length : tie.Need-same-length
 same-length c = search needs
 
--- src/lib.rt:263:1
 returns : tie.Need-returns
 returns c = stored-five _ _ _ _ _ _ _ _ _ _ _ (c .before .before .before .before .before .before .before .before .before .before .before .before .before .before .before .before .before .before .put .ensures) (c .before .before .before .before .before .before .before .before .before .before .before .before .before .before .put2 .ensures) (c .before .before .before .before .before .before .before .before .before .before .put3 .ensures) (c .before .before .before .before .before .before .put4 .ensures) (c .before .before .put5 .ensures)
 

@@ -1,7 +1,7 @@
-use Rattle.lumbryth.proofs.Telling.{store-none, store-one, store-two, store-three}
+use Rattle.telling.proofs.TellLaws.{store-none, store-one, store-two, store-three}
 use borrow.Author.Needs.{needs}
-use Rattle.lumbryth.proofs.store.Statement.{statement}
-use Rattle.lumbryth.proofs.store.Tie as tie
+use Rattle.telling.proofs.store.Statement.{statement}
+use Rattle.telling.proofs.store.Tie as tie
 
 returns : tie.Need-returns
 returns c = search store-none

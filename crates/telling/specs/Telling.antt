@@ -4,7 +4,7 @@ use mathlib.Core.Path.{_≡_}
 use mathlib.Core.List.{List, [], _∷_}
 use lib.ListN.{length, take}
 use Rattle.laws.specs.Answers.{Answer, accepted, refused, Outcome, answer, output}
-use Rattle.lumbryth.specs.declared.Shown.{Shown}
+use Rattle.telling.specs.declared.Shown.{Shown}
 
 -- 0, or document 01's number of the refusal
 abbrev pub numberOf : Answer → ℕ

@@ -1,8 +1,8 @@
 use Rattle.mdr.specs.Told.{told}
-use Rattle.lumbryth.proofs.Telling.{shows-as}
+use Rattle.telling.proofs.TellLaws.{shows-as}
 use borrow.Author.Needs.{needs}
-use Rattle.lumbryth.proofs.shown_unpacked.Statement.{statement}
-use Rattle.lumbryth.proofs.shown_unpacked.Tie as tie
+use Rattle.telling.proofs.shown_unpacked.Statement.{statement}
+use Rattle.telling.proofs.shown_unpacked.Tie as tie
 
 enum-known-u : tie.Need-enum-known-u
 enum-known-u c = search needs

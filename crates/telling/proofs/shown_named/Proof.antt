@@ -1,142 +1,106 @@
-use Rattle.lumbryth.proofs.Telling.{shows-as}
+use Rattle.telling.proofs.TellLaws.{shows-as}
 use Rattle.names.specs.Told.{toldNamed}
 use native.Mathlib.Omega.{arith}
 use borrow.Author.Needs.{needs}
-use Rattle.lumbryth.proofs.shown_named.Statement.{statement}
-use Rattle.lumbryth.proofs.shown_named.Tie as tie
-use Rattle.lumbryth.proofs.shown_named.Reads as reads
-use Rattle.lumbryth.proofs.shown_named.Lts as lts
-use Rattle.lumbryth.proofs.show.Reads as show-reads
+use Rattle.telling.proofs.shown_named.Statement.{statement}
+use Rattle.telling.proofs.shown_named.Tie as tie
 
--- src/lib.rt:145:28
 enum-known-n : tie.Need-enum-known-n
 enum-known-n c = search needs
 
--- src/lib.rt:145:36
 show-requires : tie.Need-show-requires
 show-requires c κs = search needs
 
--- src/lib.rt:146:35
 enum-told : tie.Need-enum-told
 enum-told c = search needs
 
--- src/lib.rt:146:35
 show-requires-2 : tie.Need-show-requires-2
 show-requires-2 c κs = search needs
 
--- src/lib.rt:147:34
 enum-told-2 : tie.Need-enum-told-2
 enum-told-2 c = search needs
 
--- src/lib.rt:147:34
 show-requires-3 : tie.Need-show-requires-3
 show-requires-3 c κs = search needs
 
--- src/lib.rt:148:32
 enum-told-3 : tie.Need-enum-told-3
 enum-told-3 c = search needs
 
--- src/lib.rt:148:32
 show-requires-4 : tie.Need-show-requires-4
 show-requires-4 c κs = search needs
 
--- src/lib.rt:149:41
 enum-told-4 : tie.Need-enum-told-4
 enum-told-4 c = search needs
 
--- src/lib.rt:149:41
 show-requires-5 : tie.Need-show-requires-5
 show-requires-5 c κs = search needs
 
--- src/lib.rt:150:34
 enum-known-n-2 : tie.Need-enum-known-n-2
 enum-known-n-2 c = search needs
 
--- src/lib.rt:150:52
 cast-show : tie.Need-cast-show
 cast-show c = search needs
 
--- src/lib.rt:150:40
 show-requires-6 : tie.Need-show-requires-6
 show-requires-6 c κs = search needs
 
--- src/lib.rt:151:39
 enum-told-5 : tie.Need-enum-told-5
 enum-told-5 c = search needs
 
--- src/lib.rt:151:39
 show-requires-7 : tie.Need-show-requires-7
 show-requires-7 c κs = search needs
 
--- src/lib.rt:152:38
 enum-known-n-3 : tie.Need-enum-known-n-3
 enum-known-n-3 c = search needs
 
--- src/lib.rt:152:59
 show-requires-8 : tie.Need-show-requires-8
 show-requires-8 c κs = search needs
 
--- src/lib.rt:153:35
 enum-known-n-4 : tie.Need-enum-known-n-4
 enum-known-n-4 c = search needs
 
--- src/lib.rt:156:13
 cast-show-2 : tie.Need-cast-show-2
 cast-show-2 c = search needs
 
--- src/lib.rt:157:13
 cast-show-3 : tie.Need-cast-show-3
 cast-show-3 c = search needs
 
--- src/lib.rt:153:58
 show-requires-9 : tie.Need-show-requires-9
 show-requires-9 c κs = search needs
 
--- src/lib.rt:160:32
 enum-known-n-5 : tie.Need-enum-known-n-5
 enum-known-n-5 c = search needs
 
--- src/lib.rt:160:43
 show-requires-10 : tie.Need-show-requires-10
 show-requires-10 c κs = search needs
 
--- src/lib.rt:141:1
 returns : tie.Need-returns
 returns c = search (shows-as toldNamed)
 
--- src/lib.rt:141:1
 returns-2 : tie.Need-returns-2
 returns-2 c = search (shows-as toldNamed)
 
--- src/lib.rt:141:1
 returns-3 : tie.Need-returns-3
 returns-3 c = search (shows-as toldNamed)
 
--- src/lib.rt:141:1
 returns-4 : tie.Need-returns-4
 returns-4 c = search (shows-as toldNamed)
 
--- src/lib.rt:141:1
 returns-5 : tie.Need-returns-5
 returns-5 c = search (shows-as toldNamed)
 
--- src/lib.rt:141:1
 returns-6 : tie.Need-returns-6
 returns-6 c = search (shows-as toldNamed)
 
--- src/lib.rt:141:1
 returns-7 : tie.Need-returns-7
 returns-7 c = search (shows-as toldNamed)
 
--- src/lib.rt:141:1
 returns-8 : tie.Need-returns-8
 returns-8 c = search (shows-as toldNamed)
 
--- src/lib.rt:141:1
 returns-9 : tie.Need-returns-9
 returns-9 c = search (shows-as toldNamed)
 
--- src/lib.rt:141:1
 returns-10 : tie.Need-returns-10
 returns-10 c = search (shows-as toldNamed)
 

@@ -1,8 +1,8 @@
 use mathlib.Core.Path.{sym}
 use lib.Seq.{set-out}
 use borrow.Author.Needs.{needs}
-use Rattle.lumbryth.proofs.put.Statement.{statement}
-use Rattle.lumbryth.proofs.put.Tie as tie
+use Rattle.telling.proofs.put.Statement.{statement}
+use Rattle.telling.proofs.put.Tie as tie
 
 mul-values : tie.Need-mul-values
 mul-values c = search needs
