@@ -1,2 +1,3 @@
-pub mod Gathered
+pub mod Options
 pub mod Calls
+pub mod Passes

@@ -1,2 +1,4 @@
 pub mod Again
-pub mod Telling
+pub mod ImportLaws
+pub mod RecordLaws
+pub mod StretchLaws

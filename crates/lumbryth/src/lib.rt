@@ -1,107 +1,29 @@
 // The proved calls for C and Rust. A call returns 0, or document 01's number of the refusal; as many of the values that it
 // answers, or that the refusal carries, as the list lent for them has room for are stored at its front.
 ghost use mathlib.Core.Path.{_≡_};
-ghost use mathlib.Core.List.{[], _∷_};
-ghost use Prim.Native.Nat.{_≤_};
-ghost use lib.ListN.{set, take};
-ghost use Rattle.btsnoop.specs.Listing.{toldListed};
-ghost use Rattle.capture.specs.Calls.{toldImported, tailOf};
+ghost use lib.ListN.{getD};
+ghost use Rattle.capture.specs.Calls.{toldImported};
+ghost use Rattle.capture.specs.Options.{tailOf, optionsOf};
 ghost use Rattle.fixtures.specs.Plan.{planOf};
-ghost use Rattle.fixtures.specs.Told.{toldPlanned};
 ghost use Rattle.items.specs.Items.{rxOf};
 ghost use Rattle.mdr.specs.Frame.{unpackOf, packOf};
-ghost use Rattle.mdr.specs.Told.{told, toldPacked};
 ghost use Rattle.names.specs.Commands.{isCommandName};
 ghost use Rattle.names.specs.Names.{fixtureName};
-ghost use Rattle.names.specs.Told.{toldNamed};
-ghost use Rattle.order.specs.Order.{captureOrder, toldOrdered};
+ghost use Rattle.order.specs.Order.{captureOrder};
 ghost use Rattle.streams.specs.Streams.{channelOf};
-ghost use Rattle.lumbryth.specs.Calls.{numberOf, valuesOf, stored, Calls, Shows, Tells};
-ghost use Rattle.lumbryth.specs.Imports.{bit, wayOf, channelNumber, tailNumber, ImportCalls};
+ghost use Rattle.telling.specs.Telling.{Calls, Tells};
+ghost use Rattle.lumbryth.specs.Imports.{bit, wayOf, channelNumber, tailNumber, optionsIn, optionsNumber, ImportCalls};
 ghost use Rattle.lumbryth.specs.RecordCalls.{RecordsCalls};
 ghost use Rattle.lumbryth.specs.Stretches.{ToldIn, StretchCalls};
-
-// An answer's number, and its values: the first count of a, b and c.
-struct Shown {
-    number: u32,
-    count: usize,
-    a: u64,
-    b: u64,
-    c: u64,
-}
-
-fn show(number: u32, count: usize, a: u64, b: u64, c: u64) -> Shown
-    requires { ⌜ count ≤ 3 ⌝ }
-    ensures { λ r. ⌜ Shows number (take count (a ∷ b ∷ c ∷ [])) r ⌝ }
-{
-    Shown {
-        number,
-        count,
-        a,
-        b,
-        c,
-    }
-}
-
-fn shown_unpacked(u: mdr::Unpacked) -> Shown
-    ensures { λ r. ⌜ Shows (numberOf (told u)) (valuesOf (told u)) r ⌝ }
-{
-    match u {
-        mdr::Unpacked::Frame(t, q, n) => show(0, 3, t as u64, q as u64, n as u64),
-        mdr::Unpacked::TooShort => show(10, 0, 0, 0, 0),
-        mdr::Unpacked::NoStart => show(11, 0, 0, 0, 0),
-        mdr::Unpacked::NoEnd => show(12, 0, 0, 0, 0),
-        mdr::Unpacked::TrailingSentry => show(13, 0, 0, 0, 0),
-        mdr::Unpacked::BadEscapee(b) => show(14, 1, b as u64, 0, 0),
-        mdr::Unpacked::BodyTooShort => show(15, 0, 0, 0, 0),
-        mdr::Unpacked::LengthMismatch(declared, actual) => show(16, 2, declared, actual, 0),
-        mdr::Unpacked::BadChecksum(declared, computed) => show(
-            17,
-            2,
-            declared as u64,
-            computed as u64,
-            0,
-        ),
-        mdr::Unpacked::OutShort(needed) => show(7, 1, needed as u64, 0, 0),
-    }
-}
-
-fn shown_packed(p: mdr::Packed) -> Shown
-    ensures { λ r. ⌜ Shows (numberOf (toldPacked p)) (valuesOf (toldPacked p)) r ⌝ }
-{
-    match p {
-        mdr::Packed::Wrote(n) => show(0, 1, n as u64, 0, 0),
-        mdr::Packed::TooLong => show(18, 0, 0, 0, 0),
-        mdr::Packed::OutShort(needed) => show(7, 1, needed as u64, 0, 0),
-    }
-}
-
-// Stores a value at a place that is there.
-fn put(values: &mut [u64], at: usize, x: u64)
-    ensures { λ _. ⌜ now (values .exit) ≡ set (now (values .entry)) at x ⌝ }
-{
-    if at < values.len() {
-        values[at] = x;
-    }
-}
-
-fn store(values: &mut [u64], count: usize, a: u64, b: u64, c: u64)
-    requires { ⌜ count ≤ 3 ⌝ }
-    ensures { λ _. ⌜ now (values .exit) ≡ stored (take count (a ∷ b ∷ c ∷ [])) (now (values .entry)) ⌝ }
-{
-    if count == 0 {
-        return;
-    }
-    put(values, 0, a);
-    if count == 1 {
-        return;
-    }
-    put(values, 1, b);
-    if count == 2 {
-        return;
-    }
-    put(values, 2, c);
-}
+use telling::shown_named;
+use telling::shown_ordered;
+use telling::shown_packed;
+use telling::shown_planned;
+use telling::shown_unpacked;
+use telling::store;
+use telling::store_five;
+use telling::tell_one;
+use telling::tell_records;
 
 // Reads one frame, and writes its payload to the front of out. Values: type, sequence number, payload length.
 #[no_mangle]
@@ -139,50 +61,6 @@ fn direction_of(way: u8) -> items::Direction
         return items::Direction::Rx;
     }
     items::Direction::Tx
-}
-
-fn shown_named(n: names::Named) -> Shown
-    ensures { λ r. ⌜ Shows (numberOf (toldNamed n)) (valuesOf (toldNamed n)) r ⌝ }
-{
-    match n {
-        names::Named::Name(len) => show(0, 1, len as u64, 0, 0),
-        names::Named::TooShort => show(10, 0, 0, 0, 0),
-        names::Named::NoStart => show(11, 0, 0, 0, 0),
-        names::Named::NoEnd => show(12, 0, 0, 0, 0),
-        names::Named::TrailingSentry => show(13, 0, 0, 0, 0),
-        names::Named::BadEscapee(b) => show(14, 1, b as u64, 0, 0),
-        names::Named::BodyTooShort => show(15, 0, 0, 0, 0),
-        names::Named::LengthMismatch(declared, actual) => show(16, 2, declared, actual, 0),
-        names::Named::BadChecksum(declared, computed) => show(
-            17,
-            2,
-            declared as u64,
-            computed as u64,
-            0,
-        ),
-        names::Named::OutShort(needed) => show(7, 1, needed as u64, 0, 0),
-    }
-}
-
-fn shown_planned(p: fixtures::Planned) -> Shown
-    ensures { λ r. ⌜ Shows (numberOf (toldPlanned p)) (valuesOf (toldPlanned p)) r ⌝ }
-{
-    match p {
-        fixtures::Planned::Wrote(count, len) => show(0, 2, count as u64, len as u64, 0),
-        fixtures::Planned::SpansIll(offset) => show(19, 1, offset as u64, 0, 0),
-        fixtures::Planned::NamesIll(offset) => show(20, 1, offset as u64, 0, 0),
-        fixtures::Planned::OutShort(needed) => show(7, 1, needed as u64, 0, 0),
-    }
-}
-
-fn shown_ordered(o: order::Ordered) -> Shown
-    ensures { λ r. ⌜ Shows (numberOf (toldOrdered o)) (valuesOf (toldOrdered o)) r ⌝ }
-{
-    match o {
-        order::Ordered::Wrote(len) => show(0, 1, len as u64, 0, 0),
-        order::Ordered::IllFormed(offset) => show(20, 1, offset as u64, 0, 0),
-        order::Ordered::OutShort(needed) => show(7, 1, needed as u64, 0, 0),
-    }
 }
 
 // Writes the name of a frame's wire to the front of out; way is 1 for Rx and 2 for Tx. Value: the name's length.
@@ -242,8 +120,8 @@ pub extern "C" fn lumbryth_capture_order(names: &[u8], out: &mut [u8], values: &
     s.number
 }
 
-// The channel by number: over 255 is none.
-fn channel_of(channel: u32) -> streams::Channel
+// The channel by number: over 255 is any.
+fn channel_of(channel: u64) -> streams::Channel
     ensures { λ r. ⌜ channelOf r ≡ channelNumber channel ⌝ }
 {
     if channel <= 255 {
@@ -253,7 +131,7 @@ fn channel_of(channel: u32) -> streams::Channel
 }
 
 // The tail rule by number: 0 is strict, any other tolerant.
-fn tail_of(tolerant: u32) -> capture::Tail
+fn tail_of(tolerant: u64) -> capture::Tail
     ensures { λ r. ⌜ tailOf r ≡ tailNumber tolerant ⌝ }
 {
     if tolerant == 0 {
@@ -262,23 +140,26 @@ fn tail_of(tolerant: u32) -> capture::Tail
     capture::Tail::Tolerant
 }
 
-// Stores five values, as many as there is room for.
-fn store_five(values: &mut [u64], a: u64, b: u64, c: u64, d: u64, e: u64)
-    ensures { λ _. ⌜ now (values .exit) ≡ stored (a ∷ b ∷ c ∷ d ∷ e ∷ []) (now (values .entry)) ⌝ }
+// The number at a place of the list, or its default where the list is shorter.
+fn option_at(options: &[u64], at: usize, default: u64) -> u64
+    ensures { λ r. ⌜ r ≡ getD (now (options .entry)) at default ⌝ }
 {
-    put(values, 0, a);
-    put(values, 1, b);
-    put(values, 2, c);
-    put(values, 3, d);
-    put(values, 4, e);
+    if at < options.len() {
+        return options[at];
+    }
+    default
 }
 
-// Stores one value, if there is room, and returns the number.
-fn tell_one(number: u32, values: &mut [u64], a: u64) -> u32
-    ensures { λ r. ⌜ (r ≡ number) × (now (values .exit) ≡ stored (a ∷ []) (now (values .entry))) ⌝ }
+// The options in a list of numbers: the channel, the tail rule.
+fn options_in(options: &[u64]) -> capture::Options
+    ensures { λ r. ⌜ optionsOf r ≡ optionsIn (now (options .entry)) ⌝ }
 {
-    put(values, 0, a);
-    number
+    let channel = option_at(options, 0, 256);
+    let tolerant = option_at(options, 1, 0);
+    capture::Options {
+        channel: channel_of(channel),
+        tail: tail_of(tolerant),
+    }
 }
 
 // Tells an answer of import.
@@ -307,8 +188,25 @@ fn tell_import(i: capture::Imported, values: &mut [u64]) -> u32
     }
 }
 
-// Imports a trace: writes the list of the spans of one DLCI to the front of out. A channel over 255 is none; tolerant is 0
-// for the strict rule. Values: DLCI, frames, unfinished, tail offset, bytes written.
+// Imports a trace: writes the list of the spans of one DLCI to the front of out. The options are a list of numbers: a channel,
+// over 255 for any; 0 for the strict rule, any other for the tolerant one. A list that ends earlier asks for any channel,
+// strictly. Values: DLCI, frames, unfinished, tail offset, bytes written.
+#[no_mangle]
+pub extern "C" fn lumbryth_import_with(
+    file: &[u8],
+    work: &mut [u8],
+    out: &mut [u8],
+    options: &[u64],
+    values: &mut [u64],
+) -> u32
+    ensures { λ r. ⌜ ImportCalls (now (file .entry)) (now (work .entry)) (now (out .entry)) (optionsIn (now (options .entry))) (now (values .entry)) r (now (work .exit)) (now (out .exit)) (now (values .exit)) ⌝ }
+{
+    let o = options_in(options);
+    let i = capture::import(file, work, out, o);
+    tell_import(i, values)
+}
+
+// Imports a trace by two options.
 #[no_mangle]
 pub extern "C" fn lumbryth_import(
     file: &[u8],
@@ -318,12 +216,10 @@ pub extern "C" fn lumbryth_import(
     tolerant: u32,
     values: &mut [u64],
 ) -> u32
-    ensures { λ r. ⌜ ImportCalls (now (file .entry)) (now (work .entry)) (now (out .entry)) channel tolerant (now (values .entry)) r (now (work .exit)) (now (out .exit)) (now (values .exit)) ⌝ }
+    ensures { λ r. ⌜ ImportCalls (now (file .entry)) (now (work .entry)) (now (out .entry)) (optionsNumber channel tolerant) (now (values .entry)) r (now (work .exit)) (now (out .exit)) (now (values .exit)) ⌝ }
 {
-    let which = channel_of(channel);
-    let tail = tail_of(tolerant);
-    let i = capture::import(file, work, out, which, tail);
-    tell_import(i, values)
+    let options = [channel as u64, tolerant as u64];
+    lumbryth_import_with(file, work, out, &options, values)
 }
 
 // Imports a trace by the strict rule.
@@ -335,24 +231,9 @@ pub extern "C" fn lumbryth_import_strict(
     channel: u32,
     values: &mut [u64],
 ) -> u32
-    ensures { λ r. ⌜ ImportCalls (now (file .entry)) (now (work .entry)) (now (out .entry)) channel 0 (now (values .entry)) r (now (work .exit)) (now (out .exit)) (now (values .exit)) ⌝ }
+    ensures { λ r. ⌜ ImportCalls (now (file .entry)) (now (work .entry)) (now (out .entry)) (optionsNumber channel 0) (now (values .entry)) r (now (work .exit)) (now (out .exit)) (now (values .exit)) ⌝ }
 {
     lumbryth_import(file, work, out, channel, 0, values)
-}
-
-// Tells an answer of a listing of records.
-fn tell_records(l: btsnoop::Listed, values: &mut [u64]) -> u32
-    ensures { λ r. ⌜ Tells (toldListed l) (now (values .entry)) r (now (values .exit)) ⌝ }
-{
-    match l {
-        btsnoop::Listed::Records(count, tail) => {
-            store(values, 2, count as u64, tail as u64, 0);
-            0
-        }
-        btsnoop::Listed::FileLong => 1,
-        btsnoop::Listed::NotBtsnoop => 3,
-        btsnoop::Listed::Datalink(n) => tell_one(4, values, n as u64),
-    }
 }
 
 // Stores where each whole record of a trace starts at the front of starts, as many as there is room for. Values: records,
@@ -381,11 +262,11 @@ fn import_told(
     values: &mut [u64],
     places: usize,
 ) -> Told
-    ensures { λ r. ⌜ ToldIn (now (file .entry)) (now (work .entry)) places (now (out .entry)) channel tolerant (now (values .entry)) (r .number) (r .listed) (now (work .exit)) (now (out .exit)) (now (values .exit)) ⌝ }
+    ensures { λ r. ⌜ ToldIn (now (file .entry)) (now (work .entry)) places (now (out .entry)) (optionsNumber channel tolerant) (now (values .entry)) (r .number) (r .listed) (now (work .exit)) (now (out .exit)) (now (values .exit)) ⌝ }
 {
-    let which = channel_of(channel);
-    let tail = tail_of(tolerant);
-    let p = stretches::import_places(file, work, out, which, tail, places);
+    let options = [channel as u64, tolerant as u64];
+    let o = options_in(&options);
+    let p = places::import_places(file, work, out, o, places);
     let answer = p.answer;
     Told {
         number: tell_import(answer, values),
@@ -405,7 +286,7 @@ pub extern "C" fn lumbryth_import_stretches(
     tolerant: u32,
     values: &mut [u64],
 ) -> u32
-    ensures { λ r. ⌜ StretchCalls (now (file .entry)) (now (work .entry)) (now (stretches .entry)) (now (out .entry)) channel tolerant (now (values .entry)) r (now (work .exit)) (now (stretches .exit)) (now (out .exit)) (now (values .exit)) ⌝ }
+    ensures { λ r. ⌜ StretchCalls (now (file .entry)) (now (work .entry)) (now (stretches .entry)) (now (out .entry)) (optionsNumber channel tolerant) (now (values .entry)) r (now (work .exit)) (now (stretches .exit)) (now (out .exit)) (now (values .exit)) ⌝ }
 {
     let places = stretches.len();
     let t = import_told(file, work, out, channel, tolerant, values, places);

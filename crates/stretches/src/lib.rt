@@ -1,16 +1,9 @@
-// Import with a lent list of the stretches that are open at the end, each with its counts.
+// The stretches that are open at the end of a trace, each with its counts: listed in work, and put into a lent list.
 ghost use mathlib.Core.Path.{_≡_};
 ghost use Prim.Native.Nat.{_+_, _≤_};
 ghost use lib.ListN.{length};
 ghost use Rattle.stretches.specs.Filled.{stretchAt, filled};
-ghost use Rattle.stretches.specs.Places.{ImportsIn};
-use capture::Found;
-use capture::Imported;
-use capture::Tail;
-use capture::import_counted;
 use split::Plan;
-use streams::Channel;
-use streams::plan;
 use words::get32;
 use words::put32;
 
@@ -209,7 +202,7 @@ fn add_open(w: &mut [u8], p: Plan, i: usize, k: usize, most: usize) -> usize
 }
 
 // Puts the stretches that are open at the end to the start of work, at most so many, and returns how many.
-fn list_open(w: &mut [u8], p: Plan, most: usize) -> usize
+pub fn list_open(w: &mut [u8], p: Plan, most: usize) -> usize
     requires { ⌜ p .n ≤ 1048576 ⌝ }
     ensures { λ r. ⌜ r ≤ most ⌝ }
 {
@@ -222,65 +215,4 @@ fn list_open(w: &mut [u8], p: Plan, most: usize) -> usize
         i += 1;
     }
     k
-}
-
-// The same after an import of a file of 4 * q bytes or a little more: none where it gave no spans.
-fn list_found(w: &mut [u8], q: usize, found: Found, most: usize) -> usize
-    requires { ⌜ q ≤ 1048576 ⌝ }
-    ensures { λ r. ⌜ r ≤ most ⌝ }
-{
-    let n = found.pieces;
-    if q < n {
-        return 0;
-    }
-    let answer = found.answer;
-    let Imported::Spans(dlci, _, _, _, _) = answer else {
-        return 0;
-    };
-    let p = plan(q, n, dlci as u32);
-    list_open(w, p, most)
-}
-
-// ---- import
-
-// An answer, and how many stretches stand at the start of work.
-pub struct Placed {
-    pub answer: Imported,
-    pub listed: usize,
-}
-
-// Imports a trace where a list of stretches of so many places is lent, and lists the open ones in work.
-pub fn import_places(
-    file: &[u8],
-    work: &mut [u8],
-    out: &mut [u8],
-    channel: Channel,
-    tail: Tail,
-    places: usize,
-) -> Placed
-    ensures { λ r. ⌜ ImportsIn (now (file .entry)) (now (work .entry)) places channel tail (now (out .entry)) (r .answer) (r .listed) (now (work .exit)) (now (out .exit)) ⌝ }
-{
-    let n = file.len();
-    if 1048576 < n {
-        return Placed {
-            answer: Imported::FileLong,
-            listed: 0,
-        };
-    }
-    if work.len() < 8 * n {
-        return Placed {
-            answer: Imported::WorkShort,
-            listed: 0,
-        };
-    }
-    if places < n / 24 {
-        return Placed {
-            answer: Imported::WorkShort,
-            listed: 0,
-        };
-    }
-    let found = import_counted(file, work, out, channel, tail);
-    let answer = found.answer;
-    let listed = list_found(work, n / 4, found, places);
-    Placed { answer, listed }
 }

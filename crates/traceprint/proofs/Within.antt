@@ -22,7 +22,8 @@ use Rattle.fixtures.specs.Told.{toldPlanned}
 use Rattle.fixtures.specs.declared.Planned.{Planned}
 use Rattle.fixtures.specs.declared.Planned.the-variants.{Wrote}
 use Rattle.streams.specs.declared.Channel.{Channel}
-use Rattle.capture.specs.Calls.{optionsOf, Imports}
+use Rattle.capture.specs.Options.{optionsOf}
+use Rattle.capture.specs.Calls.{Imports}
 use Rattle.capture.specs.declared.Imported.{Imported}
 use Rattle.capture.specs.declared.Imported.the-variants.{Spans}
 use Rattle.capture.specs.declared.Tail.{Tail}

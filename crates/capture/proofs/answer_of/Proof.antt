@@ -1,4 +1,4 @@
-use Rattle.capture.specs.Calls.{told-none, told-short, told-spans}
+use Rattle.capture.proofs.CallLaws.{told-none, told-short, told-spans}
 use native.Mathlib.Omega.{arith}
 use borrow.Author.Needs.{needs}
 use Rattle.capture.proofs.answer_of.Statement.{statement}

@@ -1,4 +1,4 @@
-use Rattle.capture.specs.Calls.{truncates-strict, truncates-not}
+use Rattle.capture.proofs.CallLaws.{truncates-strict, truncates-not}
 use native.Mathlib.Omega.{arith}
 use borrow.Author.Needs.{needs}
 use Rattle.capture.proofs.is_truncated.Statement.{statement}

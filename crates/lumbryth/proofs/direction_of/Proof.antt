@@ -1,16 +1,12 @@
-use Rattle.lumbryth.specs.Imports.{way-rx, way-tx}
+use Rattle.lumbryth.proofs.ImportLaws.{way-rx, way-tx}
 use borrow.Author.Needs.{needs}
 use native.Mathlib.Omega.{arith}
 use Rattle.lumbryth.proofs.direction_of.Statement.{statement}
 use Rattle.lumbryth.proofs.direction_of.Tie as tie
-use Rattle.lumbryth.proofs.direction_of.Reads as reads
-use Rattle.lumbryth.proofs.direction_of.Lts as lts
 
--- src/lib.rt:136:9
 returns : tie.Need-returns
 returns c = search way-rx
 
--- src/lib.rt:132:1
 returns-2 : tie.Need-returns-2
 returns-2 c = search way-tx
 

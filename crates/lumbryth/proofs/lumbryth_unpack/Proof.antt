@@ -1,4 +1,4 @@
-use Rattle.lumbryth.proofs.Telling.{calls}
+use Rattle.telling.proofs.TellLaws.{calls}
 use borrow.Author.Needs.{needs}
 use Rattle.lumbryth.proofs.lumbryth_unpack.Statement.{statement}
 use Rattle.lumbryth.proofs.lumbryth_unpack.Tie as tie

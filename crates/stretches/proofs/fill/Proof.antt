@@ -48,7 +48,8 @@ use denote.Triple.Spec.{Meets, tripleOf}
 use denote.Triple.Statement.{Contract, Triple}
 use denote.Triple.Table.{entered, cited}
 use denote.Triple.Walked.{says, needs, Stays, stay-none, stay-none-slice, stay-slice, walkOf, Walks, ends-at, walked, goes-none, goes-none-slice, goes-slice, walk-meets}
-use Rattle.stretches.specs.Filled.{blank, stretchAt, filledBy, filled, length-filled, filled-more}
+use Rattle.stretches.specs.Filled.{blank, stretchAt, filledBy, filled}
+use Rattle.stretches.proofs.Filling.{length-filled, filled-more}
 use Rattle.stretches.specs.declared.Stretch.{Stretch}
 use Rattle.stretches.proofs.Stretch as T
 use Rattle.stretches.proofs.Stretch.Laws as T′

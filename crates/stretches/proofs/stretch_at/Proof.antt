@@ -1,4 +1,4 @@
-use Rattle.stretches.specs.Filled.{stretch-there, stretch-none}
+use Rattle.stretches.proofs.Filling.{stretch-there, stretch-none}
 use native.Mathlib.Omega.{arith}
 use borrow.Author.Needs.{needs}
 use Rattle.stretches.proofs.stretch_at.Statement.{statement}

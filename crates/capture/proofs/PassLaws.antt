@@ -1,0 +1,55 @@
+-- The passes of import fit together: what each needs is what those before it left, and together they read the file.
+use Prim.Native.Nat.{ℕ, _*_, _/_}
+use mathlib.Core.Path.{_≡_, _∙_}
+use mathlib.Core.List.{List}
+use lib.ListN.{length}
+use Rattle.container.specs.Container.{packetsIn}
+use Rattle.container.specs.Packets.{packets}
+use Rattle.btsnoop.specs.Header.{datalink}
+use Rattle.btsnoop.specs.Records.{btsnoop, records}
+use Rattle.btsnoop.specs.Packets.{packetOf}
+use Rattle.btsnoop.specs.PacketTable.{packetsFrom, Tabled}
+use Rattle.btsnoop.specs.Adding.{ReadTo}
+use Rattle.btsnoop.specs.declared.Packets.{Packets}
+use Rattle.l2cap.specs.Pdus.{pdus}
+use Rattle.l2cap.specs.PduTable.{pdusFrom, Reassembled}
+use Rattle.channels.specs.Passing.{ReadChannels}
+use Rattle.channels.specs.Tried.{source}
+use Rattle.rfcomm.specs.Pieces.{judged}
+use Rattle.rfcomm.specs.Gathering.{PiecesPre, ReadPieces}
+use Rattle.outcome.specs.Import.{filePieces, read}
+use Rattle.streams.specs.Streams.{tablePieces, tabled}
+use Rattle.streams.specs.Streams as streams
+use Rattle.streams.specs.declared.Listed.{Listed}
+use Rattle.capture.specs.Passes.{Passes, Composed}
+use Rattle.capture.specs.declared.Options.{Options}
+
+-- ---- what each pass needs
+
+pub reassemble-needs : (f w : List ℕ) (p : Packets) → ReadTo f w p → Tabled f w (p .count)
+reassemble-needs f w p r = r .read .tabled
+
+module _ (f v : List ℕ) (made : ℕ) (x : List ℕ) (rows : ℕ) (rc : ReadChannels f v made x rows) where
+  list-is : pdusFrom f x (2 * (length f / 4)) 0 made ≡ pdusFrom f v (2 * (length f / 4)) 0 made
+  list-is = rc .signalled .pdus .list
+
+  pub pieces-need : PiecesPre f x made rows
+  pieces-need = record { signalled = rw list-is (rc .signalled) }
+
+pub spans-need : (f x : List ℕ) (made : ℕ) (u : List ℕ) (n : ℕ) → ReadPieces f x made u n → streams.Tabled f u n
+spans-need f x made u n rp = tabled f u n _ (rp .pieced)
+
+-- ---- together
+
+-- the pieces in the table are the file's
+file-pieces : (f : List ℕ) (o : Options) (p : Packets) (out : List ℕ) (l : Listed) (out′ : List ℕ) (s : Passes f o p out l out′) → tablePieces f (s .w₄) (s .n) ≡ filePieces btsnoop source f
+unfolding filePieces packetsIn judged
+file-pieces f o p out l out′ s =
+    let e : pdusFrom f (s .w₃) (2 * (length f / 4)) 0 (s .made) ≡ pdus (packets (packetOf (datalink f)) (records f)) =
+    list-is f (s .w₂) (s .made) (s .w₃) (s .rows) (s .read-channels) ∙ s .reassemble .list ∙ rw (s .read-packets .read .list) in
+    rw e at (s .read-pieces .pieced .list)
+
+pub composed : (f : List ℕ) (o : Options) (p : Packets) (out : List ℕ) (l : Listed) (out′ : List ℕ) → Passes f o p out l out′ → Composed f o p out l out′
+unfolding read
+composed f o p out l out′ s =
+    record { meets = rw (s .read-packets .tail) (rw (file-pieces f o p out l out′ s, s .read-packets .tail) at (s .list-spans .meets (p .tail))) }
