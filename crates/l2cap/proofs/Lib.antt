@@ -1,4 +1,3 @@
-pub mod Linking
 pub mod Walking
 pub mod Opens
 pub mod Rows

@@ -12,7 +12,7 @@ use Rattle.words.specs.Front.{Front, front-then, front-put}
 use Rattle.table.specs.Table.{Slot, none as no-row, some as row, findIn, lookup, lookup-found, second, find-below, long-agree, Stored, store-old}
 use Rattle.table.specs.declared.Row.the-variants.{At}
 use Rattle.tree.specs.Tree.{find-agree}
-use Rattle.l2cap.specs.Links.{firstOf}
+use Rattle.fragments.specs.Links.{firstOf}
 use Rattle.l2cap.specs.Steps.{asOpen, openAt, openIn, longer, grown, nextAt, nextBy, Arrive, putOpen}
 use Rattle.l2cap.specs.declared.Open.{Open}
 use Rattle.l2cap.specs.declared.Open.the-variants.{Closed, From}

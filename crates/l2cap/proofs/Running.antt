@@ -20,7 +20,8 @@ use Rattle.l2cap.specs.Pdus.{Pdu, packetKey, reassembly, pdus}
 use Rattle.l2cap.specs.PduTable.{pdusFrom, paysOf, Reassembled}
 use Rattle.l2cap.specs.PduFrames.{inside-top}
 use Rattle.l2cap.specs.Rekeyed.{runBy, rekey, run-by}
-use Rattle.l2cap.specs.Links.{Linked, linked-less, linked-agree, Seats, LinkRoom, LinkedTo}
+use Rattle.fragments.specs.Links.{Linked, Seats, LinkRoom, LinkedTo}
+use Rattle.fragments.proofs.Chains.{linked-less, linked-agree}
 use Rattle.l2cap.specs.Steps.{numberOf, openAt, heldOf, mapOf, Ready, Step, Stepped, Run}
 use Rattle.l2cap.specs.declared.Open.the-variants.{Closed}
 use Rattle.l2cap.specs.declared.Tables.{Tables}

@@ -14,9 +14,10 @@ use Rattle.words.specs.Words.{word, word-of-bytes}
 use Rattle.words.specs.Front.{Front, front-then, front-sets, front-refl}
 use Rattle.container.specs.Packets.{Packet}
 use Rattle.btsnoop.specs.PacketTable.{packetAt, packetsFrom}
-use Rattle.btsnoop.proofs.PacketFrames.{packets-next, packets-none, packets-snoc, packet-front, packets-front, tabled-less, tabled-front}
-use Rattle.l2cap.specs.Links.{soonest, soonest-from, soonest-bucket, soonest-skip, tagAt, tag-full, tag-key, Linked, Next}
-use Rattle.l2cap.specs.Steps.{numberOf, pieceOf, gathered, since, begun, Walk, Paste, Gather}
+use Rattle.btsnoop.specs.PacketFrames.{packets-next, packets-none, packets-snoc, packet-front, packets-front, tabled-less, tabled-front}
+use Rattle.fragments.specs.Links.{soonest, tagAt, Linked}
+use Rattle.fragments.proofs.Chains.{soonest-from, soonest-tag, soonest-skip, tag-full, tag-key}
+use Rattle.l2cap.specs.Steps.{numberOf, pieceOf, gathered, since, begun, Next, Walk, Paste, Gather}
 
 -- ---- one packet
 
@@ -97,7 +98,7 @@ module _ (w : List ℕ) (q upto : ℕ) (l : Linked w q upto) (i : ℕ) where
     link-more = omega (arith, link-to, soonest-from (tagAt w (word w (6 * i))) (word w (6 * i)) (suc i) (l .count - suc i))
 
     pub link-key : (k : ℕ) → word w (6 * i) ≡ k → r < upto → word w (6 * r) ≡ k
-    link-key k m u = tag-key w (word w (6 * i)) r (rw link-to (soonest-bucket (tagAt w (word w (6 * i))) (word w (6 * i)) (suc i) (l .count - suc i) (rw (← link-to) (omega (arith, l .most))))) ∙ m
+    link-key k m u = tag-key w (word w (6 * i)) r (rw link-to (soonest-tag (tagAt w (word w (6 * i))) (word w (6 * i)) (suc i) (l .count - suc i) (rw (← link-to) (omega (arith, l .most))))) ∙ m
 
 -- packets in between do not have the key
 pub since-jump :

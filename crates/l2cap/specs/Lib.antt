@@ -2,5 +2,4 @@ pub mod Pdus
 pub mod PduTable
 pub mod PduFrames
 pub mod Rekeyed
-pub mod Links
 pub mod Steps

@@ -16,7 +16,7 @@ use Rattle.l2cap.specs.Pdus.{joined, stillOpen, completed, pduOf}
 use Rattle.l2cap.specs.PduTable.{pdusFrom, paysOf}
 use Rattle.l2cap.specs.PduFrames.{Placed}
 use Rattle.l2cap.specs.Rekeyed.{putBy}
-use Rattle.l2cap.specs.Links.{Linked, Seats, Blank}
+use Rattle.fragments.specs.Links.{Linked, Seats, Blank}
 use Rattle.l2cap.specs.declared.Open.{Open}
 use Rattle.l2cap.specs.declared.Open.the-variants.{Closed, From}
 use Rattle.l2cap.specs.declared.Tables.{Tables}
@@ -42,6 +42,11 @@ since f w k first upto = gathered k (packetsFrom f w first (upto - first))
 -- what the key of packet first has from there on
 abbrev pub begun : List ℕ → List ℕ → ℕ → ℕ → List ℕ
 begun f w first upto = since f w (word w (6 * first)) first upto
+
+-- the link of packet i can be read
+pub record Next (w : List ℕ) (q i : ℕ) : Type 0 where
+  pub room : 4 * (7 * q + 2 * i) + 4 ≤ length w
+  pub some : 0 < word w (7 * q + 2 * i)
 
 -- the packets are linked
 pub record Walk (f w : List ℕ) (q first upto : ℕ) : Type 0 where

@@ -5,16 +5,13 @@ ghost use lib.ListN.{length, getD, take, drop};
 ghost use Rattle.laws.specs.Numbers.{le16};
 ghost use Rattle.laws.specs.Stores.{Writes};
 ghost use Rattle.words.specs.Words.{word};
-ghost use Rattle.tree.specs.Seats.{Seated};
 ghost use Rattle.btsnoop.specs.PacketTable.{packetAt, packetsFrom, Tabled};
 ghost use Rattle.l2cap.specs.Pdus.{pdus};
 ghost use Rattle.l2cap.specs.PduTable.{pduAt, Reassembled};
 ghost use Rattle.l2cap.specs.PduFrames.{Lent};
-ghost use Rattle.l2cap.specs.Links.{Next, indexOf, headOf, headWith, Head, noted, Note, SeatKey, LinkStep, LinkedStep, LinkRoom, LinkedTo};
-ghost use Rattle.l2cap.specs.Steps.{begun, Walk, Paste, Gather, Need, rowAt, RowPre, openIn, nextBy, Arrive, putOpen, putPdu, PutPdu, Finish, Finished, Step, Stepped, Run};
-use tree::Seating;
-use tree::Tree;
-use tree::seat;
+ghost use Rattle.l2cap.specs.Steps.{begun, Next, Walk, Paste, Gather, Need, rowAt, RowPre, openIn, nextBy, Arrive, putOpen, putPdu, PutPdu, Finish, Finished, Step, Stepped, Run};
+use fragments::link_packets;
+use fragments::narrow;
 use words::copy_to;
 use words::get32;
 use words::get64;
@@ -162,14 +159,6 @@ fn gather(
     pos
 }
 
-// A number as a word.
-fn narrow(x: usize) -> u32
-    requires { ⌜ x < 4294967296 ⌝ }
-    ensures { λ r. ⌜ r ≡ x ⌝ }
-{
-    x as u32
-}
-
 // Where the row of packet i's key stands.
 fn row_of(w: &[u8], q: usize, i: usize) -> usize
     requires { ⌜ RowPre (now w) q i ⌝ }
@@ -291,99 +280,6 @@ fn step(file: &[u8], w: &mut [u8], q: usize, t: Tables, i: usize) -> Tables
     set_open(w, at, narrow(first + 1), narrow(got));
     t
 }
-
-// ---- the packets of a key, linked
-
-// A word as a key of a table.
-fn wide64(x: u32) -> u64
-    ensures { λ r. ⌜ r ≡ x ⌝ }
-{
-    x as u64
-}
-
-// Where the open PDUs stand and their index, with q a quarter of the file's length.
-fn index_of(q: usize) -> Tree
-    requires { ⌜ q ≤ 1048576 ⌝ }
-    ensures { λ r. ⌜ r ≡ indexOf q ⌝ }
-{
-    Tree {
-        rows: 3 * q,
-        links: 5 * q,
-    }
-}
-
-// The row of a key among the open PDUs, a new one with nothing open if there is none.
-fn seat_key(w: &mut [u8], q: usize, rows: usize, key: u32, near: usize) -> Seating
-    requires { ⌜ SeatKey (now w) q rows ⌝ }
-    ensures { λ r. ⌜ Seated (now (w .entry)) (indexOf q) rows key 0 0 (now (w .exit)) r ⌝ }
-{
-    let x = index_of(q);
-    seat(w, x, rows, wide64(key), near, 0, 0)
-}
-
-// The packet that comes next under the key of row at, plus one. There were so many rows: if it is new, none comes.
-fn head_of(w: &[u8], q: usize, rows: usize, at: usize, none: u32) -> u32
-    requires { ⌜ Head (now w) q at ⌝ }
-    ensures { λ r. ⌜ r ≡ headOf (now (w .entry)) q rows at none ⌝ }
-{
-    if at == rows {
-        return none;
-    }
-    get32(w, 6 * q + at)
-}
-
-// The same with packet i before it: i itself, if it has bytes.
-fn head_with(n: u32, i: usize, next: u32) -> u32
-    requires { ⌜ i < 4294967295 ⌝ }
-    ensures { λ r. ⌜ r ≡ headWith n i next ⌝ }
-{
-    if n == 0 {
-        return next;
-    }
-    narrow(i + 1)
-}
-
-// Notes the link of packet i, the row of its key, and what is now the first packet of the key.
-fn note(w: &mut [u8], q: usize, i: usize, next: u32, at: usize, head: u32)
-    requires { ⌜ Note (now w) q i at ⌝ }
-    ensures { λ _. ⌜ now (w .exit) ≡ noted (now (w .entry)) q i next at head ⌝ }
-{
-    put32(w, 7 * q + 2 * i, next);
-    put32(w, 7 * q + 2 * i + 1, narrow(at));
-    put32(w, 6 * q + at, head);
-}
-
-// Links packet i to the next one under its key that has bytes. s has the row of the packet behind it.
-fn link_row(w: &mut [u8], q: usize, s: Seating, i: usize, none: u32) -> Seating
-    requires { ⌜ LinkStep (now w) q (s .rows) i ⌝ }
-    ensures { λ r. ⌜ LinkedStep (now (w .entry)) q (s .rows) i none (now (w .exit)) r ⌝ }
-{
-    let rows = s.rows;
-    let key = get32(w, 6 * i);
-    let n = get32(w, 6 * i + 3);
-    let t = seat_key(w, q, rows, key, s.at);
-    let at = t.at;
-    let next = head_of(w, q, rows, at, none);
-    note(w, q, i, next, at, head_with(n, i, next));
-    t
-}
-
-// Links each packet to the next one under its key, from the last to the first, and returns the count of keys.
-fn link_packets(w: &mut [u8], q: usize, count: usize) -> usize
-    requires { ⌜ LinkRoom (now w) q count ⌝ }
-    ensures { λ r. ⌜ LinkedTo (now (w .entry)) q count (now (w .exit)) r ⌝ }
-{
-    let none = narrow(count + 1);
-    let mut s = Seating { rows: 0, at: 0 };
-    let mut i = count;
-    while 0 < i {
-        i -= 1;
-        s = link_row(w, q, s, i, none);
-    }
-    s.rows
-}
-
-// ---- all packets
 
 // The steps of all packets, with so many rows of open PDUs.
 fn run(file: &[u8], w: &mut [u8], q: usize, rows: usize, count: usize) -> Tables

@@ -6,7 +6,7 @@ use Rattle.l2cap.proofs.reassemble.Statement.{statement}
 use Rattle.l2cap.proofs.reassemble.Tie as tie
 use Rattle.l2cap.proofs.reassemble.Reads as reads
 use Rattle.l2cap.proofs.reassemble.Lts as lts
-use Rattle.l2cap.proofs.link_packets.Reads as link-packets-reads
+use Rattle.fragments.proofs.link_packets.Reads as link-packets-reads
 use Rattle.l2cap.proofs.run.Reads as run-reads
 
 -- src/lib.rt:412:9

@@ -1,12 +1,12 @@
-use Rattle.l2cap.proofs.Linking.{Linking, linking-start, linking-step, linking-turn, linking-end}
+use Rattle.fragments.proofs.Linking.{Linking, linking-start, linking-step, linking-turn, linking-end}
 use borrow.Author.Needs.{needs}
 use native.Mathlib.Omega.{arith}
-use Rattle.l2cap.proofs.link_packets.Statement.{statement}
-use Rattle.l2cap.proofs.link_packets.Tie as tie
-use Rattle.l2cap.proofs.link_packets.Reads as reads
-use Rattle.l2cap.proofs.link_packets.Lts as lts
-use Rattle.l2cap.proofs.link_row.Reads as link-row-reads
-use Rattle.l2cap.proofs.narrow.Reads as narrow-reads
+use Rattle.fragments.proofs.link_packets.Statement.{statement}
+use Rattle.fragments.proofs.link_packets.Tie as tie
+use Rattle.fragments.proofs.link_packets.Reads as reads
+use Rattle.fragments.proofs.link_packets.Lts as lts
+use Rattle.fragments.proofs.link_row.Reads as link-row-reads
+use Rattle.fragments.proofs.narrow.Reads as narrow-reads
 
 abbrev Inv-loop : tie.InvT-loop
 Inv-loop w₀ q count none s₀ i₀ w s i = Linking w₀ q count w s i

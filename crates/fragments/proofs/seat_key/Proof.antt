@@ -1,12 +1,12 @@
-use Rattle.l2cap.proofs.Linking.{seat-pre, seat-is}
+use Rattle.fragments.proofs.Linking.{seat-pre, seat-is}
 use native.Mathlib.Omega.{arith}
 use borrow.Author.Needs.{needs}
-use Rattle.l2cap.proofs.seat_key.Statement.{statement}
-use Rattle.l2cap.proofs.seat_key.Tie as tie
-use Rattle.l2cap.proofs.seat_key.Reads as reads
-use Rattle.l2cap.proofs.seat_key.Lts as lts
-use Rattle.l2cap.proofs.index_of.Reads as index-of-reads
-use Rattle.l2cap.proofs.wide64.Reads as wide64-reads
+use Rattle.fragments.proofs.seat_key.Statement.{statement}
+use Rattle.fragments.proofs.seat_key.Tie as tie
+use Rattle.fragments.proofs.seat_key.Reads as reads
+use Rattle.fragments.proofs.seat_key.Lts as lts
+use Rattle.fragments.proofs.index_of.Reads as index-of-reads
+use Rattle.fragments.proofs.wide64.Reads as wide64-reads
 use Rattle.tree.proofs.seat.Reads as seat-reads
 
 -- src/lib.rt:320:9

@@ -1,11 +1,11 @@
-use Rattle.l2cap.proofs.Linking.{note-is}
+use Rattle.fragments.proofs.Linking.{note-is}
 use native.Mathlib.Omega.{arith}
 use borrow.Author.Needs.{needs}
-use Rattle.l2cap.proofs.note.Statement.{statement}
-use Rattle.l2cap.proofs.note.Tie as tie
-use Rattle.l2cap.proofs.note.Reads as reads
-use Rattle.l2cap.proofs.note.Lts as lts
-use Rattle.l2cap.proofs.narrow.Reads as narrow-reads
+use Rattle.fragments.proofs.note.Statement.{statement}
+use Rattle.fragments.proofs.note.Tie as tie
+use Rattle.fragments.proofs.note.Reads as reads
+use Rattle.fragments.proofs.note.Lts as lts
+use Rattle.fragments.proofs.narrow.Reads as narrow-reads
 use Rattle.words.proofs.put32.Reads as put32-reads
 
 -- src/lib.rt:351:14

@@ -18,7 +18,8 @@ use Rattle.tree.specs.Seats.{Seated}
 use Rattle.tree.proofs.Seats.{split-row, same-row}
 use Rattle.tree.specs.declared.Tree.{Tree}
 use Rattle.tree.specs.declared.Seating.{Seating}
-use Rattle.l2cap.specs.Links.{soonest, soonest-agree, tagAt, tag-empty, tag-full, Blank, firstOf, indexOf, SeatKey, headIn, headAt, headOf, headWith, Head, noted, Note, LinkStep, LinkedStep, LinkRoom, LinkedTo}
+use Rattle.fragments.specs.Links.{soonest, tagAt, Blank, firstOf, indexOf, SeatKey, headIn, headAt, headOf, headWith, Head, noted, Note, LinkStep, LinkedStep, LinkRoom, LinkedTo}
+use Rattle.fragments.proofs.Chains.{soonest-agree, tag-empty, tag-full}
 
 -- ---- the row of a key
 

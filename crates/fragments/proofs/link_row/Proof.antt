@@ -1,14 +1,14 @@
-use Rattle.l2cap.proofs.Linking.{link-head, link-note, link-stepped}
+use Rattle.fragments.proofs.Linking.{link-head, link-note, link-stepped}
 use native.Mathlib.Omega.{arith}
 use borrow.Author.Needs.{needs}
-use Rattle.l2cap.proofs.link_row.Statement.{statement}
-use Rattle.l2cap.proofs.link_row.Tie as tie
-use Rattle.l2cap.proofs.link_row.Reads as reads
-use Rattle.l2cap.proofs.link_row.Lts as lts
-use Rattle.l2cap.proofs.head_of.Reads as head-of-reads
-use Rattle.l2cap.proofs.head_with.Reads as head-with-reads
-use Rattle.l2cap.proofs.note.Reads as note-reads
-use Rattle.l2cap.proofs.seat_key.Reads as seat-key-reads
+use Rattle.fragments.proofs.link_row.Statement.{statement}
+use Rattle.fragments.proofs.link_row.Tie as tie
+use Rattle.fragments.proofs.link_row.Reads as reads
+use Rattle.fragments.proofs.link_row.Lts as lts
+use Rattle.fragments.proofs.head_of.Reads as head-of-reads
+use Rattle.fragments.proofs.head_with.Reads as head-with-reads
+use Rattle.fragments.proofs.note.Reads as note-reads
+use Rattle.fragments.proofs.seat_key.Reads as seat-key-reads
 use Rattle.words.proofs.get32.Reads as get32-reads
 
 -- src/lib.rt:362:24

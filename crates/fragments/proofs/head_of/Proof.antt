@@ -1,10 +1,10 @@
-use Rattle.l2cap.proofs.Linking.{head-new, head-old}
+use Rattle.fragments.proofs.Linking.{head-new, head-old}
 use native.Mathlib.Omega.{arith}
 use borrow.Author.Needs.{needs}
-use Rattle.l2cap.proofs.head_of.Statement.{statement}
-use Rattle.l2cap.proofs.head_of.Tie as tie
-use Rattle.l2cap.proofs.head_of.Reads as reads
-use Rattle.l2cap.proofs.head_of.Lts as lts
+use Rattle.fragments.proofs.head_of.Statement.{statement}
+use Rattle.fragments.proofs.head_of.Tie as tie
+use Rattle.fragments.proofs.head_of.Reads as reads
+use Rattle.fragments.proofs.head_of.Lts as lts
 use Rattle.words.proofs.get32.Reads as get32-reads
 
 -- src/lib.rt:330:9

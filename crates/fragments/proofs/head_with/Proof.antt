@@ -1,11 +1,11 @@
-use Rattle.l2cap.proofs.Linking.{with-none, with-some}
+use Rattle.fragments.proofs.Linking.{with-none, with-some}
 use native.Mathlib.Omega.{arith}
 use borrow.Author.Needs.{needs}
-use Rattle.l2cap.proofs.head_with.Statement.{statement}
-use Rattle.l2cap.proofs.head_with.Tie as tie
-use Rattle.l2cap.proofs.head_with.Reads as reads
-use Rattle.l2cap.proofs.head_with.Lts as lts
-use Rattle.l2cap.proofs.narrow.Reads as narrow-reads
+use Rattle.fragments.proofs.head_with.Statement.{statement}
+use Rattle.fragments.proofs.head_with.Tie as tie
+use Rattle.fragments.proofs.head_with.Reads as reads
+use Rattle.fragments.proofs.head_with.Lts as lts
+use Rattle.fragments.proofs.narrow.Reads as narrow-reads
 
 -- src/lib.rt:341:9
 returns : tie.Need-returns

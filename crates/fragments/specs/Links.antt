@@ -1,14 +1,11 @@
 -- Packets of one key, linked: two words for each packet, from word 7 * q on. The first says which packet with its key comes next,
 -- of those that bring bytes: its number plus one, and the count of packets stands for none. The second is the row of its key.
-use mathlib.Core.Path.{_≡_, refl, sym, ap, _∙_}
+use mathlib.Core.Path.{_≡_}
 use mathlib.Core.List.{List}
-use mathlib.Core.Bool.{Bool, true, false, cond}
+use mathlib.Core.Bool.{cond}
 use Prim.Native.Nat.{ℕ, zero, suc, _+_, _-_, _*_, _<_, _≤_}
-use native.Mathlib.Omega.{arith}
 use lib.ListN.{length}
 use lib.Dec.{eqb}
-use borrow.Author.Tests.{eq-eqb, ne-eqb, eqb-true}
-use Rattle.laws.specs.Choice.{split≡}
 use Rattle.words.specs.Words.{word, putWord}
 use Rattle.words.specs.Front.{Front}
 use Rattle.table.specs.Table.{Slot, none, some, findIn, lookup, sumOf}
@@ -18,57 +15,14 @@ use Rattle.tree.specs.Tree.{Indexed, EnterPre}
 use Rattle.tree.specs.declared.Tree.{Tree}
 use Rattle.tree.specs.declared.Seating.{Seating}
 
--- the first of m rows from i on whose bucket is h; i + m if there is none
+-- the first of m rows from i on whose tag is h; i + m if there is none
 unfoldable pub soonest : (ℕ → ℕ) → ℕ → ℕ → ℕ → ℕ
 soonest b h i zero = i
 soonest b h i (suc m) = cond (eqb (b i) h) i (soonest b h (suc i) m)
 
-pub soonest-from : (b : ℕ → ℕ) (h i m : ℕ) → i ≤ soonest b h i m
-unfolding soonest
-soonest-from b h i zero = omega arith
-soonest-from b h i (suc m) = go (eqb (b i) h) (soonest-from b h (suc i) m) where
-  go : (t : Bool) → suc i ≤ soonest b h (suc i) m → i ≤ cond t i (soonest b h (suc i) m)
-  go true p = omega arith
-  go false p = omega arith
-
-pub soonest-bucket : (b : ℕ → ℕ) (h i m : ℕ) → soonest b h i m < i + m → b (soonest b h i m) ≡ h
-unfolding soonest
-soonest-bucket b h i zero l = absurd (omega arith)
-soonest-bucket b h i (suc m) l = go (eqb (b i) h) refl l (soonest-bucket b h (suc i) m) where
-  go : (t : Bool) → eqb (b i) h ≡ t → cond t i (soonest b h (suc i) m) < i + suc m → (soonest b h (suc i) m < suc i + m → b (soonest b h (suc i) m) ≡ h) → b (cond t i (soonest b h (suc i) m)) ≡ h
-  go true e k ih = eqb-true (b i) h e
-  go false e k ih = ih (omega arith)
-
-pub soonest-agree : (b c : ℕ → ℕ) (h i m : ℕ) → ((j : ℕ) → i ≤ j → j < i + m → b j ≡ c j) → soonest b h i m ≡ soonest c h i m
-unfolding soonest
-soonest-agree b c h i zero e = refl
-soonest-agree b c h i (suc m) e = rw (e i (omega arith) (omega arith), soonest-agree b c h (suc i) m (λ j lo hi. e j (omega arith) (omega arith)))
-
--- what no row of another bucket changes is the same at the first row of the bucket
-pub soonest-skip : {A : Type 0} (g : ℕ → A) (b : ℕ → ℕ) (h i m : ℕ) → ((j : ℕ) → (b j ≡ h → ⊥) → g j ≡ g (suc j)) → g i ≡ g (soonest b h i m)
-unfolding soonest
-soonest-skip g b h i zero e = refl
-soonest-skip g b h i (suc m) e =
-    split≡ (b i) h
-    (λ q. rw (eq-eqb (b i) h q))
-    (λ q. rw (ne-eqb (b i) h q) (e i q ∙ soonest-skip g b h (suc i) m e))
-
--- ---- the words in work
-
 -- what packet j is to the key h: h if it has the key and brings bytes
 unfoldable pub tagAt : List ℕ → ℕ → ℕ → ℕ
 tagAt w h j = cond (eqb (word w (6 * j + 3)) 0) (suc h) (word w (6 * j))
-
-pub tag-empty : (w : List ℕ) (h j : ℕ) → word w (6 * j + 3) ≡ 0 → tagAt w h j ≡ suc h
-unfolding tagAt
-tag-empty w h j e = rw (eq-eqb (word w (6 * j + 3)) 0 e)
-
-pub tag-full : (w : List ℕ) (h j : ℕ) → (word w (6 * j + 3) ≡ 0 → ⊥) → tagAt w h j ≡ word w (6 * j)
-unfolding tagAt
-tag-full w h j e = rw (ne-eqb (word w (6 * j + 3)) 0 e)
-
-pub tag-key : (w : List ℕ) (h j : ℕ) → tagAt w h j ≡ h → word w (6 * j) ≡ h
-tag-key w h j e = split≡ (word w (6 * j + 3)) 0 (λ z. absurd (omega (arith, sym (tag-empty w h j z) ∙ e))) (λ z. sym (tag-full w h j z) ∙ e)
 
 -- the packets below upto, and perhaps more, are linked: each to the next one with its key that brings bytes
 pub record Linked (w : List ℕ) (q upto : ℕ) : Type 0 where
@@ -76,23 +30,6 @@ pub record Linked (w : List ℕ) (q upto : ℕ) : Type 0 where
   pub most : upto ≤ count
   pub low : 6 * count ≤ q
   pub next : (i : ℕ) → i < count → word w (7 * q + 2 * i) ≡ suc (soonest (tagAt w (word w (6 * i))) (word w (6 * i)) (suc i) (count - suc i))
-
-pub linked-less : (w : List ℕ) (q m n : ℕ) → m ≤ n → Linked w q n → Linked w q m
-linked-less w q m n h l = record { count = l .count; most = omega (arith, l .most); low = l .low; next = l .next }
-
--- links do not see what is written between the packets and them
-pub linked-agree : (u w : List ℕ) (q n : ℕ) → ((j : ℕ) → j < q → word u j ≡ word w j) → ((j : ℕ) → 7 * q ≤ j → word u j ≡ word w j) → Linked w q n → Linked u q n
-unfolding tagAt
-linked-agree u w q n a b l = record {
-  count = l .count;
-  most = l .most;
-  low = l .low;
-  next = λ i h.
-      b (7 * q + 2 * i) (omega arith) ∙ l .next i h
-      ∙ ap suc (rw (a (6 * i) (omega (arith, l .low))) (soonest-agree (tagAt w (word w (6 * i))) (tagAt u (word w (6 * i))) (word w (6 * i)) (suc i) (l .count - suc i) (λ j lo hi. tag-agree (word w (6 * i)) j (omega (arith, l .low)))));
-} where
-  tag-agree : (h j : ℕ) → 6 * j + 6 ≤ q → tagAt w h j ≡ tagAt u h j
-  tag-agree h j l = rw (a (6 * j) (omega arith), a (6 * j + 3) (omega arith))
 
 -- the row of its key is noted for each packet below upto: n rows stand from word 3 * q on
 pub record Seats (w : List ℕ) (q n upto : ℕ) : Type 0 where
@@ -108,11 +45,6 @@ pub record Blank (w : List ℕ) (b n : ℕ) : Type 0 where
   pub sum : sumOf w b n ≡ 0
 
 -- ---- what the functions ask and promise
-
--- the link of packet i can be read
-pub record Next (w : List ℕ) (q i : ℕ) : Type 0 where
-  pub room : 4 * (7 * q + 2 * i) + 4 ≤ length w
-  pub some : 0 < word w (7 * q + 2 * i)
 
 -- where the open PDUs stand and their index
 abbrev pub indexOf : ℕ → Tree
