@@ -1,6 +1,7 @@
 -- Sums and counts: a turn over a byte, a turn over a part, and the end.
 use Prim.Native.Nat.{ℕ, _+_, _-_, _%_, _<_, _≤_}
 use mathlib.Core.Path.{_≡_, refl, sym, ap, _∙_}
+use mathlib.Core.Bool.{Bool, true, false, not, cond}
 use mathlib.Core.List.{List, [], _∷_, _++_}
 use native.Mathlib.Omega.{arith}
 use lib.ListN.{length, getD, take, drop, take-append-drop, length-drop}
@@ -11,7 +12,7 @@ use Rattle.laws.specs.Lists.{drop-step, drop-end}
 use Rattle.mdr.specs.Sum.{total, checksumOf}
 use Rattle.mdr.specs.Escape.{within}
 use Rattle.mdr.specs.Escaping.{countIn, count-append}
-use Rattle.mdr.specs.Steps.{OneIf, Tallied, Bare}
+use Rattle.mdr.specs.Steps.{OneIf, Tallied, Bare, Full}
 use Rattle.mdr.specs.declared.Totals.{Totals}
 
 pub total-append : (xs ys : List ℕ) → total (xs ++ ys) ≡ total xs + total ys
@@ -102,6 +103,38 @@ module _ (l : List ℕ) (lo hi most i : ℕ) (s : Baring l lo hi most i) where
 
   pub bare-end : length l ≤ i → Bare lo hi l (eqb most 0)
   bare-end n = record { none = λ e. s .none (eqb-true most 0 e) ∙ ap (countIn lo hi) (drop-end l i n) }
+
+-- only bytes between the two values so far
+pub record Filled-so-far (l : List ℕ) (lo hi most i : ℕ) : Type 0 where
+  pub few : i ≤ length l
+  pub all : most ≡ 0 → countIn lo hi l ≡ i + countIn lo hi (drop i l)
+
+pub full-start : (l : List ℕ) (lo hi : ℕ) → Filled-so-far l lo hi 0 0
+full-start l lo hi = record { few = omega arith; all = λ e. omega arith }
+
+-- 1 where a test fails
+pub one-out : (t u : Bool) → t ≡ u → t ≡ true → OneIf (not u) 0
+one-out t u e q = rw (sym e ∙ q) (record { is = refl; most = omega arith })
+
+pub one-in : (t u : Bool) → t ≡ u → t ≡ false → OneIf (not u) 1
+one-in t u e q = rw (sym e ∙ q) (record { is = refl; most = omega arith })
+
+in-or-out : (t : Bool) (x : ℕ) → OneIf (not t) x → x ≡ 0 → _≡_ {A = ℕ} (cond t 1 0) 1
+in-or-out true x o e = refl
+in-or-out false x o e = absurd (omega (arith, o .is))
+
+module _ (l : List ℕ) (lo hi most i : ℕ) (s : Filled-so-far l lo hi most i) where
+  pub full-more : i < length l → (x : ℕ) → most < x → Filled-so-far l lo hi x (i + 1)
+  full-more n x h = record { few = omega arith; all = λ e. absurd (omega arith) }
+
+  pub full-same : i < length l → (x : ℕ) → OneIf (not (within lo hi (getD l i 0))) x → x ≤ most → Filled-so-far l lo hi most (i + 1)
+  full-same n x q h = record {
+    few = omega arith;
+    all = λ e. omega (arith, s .all e, ap (countIn lo hi) (drop-step l i n), in-or-out (within lo hi (getD l i 0)) x q (omega arith));
+  }
+
+  pub full-end : length l ≤ i → Full lo hi l (eqb most 0)
+  full-end n = record { all = λ e. omega (arith, s .all (eqb-true most 0 e), s .few, ap (countIn lo hi) (drop-end l i n)) }
 
 -- the sum alone
 pub record Summing (l : List ℕ) (sum i : ℕ) : Type 0 where

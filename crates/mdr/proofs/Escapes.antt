@@ -5,8 +5,8 @@ use mathlib.Core.Bool.{Bool, true, false, cond}
 use mathlib.Core.List.{List, [], _∷_, _++_, append-assoc}
 use native.Mathlib.Numerals.{add-one}
 use native.Mathlib.Omega.{arith}
-use lib.ListN.{length, getD, set, take, drop, length-append, length-drop}
-use lib.Seq.{length-take-le}
+use lib.ListN.{length, getD, set, take, drop, take-append-drop, length-append, length-drop}
+use lib.Seq.{length-take-le, take-all, take-add, drop-drop}
 use lib.Dec.{eqb}
 use borrow.Author.Tests.{le-leb, lt-leb, eqb-true}
 use Rattle.laws.specs.Choice.{splitB}
@@ -15,11 +15,12 @@ use Rattle.laws.specs.Stores.{Writes, writes-then, writes-long, Emitting, emit-
 use Rattle.laws.specs.Answers.{accepted, refused, gives, Meets, meets-refused, meets-short, meets-wrote}
 use Rattle.mdr.specs.Sum.{checksumOf}
 use Rattle.mdr.specs.Escape.{special, escapeByte, escape}
-use Rattle.mdr.specs.Escaping.{within-range, count-append, escape-append, specials, escape-length}
+use Rattle.mdr.specs.Escaping.{within-range, countIn, count-append, escape-append, specials, escape-length}
 use Rattle.mdr.specs.Frame.{headOf, summedOf, bodyOf, packed, packOf}
 use Rattle.mdr.specs.Wire.{packed-length}
-use Rattle.mdr.specs.Steps.{OneIf, Tallied, Bare, framed}
+use Rattle.mdr.specs.Steps.{OneIf, Tallied, Bare, Full, RanIs, MixedIs, framed}
 use Rattle.mdr.specs.declared.Totals.{Totals}
+use Rattle.mdr.specs.declared.Ran.{Ran}
 use Rattle.mdr.proofs.Counting.{total-append, drop-part}
 
 -- ---- one byte
@@ -103,6 +104,88 @@ bare-room l t out at v y h = rw (escape-bare l (v .none y)) at h
 
 pub escape-least : (l : List ℕ) → length l ≤ length (escape l)
 escape-least l = omega (arith, escape-length l)
+
+-- ---- block by block: bare, or part by part
+
+module _ (out₀ : List ℕ) (at₀ : ℕ) (part out : List ℕ) (at i : ℕ) (s : Escaping out₀ at₀ part out at i) where
+  pub escape-bare-room : (k : ℕ) → k ≤ length part - i → at₀ + length (escape part) ≤ length out₀ → (t : Bool) → Bare 0x3C 0x3E (take (i + k - i) (drop i part)) t → t ≡ true → at + k ≤ length out
+  escape-bare-room k h l t v z = omega (arith, escape-block-room out₀ at₀ part out at i s k h l, escape-least (take (i + k - i) (drop i part)), block-is part i k h)
+
+  pub escape-bare-turn : (k : ℕ) → k ≤ length part - i → (t : Bool) → Bare 0x3C 0x3E (take (i + k - i) (drop i part)) t → t ≡ true → (r : ℕ) (out′ : List ℕ) → Writes out at (take (i + k - i) (drop i part)) r out′ → Escaping out₀ at₀ part out′ r (i + k)
+  escape-bare-turn k h t v z r out′ w = escape-block-turn out₀ at₀ part out at i s k h r out′ (bare-as (take (i + k - i) (drop i part)) t out at r out′ v z w)
+
+  pub escape-mixed-room : at₀ + length (escape part) ≤ length out₀ → at + length (escape (drop i part)) ≤ length out
+  escape-mixed-room l = omega (arith, s .emits .next, s .emits .long)
+
+  pub escape-mixed-turn : (r : Ran) (out′ : List ℕ) → MixedIs part i out at r out′ → Escaping out₀ at₀ part out′ (r .at) (i + r .used)
+  escape-mixed-turn r out′ v =
+      let k : i + r .used - i ≡ r .used = omega arith in
+      escape-block-turn out₀ at₀ part out at i s (r .used) (omega (arith, v .within)) (r .at) out′ (rw k (v .writes))
+
+-- ---- a run of blocks
+
+pub record Running (part out₀ : List ℕ) (at₀ : ℕ) (out : List ℕ) (at i : ℕ) : Type 0 where
+  pub few : i ≤ length part
+  pub long : length out ≡ length out₀
+  pub done : Writes out₀ at₀ (escape (take i part)) at out
+
+pub run-start : (part out : List ℕ) (at : ℕ) → Running part out at out at 0
+run-start part out at = record { few = omega arith; long = refl; done = record { next = omega arith; writes = refl } }
+
+escape-cut : (l : List ℕ) (i k : ℕ) → escape (take (i + k) l) ≡ escape (take i l) ++ escape (take (i + k - i) (drop i l))
+escape-cut l i k = let e : i + k - i ≡ k = omega arith in rw e (ap escape (take-add i k l) ∙ escape-append (take i l) (take k (drop i l)))
+
+escape-front : (l : List ℕ) (i : ℕ) → length (escape (take i l)) ≤ length (escape l)
+escape-front l i =
+    let e = ap escape (sym (take-append-drop i l)) ∙ escape-append (take i l) (drop i l) in
+    omega (arith, ap length e, length-append (escape (take i l)) (escape (drop i l)))
+
+module _ (part out₀ : List ℕ) (at₀ : ℕ) (out : List ℕ) (at i : ℕ) (s : Running part out₀ at₀ out at i) where
+  pub run-room : (k : ℕ) → k ≤ length part - i → at₀ + length (escape part) ≤ length out₀ → at + length (escape (take (i + k - i) (drop i part))) ≤ length out
+  run-room k h l = omega (arith, s .done .next, s .long, escape-front part (i + k), ap length (escape-cut part i k), length-append (escape (take i part)) (escape (take (i + k - i) (drop i part))))
+
+  pub run-turn : (k : ℕ) → k ≤ length part - i → (r : ℕ) (out′ : List ℕ) → Writes out at (escape (take (i + k - i) (drop i part))) r out′ → Running part out₀ at₀ out′ r (i + k)
+  run-turn k h r out′ w = record {
+    few = omega (arith, s .few);
+    long = writes-long out at (escape (take (i + k - i) (drop i part))) r out′ w ∙ s .long;
+    done = rw (escape-cut part i k) (writes-then out₀ at₀ (escape (take i part)) at out (escape (take (i + k - i) (drop i part))) r out′ (s .done) w);
+  }
+
+  pub run-end : (r : Ran) → r .used ≡ i → r .at ≡ at → RanIs part out₀ at₀ r out
+  run-end r p q = record { few = omega (arith, s .few); writes = rw (p, q) (s .done) }
+
+-- the first block, and what goes on
+module _ (part : List ℕ) (i : ℕ) (d : List ℕ) (at : ℕ) (n : i + 16 ≤ length part) where
+  first-is : take (i + 16 - i) (drop i part) ≡ take 16 (drop i part)
+  first-is = let e : i + 16 - i ≡ 16 = omega arith in rw e
+
+  rest-is : take (length part - (i + 16)) (drop (i + 16) part) ≡ drop 16 (drop i part)
+  rest-is = take-all (length part - (i + 16)) (drop (i + 16) part) (omega (arith, length-drop (i + 16) part)) ∙ sym (drop-drop 16 i part)
+
+  pub first-room : at + length (escape (drop i part)) ≤ length d → at + length (escape (take (i + 16 - i) (drop i part))) ≤ length d
+  first-room l = rw first-is (omega (arith, escape-front (drop i part) 16))
+
+  pub rest-room : at + length (escape (drop i part)) ≤ length d → (r : ℕ) (e : List ℕ) → Writes d at (escape (take (i + 16 - i) (drop i part))) r e → r + length (escape (take (length part - (i + 16)) (drop (i + 16) part))) ≤ length e
+  rest-room l r e w =
+      let u = rw first-is at w in
+      let b = ap escape (sym (take-append-drop 16 (drop i part))) ∙ escape-append (take 16 (drop i part)) (drop 16 (drop i part)) in
+      rw rest-is (omega (arith, u .next, writes-long d at (escape (take 16 (drop i part))) r e u, ap length b, length-append (escape (take 16 (drop i part))) (escape (drop 16 (drop i part)))))
+
+  pub first-only : (r : Ran) (e : List ℕ) → Writes d at (escape (take (i + 16 - i) (drop i part))) (r .at) e → r .used ≡ 16 → MixedIs part i d at r e
+  first-only r e w q = record { least = omega arith; within = omega arith; writes = rw q (rw first-is at w) }
+
+  pub first-more : (k : ℕ) (e : List ℕ) → Writes d at (escape (take (i + 16 - i) (drop i part))) k e → (q : Ran) (g : List ℕ) → RanIs (take (length part - (i + 16)) (drop (i + 16) part)) e k q g → (r : Ran) → r .used ≡ 16 + q .used → r .at ≡ q .at → MixedIs part i d at r g
+  first-more k e w q g v r x y =
+      let a : List ℕ = drop i part in
+      let u : RanIs (drop 16 a) e k q g = rw rest-is at v in
+      let z : escape (take (16 + q .used) a) ≡ escape (take 16 a) ++ escape (take (q .used) (drop 16 a)) = ap escape (take-add 16 (q .used) a) ∙ escape-append (take 16 a) (take (q .used) (drop 16 a)) in record {
+        least = omega arith;
+        within = omega (arith, u .few, length-drop 16 a, length-drop i part);
+        writes = rw (x, y, z) (writes-then d at (escape (take 16 a)) k e (escape (take (q .used) (drop 16 a))) (q .at) g (rw first-is at w) (u .writes));
+      }
+
+pub full-is : (l : List ℕ) (t : Bool) → Full 0x3C 0x3E l t → t ≡ true → countIn 0x3C 0x3E l ≡ length l
+full-is l t v z = v .all z
 
 -- ---- a frame's parts
 

@@ -8,14 +8,14 @@ use native.Mathlib.Omega.{arith}
 use lib.ListN.{length, getD, set, take, drop, length-drop}
 use lib.Seq.{sets, sets-eq, length-sets, length-take-le, take-add, drop-drop, take-at, drop-at, getD-take}
 use borrow.Author.Tests.{lt-leb}
-use Rattle.laws.specs.Choice.{split≤}
+use Rattle.laws.specs.Choice.{split≤, no-way}
 use Rattle.laws.specs.Lists.{drop-step, drop-end}
 use Rattle.laws.specs.Stores.{Writes, sets-append, Emitting, emit-start, emit-turn, emit-end}
 use Rattle.laws.specs.Answers.{accepted, refused, Outcome, gives, refuses, isGiven, Meets, meets-refused, meets-short, meets-wrote}
 use Rattle.mdr.specs.Escape.{unescape}
 use Rattle.mdr.specs.Frame.{unpackOf, unpacksOf}
 use Rattle.mdr.specs.Told.{told, glance}
-use Rattle.mdr.specs.Steps.{sentries, bytesOf, ahead, GotIs, Bare, RefusedBy, Holds, Reads, Filled}
+use Rattle.mdr.specs.Steps.{sentries, bytesOf, ahead, GotIs, Bare, RefusedBy, Holds, Reads, Paired, PairedIf, DenseIf, halves, Filled}
 use Rattle.mdr.specs.declared.Got.{Got}
 use Rattle.mdr.specs.declared.Head.{Head}
 use Rattle.mdr.specs.declared.Unpacked.{Unpacked}
@@ -23,6 +23,7 @@ use Rattle.mdr.specs.declared.Reading.{Reading}
 use Rattle.mdr.specs.declared.Reading.the-variants.{Whole, Refused}
 use Rattle.mdr.proofs.Counting.{drop-part}
 use Rattle.mdr.proofs.Unescaping.{unescape-bare, pushes, pushes-gives, pushes-refuses}
+use Rattle.mdr.proofs.Pairs.{unescape-pairs, halves-length}
 use Rattle.mdr.proofs.Judging.{ahead-most, ahead-bare}
 
 -- ---- a part as it stands
@@ -58,12 +59,13 @@ copy-through part d e r out at q out′ n m v w =
 -- ---- unescaped bytes
 
 pub filled-none : (s : List ℕ) (i : ℕ) (d : List ℕ) (at : ℕ) → Filled s i d at 0 i d
-filled-none s i d at = record { rest = refl; writes = refl }
+filled-none s i d at = record { on = omega arith; rest = refl; writes = refl }
 
 pub filled-then : (s : List ℕ) (i : ℕ) (d : List ℕ) (at k r : ℕ) (e : List ℕ) (l q : ℕ) (g : List ℕ) → k ≤ length (ahead s i) → Filled s i d at k r e → Filled s r e (at + k) l q g → Filled s i d at (k + l) q g
 filled-then s i d at k r e l q g h a b =
     let A : List ℕ = ahead s i in
     let n : length (take k A) ≡ k = length-take-le k A h in record {
+      on = omega (arith, a .on, b .on);
       rest = b .rest ∙ rw (a .rest) (drop-drop l k A);
       writes = b .writes ∙ rw (a .rest, a .writes, take-add k l A) (sym (sets-append d at (take k A) (take l (drop k A)) ∙ rw n));
     }
@@ -89,7 +91,7 @@ module _ (s : List ℕ) (i₀ : ℕ) (d : List ℕ) (at count i : ℕ) (e : List
   }
 
   pub fill-turn : k < count → (g : Got) → GotIs s i g → Filling s i₀ d at count (g .next) (set e (at + k) (g .byte)) (k + 1)
-  fill-turn h g v = fill-more 1 (g .next) (set e (at + k) (g .byte)) (omega arith) (record { rest = rw (v .step); writes = rw (v .step) })
+  fill-turn h g v = fill-more 1 (g .next) (set e (at + k) (g .byte)) (omega arith) (record { on = v .on; rest = rw (v .step); writes = rw (v .step) })
 
   pub fill-end : count ≤ k → Filled s i₀ d at count i e
   fill-end h = let q : k ≡ count = omega (arith, f .few) in rw q at (f .done)
@@ -118,6 +120,9 @@ ahead-part s i j h n e =
     let u : unescape (drop i s) ≡ pushes a (unescape (drop j s)) = ap unescape (drop-part s i j h) ∙ unescape-bare a (drop j s) e in
     ap bytesOf u ∙ bytes-pushes a (unescape (drop j s)) (omega (arith, ap (λ (o : Outcome). length (bytesOf o)) u))
 
+pub block-start : (s : List ℕ) (i : ℕ) → 16 ≤ length (ahead s i) → i ≤ length s
+block-start s i h = omega (arith, ahead-most s i 16 h)
+
 -- sixteen bytes at once
 pub block-inside : (s : List ℕ) (i : ℕ) → 16 ≤ length (ahead s i) → i + 16 ≤ length s
 block-inside s i h = omega (arith, ahead-most s i 16 h)
@@ -132,9 +137,46 @@ block-bare s i d at t r e h v z w =
     let a : List ℕ = take (i + 16 - i) (drop i s) in
     let n : length a ≡ 16 = block-long s i h in
     let u : ahead s i ≡ a ++ ahead s (i + 16) = ahead-part s i (i + 16) (omega arith) (omega arith) (v .none z) in record {
+      on = omega arith;
       rest = sym (ap (drop 16) u ∙ drop-at a (ahead s (i + 16)) 16 n);
       writes = w .writes ∙ ap (λ (l : List ℕ). sets d at l) (sym (ap (take 16) u ∙ take-at a (ahead s (i + 16)) 16 n));
     }
+
+-- sixteen escaped bytes at once
+pairs-ahead : (s : List ℕ) (i j : ℕ) → i ≤ j → 1 ≤ length (ahead s i) → length (take (j - i) (drop i s)) ≡ 32 → Paired (take (j - i) (drop i s)) → ahead s i ≡ halves (take (j - i) (drop i s)) ++ ahead s j
+unfolding ahead
+pairs-ahead s i j h n m p =
+    let a : List ℕ = take (j - i) (drop i s) in
+    let u : unescape (drop i s) ≡ pushes (halves a) (unescape (drop j s)) = ap unescape (drop-part s i j h) ∙ unescape-pairs a (drop j s) m p in
+    ap bytesOf u ∙ bytes-pushes (halves a) (unescape (drop j s)) (omega (arith, ap (λ (o : Outcome). length (bytesOf o)) u))
+
+module _ (s : List ℕ) (i : ℕ) (t : Bool) (v : DenseIf s i t) (z : t ≡ true) where
+  pub dense-inside : i + 32 ≤ length s
+  dense-inside = v .within z
+
+  pub dense-long : length (take (i + 32 - i) (drop i s)) ≡ 32
+  dense-long =
+      let k : i + 32 - i ≡ 32 = omega arith in
+      rw k (length-take-le 32 (drop i s) (omega (arith, dense-inside, length-drop i s)))
+
+  pub dense-paired : Paired (take (i + 32 - i) (drop i s))
+  dense-paired = v .is z
+
+  pub block-dense : (d : List ℕ) (at r : ℕ) (e : List ℕ) → 16 ≤ length (ahead s i) → Writes d at (halves (take (i + 32 - i) (drop i s))) r e → Filled s i d at 16 (i + 32) e
+  block-dense d at r e h w =
+      let a : List ℕ = halves (take (i + 32 - i) (drop i s)) in
+      let n : length a ≡ 16 = halves-length (take (i + 32 - i) (drop i s)) 16 dense-long in
+      let u : ahead s i ≡ a ++ ahead s (i + 32) = pairs-ahead s i (i + 32) (omega arith) (omega arith) dense-long dense-paired in record {
+        on = omega arith;
+        rest = sym (ap (drop 16) u ∙ drop-at a (ahead s (i + 32)) 16 n);
+        writes = w .writes ∙ ap (λ (l : List ℕ). sets d at l) (sym (ap (take 16) u ∙ take-at a (ahead s (i + 32)) 16 n));
+      }
+
+pub sparse : (s : List ℕ) (i : ℕ) → DenseIf s i false
+sparse s i = record { within = λ z. no-way z refl; is = λ z. no-way z refl }
+
+pub dense-if : (s : List ℕ) (i : ℕ) (t : Bool) → 32 ≤ length s - i → PairedIf (take (i + 32 - i) (drop i s)) t → DenseIf s i t
+dense-if s i t h v = record { within = λ z. omega arith; is = v .is }
 
 -- ---- the payload
 

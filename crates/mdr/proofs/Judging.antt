@@ -18,16 +18,18 @@ use Rattle.mdr.specs.Escape.{escapee, push, unescape, unescapeFrom}
 use Rattle.mdr.specs.Escaping.{count-append}
 use Rattle.mdr.specs.Frame.{declaredOf, lastOf, computedOf, judged, bodied, unpackOf}
 use Rattle.mdr.specs.Wire.{judged-whole, wire-body}
-use Rattle.mdr.specs.Steps.{Minus, sentries, Measured, bytesOf, ahead, Sound, FlawIs, GotIs, HeaderIs, Summed, Bare, RefusedBy, Reads, inside}
+use Rattle.mdr.specs.Steps.{Minus, sentries, Measured, bytesOf, ahead, Sound, flawOf, ScannedIs, GotIs, HeaderIs, Summed, Bare, RefusedBy, Reads, inside}
 use Rattle.mdr.specs.declared.Got.{Got}
 use Rattle.mdr.specs.declared.Header.{Header}
 use Rattle.mdr.specs.declared.Head.{Head}
 use Rattle.mdr.specs.declared.Flaw.{Flaw}
+use Rattle.mdr.specs.declared.Scanned.{Scanned}
 use Rattle.mdr.specs.declared.Flaw.the-variants as flaw
 use Rattle.mdr.specs.declared.Unpacked.the-variants.{TooShort, NoStart, NoEnd, TrailingSentry, BadEscapee, BodyTooShort, LengthMismatch, BadChecksum}
 use Rattle.mdr.specs.declared.Reading.{Reading}
 use Rattle.mdr.specs.declared.Reading.the-variants.{Whole, Refused}
 use Rattle.mdr.proofs.Counting.{total-append}
+use Rattle.mdr.proofs.Flaws.{told-as}
 use Rattle.mdr.proofs.Unescaping.{unescape-bare, pushes-gives, weighed, closing, Ends, ends}
 
 -- ---- how much lies ahead
@@ -194,17 +196,18 @@ body-bare s all r m v = reads-as _ _ s r (rw (bare-sound s (sym (m .found)), ahe
 pub body-sound : (s : List ℕ) (r : Reading) → Sound s → Reads (judged (ahead s 0)) s r → Reads (bodied (unescape s)) s r
 body-sound s r v w = reads-as _ _ s r (rw (v .is)) w
 
-flaw-as : (s : List ℕ) (f g : Flaw) → FlawIs s f → f ≡ g → FlawIs s g
-flaw-as s f g v e = subst (λ (x : Flaw). FlawIs s x) e v
+pub body-trailing : (s : List ℕ) (f : Flaw) → f ≡ flawOf s → f ≡ flaw.Trailing → Reads (bodied (unescape s)) s (Refused TrailingSentry)
+body-trailing s f p e = record { is = refused-by _ 13 [] (ap bodied (told-as s f p flaw.Trailing e)) }
 
-pub body-trailing : (s : List ℕ) (f : Flaw) → FlawIs s f → f ≡ flaw.Trailing → Reads (bodied (unescape s)) s (Refused TrailingSentry)
-body-trailing s f v e = record { is = refused-by _ 13 [] (ap bodied (flaw-as s f _ v e .is)) }
+pub body-bad : (s : List ℕ) (f : Flaw) (b : ℕ) → f ≡ flawOf s → f ≡ flaw.Bad b → Reads (bodied (unescape s)) s (Refused (BadEscapee b))
+body-bad s f b p e = record { is = refused-by _ 14 (b ∷ []) (ap bodied (told-as s f p (flaw.Bad b) e)) }
 
-pub body-bad : (s : List ℕ) (f : Flaw) (b : ℕ) → FlawIs s f → f ≡ flaw.Bad b → Reads (bodied (unescape s)) s (Refused (BadEscapee b))
-body-bad s f b v e = record { is = refused-by _ 14 (b ∷ []) (ap bodied (flaw-as s f _ v e .is)) }
+pub flaw-sound : (s : List ℕ) (f : Flaw) → f ≡ flawOf s → f ≡ flaw.Sound → Sound s
+unfolding ahead
+flaw-sound s f p e = record { is = told-as s f p flaw.Sound e }
 
-pub flaw-sound : (s : List ℕ) (f : Flaw) → FlawIs s f → f ≡ flaw.Sound → Sound s
-flaw-sound s f v e = flaw-as s f _ v e .is
+pub scanned-counts : (s : List ℕ) (r : Scanned) → ScannedIs s r → (f : Flaw) → f ≡ flawOf s → f ≡ flaw.Sound → Measured s (r .sum) (r .hits)
+scanned-counts s r v f p e = v .counts (sym p ∙ e)
 
 module _ (w : List ℕ) where
   pub wire-short : length w < 9 → Reads (unpackOf w) (inside w) (Refused TooShort)

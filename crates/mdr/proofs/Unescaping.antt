@@ -1,10 +1,10 @@
--- What a sound escaped part is: its bytes, their number and sum, its last byte; and the place where one is not sound.
-use Prim.Native.Nat.{ℕ, suc, _+_, _*_, _<_, _≤_}
+-- What a sound escaped part is: its bytes, their number and sum, its last byte.
+use Prim.Native.Nat.{ℕ, _+_, _*_, _≤_}
 use mathlib.Core.Path.{_≡_, refl, ap, _∙_}
 use mathlib.Core.Bool.{Bool, true, false, cond}
 use mathlib.Core.List.{List, [], _∷_, _++_}
 use native.Mathlib.Omega.{arith}
-use lib.ListN.{length, getD}
+use lib.ListN.{length}
 use lib.Dec.{eqb}
 use borrow.Author.Tests.{eqb-true, eqb-false, ne-eqb}
 use Rattle.laws.specs.Choice.{splitB, no-way}
@@ -12,7 +12,7 @@ use Rattle.laws.specs.Answers.{Outcome, gives, refuses}
 use Rattle.mdr.specs.Sum.{total}
 use Rattle.mdr.specs.Escape.{within, escapee, push, unescape, unescapeFrom}
 use Rattle.mdr.specs.Escaping.{within-range}
-use Rattle.mdr.specs.Steps.{sentries, bytesOf, ahead, Sound, breach}
+use Rattle.mdr.specs.Steps.{sentries}
 
 -- the two tests for a 3D
 pub sentry : (b : ℕ) → eqb b 0x3D ≡ true → within 0x3D 0x3D b ≡ true
@@ -149,32 +149,3 @@ unescape-bare (x ∷ a) b e =
     splitB (eqb x 0x3D)
     (λ t. let k : _≡_ {A = ℕ} (cond (within 0x3D 0x3D x) 1 0) 1 = rw (sentry x t) in absurd (omega arith))
     (λ t. rw (t, unescape-bare a b (omega arith)))
-
--- ---- no 3D without its escapee
-
-abbrev pub Kept : List ℕ → Type 0
-Kept s = (k : ℕ) → k < length s → breach (getD s k 0) (getD s (suc k) 0) ≡ 0
-
-push-sound : (b : ℕ) (o : Outcome) → o ≡ gives [] (bytesOf o) → push b o ≡ gives [] (bytesOf (push b o))
-push-sound b (gives vs bs) e = let q : vs ≡ [] = cc in rw q
-push-sound b (refuses n vs) e = let z : _≡_ {A = ℕ} 0 1 = cc in absurd (omega arith)
-
-kept-escapee : (b e : ℕ) → eqb b 0x3D ≡ true → breach b e ≡ 0 → escapee e ≡ true
-unfolding breach
-kept-escapee b e t h = splitB (escapee e) (λ u. u) (λ u. let f = rw (t, u) at h in absurd (omega arith))
-
-sound-from : (p : Bool) (s : List ℕ) → (p ≡ true → escapee (getD s 0 0) ≡ true) → Kept s → unescapeFrom p s ≡ gives [] (bytesOf (unescapeFrom p s))
-unfolding within
-sound-from false [] q h = refl
-sound-from true [] q h = no-way (q refl) refl
-sound-from false (b ∷ bs) q h =
-    splitB (eqb b 0x3D)
-    (λ t. rw t (sound-from true bs (λ r. kept-escapee b (getD bs 0 0) t (h 0 (omega arith))) (λ k l. h (suc k) (omega arith))))
-    (λ t. rw t (push-sound b (unescapeFrom false bs) (sound-from false bs (λ r. no-way r refl) (λ k l. h (suc k) (omega arith)))))
-sound-from true (b ∷ bs) q h =
-    let t : escapee b ≡ true = q refl in
-    rw t (push-sound (b + 0x10) (unescapeFrom false bs) (sound-from false bs (λ r. no-way r refl) (λ k l. h (suc k) (omega arith))))
-
-pub kept-sound : (s : List ℕ) → Kept s → Sound s
-unfolding ahead
-kept-sound s h = record { is = sound-from false s (λ r. no-way r refl) h }

@@ -1,17 +1,20 @@
 // The MDR wire frame: type byte, checksum, pack and unpack.
 ghost use mathlib.Core.Path.{_≡_};
 ghost use mathlib.Core.List.{[], _∷_, _++_};
-ghost use Prim.Native.Nat.{_+_, _*_, _≤_, _<_};
-ghost use lib.ListN.{length, getD, take};
+ghost use mathlib.Core.Bool.{not};
+ghost use Prim.Native.Nat.{_+_, _*_, _/_, _%_, _≤_, _<_};
+ghost use lib.ListN.{length, getD, take, drop};
 ghost use lib.Seq.{sets};
+ghost use lib.Dec.{eqb};
 ghost use Rattle.laws.specs.Stores.{Writes};
 ghost use Rattle.laws.specs.Answers.{Meets};
 ghost use Rattle.mdr.specs.Sum.{checksumOf};
+ghost use Rattle.mdr.specs.Escaping.{countIn};
 ghost use Rattle.mdr.specs.Escape.{within, escapeByte, escape, unescape};
 ghost use Rattle.mdr.specs.Frame.{headOf, judged, bodied, lastOf, unpackOf, packOf, unpacksOf};
 ghost use Rattle.mdr.specs.Told.{told, toldPacked, toldInspected, glance};
 ghost use Rattle.mdr.specs.Types.{typeOf, byteOf};
-ghost use Rattle.mdr.specs.Steps.{OneIf, Minus, Tallied, Measured, ahead, Sound, breach, Flawless, FlawIs, GotIs, HeaderIs, Summed, Bare, Reads, inside, Filled, framed};
+ghost use Rattle.mdr.specs.Steps.{OneIf, Minus, Tallied, Measured, ahead, Sound, isBreach, breaches, flawOf, Clean, FrontPart, KeptIf, LastPart, SoundIf, ScannedIs, GotIs, HeaderIs, Summed, Bare, Full, Reads, inside, Joined, PairIs, Pair, PairIf, Paired, PairedIf, DenseIf, halves, Filled, twins, parted, RanIs, MixedIs, framed};
 
 // The frame's type. A value that is not listed is carried, so that a report can name it.
 pub enum DataType {
@@ -160,6 +163,29 @@ fn is_bare(part: &[u8], lo: u8, hi: u8) -> bool
     most == 0
 }
 
+// 0 for a byte between the two values, else 1.
+fn one_without(b: u8, lo: u8, hi: u8) -> u8
+    ensures { λ r. ⌜ OneIf (not (within lo hi b)) r ⌝ }
+{
+    if is_within(b, lo, hi) { 0 } else { 1 }
+}
+
+// Whether every byte lies between two values.
+fn is_full(part: &[u8], lo: u8, hi: u8) -> bool
+    ensures { λ r. ⌜ Full lo hi (now (part .entry)) r ⌝ }
+{
+    let mut most: u8 = 0;
+    let mut i: usize = 0;
+    while i < part.len() {
+        let x = one_without(part[i], lo, hi);
+        i += 1;
+        if most < x {
+            most = x;
+        }
+    }
+    most == 0
+}
+
 // a less b, wrapping in eight bits.
 fn minus(a: u8, b: u8) -> u8
     ensures { λ r. ⌜ Minus a b r ⌝ }
@@ -184,7 +210,7 @@ pub fn checksum(bytes: &[u8]) -> u8
 
 // 1 for a 3D that is not followed by 2C, 2D or 2E, else 0.
 fn breaks(b: u8, e: u8) -> u8
-    ensures { λ r. ⌜ r ≡ breach b e ⌝ }
+    ensures { λ r. ⌜ OneIf (isBreach b e) r ⌝ }
 {
     if b != 0x3D {
         return 0;
@@ -192,25 +218,21 @@ fn breaks(b: u8, e: u8) -> u8
     if is_within(e, 0x2C, 0x2E) { 0 } else { 1 }
 }
 
-// Whether any 3D is not followed by 2C, 2D or 2E. There is no early way out, so that the loop runs on many bytes at once.
-fn is_flawed(s: &[u8]) -> bool
-    requires { ⌜ 1 ≤ length (now s) ⌝ }
-    ensures { λ r. ⌜ Flawless (now (s .entry)) r ⌝ }
+// How many 3D before the last byte are not followed by 2C, 2D or 2E. There is no early way out, so that the loop runs
+// on many bytes at once.
+fn count_breaks(part: &[u8]) -> u8
+    requires { ⌜ 1 ≤ length (now part) ⌝ }
+    requires { ⌜ length (now part) ≤ 256 ⌝ }
+    ensures { λ r. ⌜ r ≡ breaches (now (part .entry)) ⌝ }
 {
-    let n = s.len() - 1;
-    let mut worst = breaks(s[n], 0);
+    let n = part.len() - 1;
+    let mut found: u8 = 0;
     let mut i: usize = 0;
     while i < n {
-        let x = breaks(s[i], s[i + 1]);
+        found += breaks(part[i], part[i + 1]);
         i += 1;
-        if worst < x {
-            worst = x;
-        }
     }
-    if worst == 0 {
-        return false;
-    }
-    true
+    found
 }
 
 enum Flaw {
@@ -219,11 +241,12 @@ enum Flaw {
     Bad(u8),
 }
 
-// The first place where escaping is broken.
-fn first_flaw(s: &[u8]) -> Flaw
-    ensures { λ r. ⌜ FlawIs (now (s .entry)) r ⌝ }
+// The first place where escaping is broken, from a place on before which it is not.
+fn first_flaw(s: &[u8], from: usize) -> Flaw
+    requires { ⌜ Clean (now s) from ⌝ }
+    ensures { λ r. ⌜ r ≡ flawOf (now (s .entry)) ⌝ }
 {
-    let mut i: usize = 0;
+    let mut i: usize = from;
     while i < s.len() {
         let b = s[i];
         i += 1;
@@ -242,18 +265,72 @@ fn first_flaw(s: &[u8]) -> Flaw
     Flaw::Sound
 }
 
-// Looks at many bytes at once first, and walks a part byte by byte only if it is short or broken.
-fn check_escapes(s: &[u8]) -> Flaw
-    requires { ⌜ 1 ≤ length (now s) ⌝ }
-    ensures { λ r. ⌜ FlawIs (now (s .entry)) r ⌝ }
+// Whether no 3D before the last byte of a part breaks escaping; so many stand there.
+fn is_kept(part: &[u8], sentries: usize) -> bool
+    requires { ⌜ FrontPart (now part) sentries ⌝ }
+    ensures { λ r. ⌜ KeptIf (now (part .entry)) r ⌝ }
 {
-    if s.len() < 64 {
-        return first_flaw(s);
+    if sentries == 0 {
+        return true;
     }
-    if is_flawed(s) {
-        return first_flaw(s);
+    count_breaks(part) == 0
+}
+
+// Whether it is known that no 3D of the last part breaks escaping; so many stand there. A short part is not looked at:
+// that goes as quickly byte by byte.
+fn is_sound(part: &[u8], sentries: usize) -> bool
+    requires { ⌜ LastPart (now part) sentries ⌝ }
+    ensures { λ r. ⌜ SoundIf (now (part .entry)) r ⌝ }
+{
+    if sentries == 0 {
+        return true;
     }
-    Flaw::Sound
+    let n = part.len();
+    if n < 32 {
+        return false;
+    }
+    if part[n - 1] == 0x3D {
+        return false;
+    }
+    count_breaks(part) == 0
+}
+
+// What a first look at an escaped part tells: escaping is not broken before a place, and if it is broken nowhere, these
+// are the bytes' sum and how many of them are 3D.
+struct Scanned {
+    sum: u8,
+    hits: usize,
+    at: usize,
+}
+
+// Part by part, up to the first in which escaping is broken.
+fn scan(s: &[u8]) -> Scanned
+    requires { ⌜ 7 ≤ length (now s) ⌝ }
+    ensures { λ r. ⌜ ScannedIs (now (s .entry)) r ⌝ }
+{
+    let n = s.len();
+    let mut sum: u8 = 0;
+    let mut hits: usize = 0;
+    let mut i: usize = 0;
+    while 192 < n - i {
+        let j = i + 192;
+        let k = j + 1;
+        let t = tally_few(&s[i..j], 0x3D, 0x3D);
+        if is_kept(&s[i..k], t.hits) {
+            sum = std::num::wrapping_add_u8(sum, t.sum);
+            hits += t.hits;
+            i = j;
+        } else {
+            return Scanned { sum, hits, at: i };
+        }
+    }
+    let t = tally_few(&s[i..n], 0x3D, 0x3D);
+    sum = std::num::wrapping_add_u8(sum, t.sum);
+    hits += t.hits;
+    if is_sound(&s[i..n], t.hits) {
+        i = n;
+    }
+    Scanned { sum, hits, at: i }
 }
 
 // A byte of a sound escaped part, and the place after it.
@@ -436,27 +513,28 @@ fn read_sound(s: &[u8], raw: u8, sentries: usize) -> Reading
 }
 
 // raw is the sum of all bytes as they stand.
-fn read_escaped(s: &[u8], raw: u8, sentries: usize) -> Reading
+fn read_counted(s: &[u8], raw: u8, sentries: usize) -> Reading
     requires { ⌜ Measured (now s) raw sentries ⌝ }
+    requires { ⌜ Sound (now s) ⌝ }
     ensures { λ r. ⌜ Reads (bodied (unescape (now (s .entry)))) (now (s .entry)) r ⌝ }
 {
-    let f = check_escapes(s);
-    match f {
-        Flaw::Trailing => Reading::Refused(Unpacked::TrailingSentry),
-        Flaw::Bad(b) => Reading::Refused(Unpacked::BadEscapee(b)),
-        Flaw::Sound => read_sound(s, raw, sentries),
+    if sentries == 0 {
+        return read_bare(s, raw);
     }
+    read_sound(s, raw, sentries)
 }
 
 fn read_body(s: &[u8]) -> Reading
     requires { ⌜ 7 ≤ length (now s) ⌝ }
     ensures { λ r. ⌜ Reads (bodied (unescape (now (s .entry)))) (now (s .entry)) r ⌝ }
 {
-    let t = tally(s, 0x3D, 0x3D);
-    if t.hits == 0 {
-        return read_bare(s, t.sum);
+    let t = scan(s);
+    let f = first_flaw(s, t.at);
+    match f {
+        Flaw::Trailing => Reading::Refused(Unpacked::TrailingSentry),
+        Flaw::Bad(b) => Reading::Refused(Unpacked::BadEscapee(b)),
+        Flaw::Sound => read_counted(s, t.sum, t.hits),
     }
-    read_escaped(s, t.sum, t.hits)
 }
 
 // What a wire says, before an output is looked at.
@@ -518,12 +596,97 @@ fn copy_block(part: &[u8], out: &mut [u8], at: usize) -> usize
     copy(&block, out, at)
 }
 
-// Stores the next sixteen unescaped bytes.
-fn fill_block(s: &[u8], from: usize, out: &mut [u8], at: usize) -> usize
+// Two bytes as a number, the lowest first.
+fn join_two(a: u8, b: u8) -> u16
+    ensures { λ r. ⌜ Joined a b r ⌝ }
+{
+    (a as u16) + 256 * (b as u16)
+}
+
+// The two bytes that follow so many pairs.
+fn pair_at(part: &[u8], i: usize) -> u16
+    requires { ⌜ 2 * i + 2 ≤ length (now part) ⌝ }
+    ensures { λ r. ⌜ PairIs (now (part .entry)) i r ⌝ }
+{
+    join_two(part[2 * i], part[2 * i + 1])
+}
+
+fn one_if(w: u16, x: u16) -> u16
+    ensures { λ r. ⌜ OneIf (eqb w x) r ⌝ }
+{
+    if w == x { 1 } else { 0 }
+}
+
+// 1 for a 3D and what may follow it, else 0. A pair is one number, so that a loop runs on many at once.
+fn one_pair(w: u16) -> u16
+    ensures { λ r. ⌜ PairIf w r ⌝ }
+{
+    one_if(w, 0x2C3D) + one_if(w, 0x2D3D) + one_if(w, 0x2E3D)
+}
+
+// Whether 32 bytes are sixteen escaped ones.
+fn is_paired(part: &[u8]) -> bool
+    requires { ⌜ length (now part) ≡ 32 ⌝ }
+    ensures { λ r. ⌜ PairedIf (now (part .entry)) r ⌝ }
+{
+    let mut hits: u16 = 0;
+    let mut i: usize = 0;
+    while i < 16 {
+        hits += one_pair(pair_at(part, i));
+        i += 1;
+    }
+    hits == 16
+}
+
+// The byte that a pair stands for: the second and 16. Adding 4035 makes a 3D 16 times 256.
+fn unpaired(w: u16) -> u8
+    requires { ⌜ Pair w ⌝ }
+    ensures { λ r. ⌜ r ≡ w / 256 + 16 ⌝ }
+{
+    ((w + 4035) / 256) as u8
+}
+
+// Stores the bytes that sixteen pairs stand for: all are loaded before the first is stored.
+fn unpair(part: &[u8], out: &mut [u8], at: usize) -> usize
+    requires { ⌜ length (now part) ≡ 32 ⌝ }
+    requires { ⌜ Paired (now part) ⌝ }
+    requires { ⌜ at + 16 ≤ length (now out) ⌝ }
+    ensures { λ r. ⌜ Writes (now (out .entry)) at (halves (now (part .entry))) r (now (out .exit)) ⌝ }
+{
+    let mut block = [0u8; 16];
+    let mut i: usize = 0;
+    while i < 16 {
+        block[i] = unpaired(pair_at(part, i));
+        i += 1;
+    }
+    copy(&block, out, at)
+}
+
+// Whether sixteen escaped bytes stand at a place; not looked at unless dense.
+fn is_dense(s: &[u8], from: usize, dense: bool) -> bool
+    requires { ⌜ from ≤ length (now s) ⌝ }
+    ensures { λ r. ⌜ DenseIf (now (s .entry)) from r ⌝ }
+{
+    if dense {
+        if 32 <= s.len() - from {
+            let to = from + 32;
+            return is_paired(&s[from..to]);
+        }
+    }
+    false
+}
+
+// Stores the next sixteen unescaped bytes. dense: it is worth a look whether all of them are escaped.
+fn fill_block(s: &[u8], from: usize, out: &mut [u8], at: usize, dense: bool) -> usize
     requires { ⌜ 16 ≤ length (ahead (now s) from) ⌝ }
     requires { ⌜ at + 16 ≤ length (now out) ⌝ }
     ensures { λ r. ⌜ Filled (now (s .entry)) from (now (out .entry)) at 16 r (now (out .exit)) ⌝ }
 {
+    if is_dense(s, from, dense) {
+        let end = from + 32;
+        unpair(&s[from..end], out, at);
+        return end;
+    }
     let to = from + 16;
     if is_bare(&s[from..to], 0x3D, 0x3D) {
         copy_block(&s[from..to], out, at);
@@ -539,8 +702,11 @@ fn fill(s: &[u8], from: usize, out: &mut [u8], count: usize) -> usize
 {
     let mut i: usize = from;
     let mut k: usize = 0;
+    let mut dense = false;
     while 16 <= count - k {
-        i = fill_block(s, i, out, k);
+        let j = fill_block(s, i, out, k, dense);
+        dense = j - i == 32;
+        i = j;
         k += 16;
     }
     fill_few(s, i, out, k, count - k)
@@ -671,15 +837,103 @@ fn escape_few(part: &[u8], out: &mut [u8], from: usize) -> usize
     at
 }
 
-fn escape_block(part: &[u8], out: &mut [u8], at: usize) -> usize
+// The escaped forms of sixteen bytes that all are escaped, each as one number, so that a loop runs on many at once.
+fn pairs_of(part: &[u8]) -> [u16; 16]
     requires { ⌜ length (now part) ≡ 16 ⌝ }
+    requires { ⌜ countIn 0x3C 0x3E (now part) ≡ length (now part) ⌝ }
+    ensures { λ r. ⌜ r ≡ twins (now (part .entry)) ⌝ }
+{
+    let mut pairs = [0u16; 16];
+    let mut i: usize = 0;
+    while i < 16 {
+        pairs[i] = join_two(0x3D, part[i] - 16);
+        i += 1;
+    }
+    pairs
+}
+
+fn low_of(w: u16) -> u8
+    ensures { λ r. ⌜ r ≡ w % 256 ⌝ }
+{
+    (w % 256) as u8
+}
+
+fn high_of(w: u16) -> u8
+    ensures { λ r. ⌜ r ≡ w / 256 ⌝ }
+{
+    (w / 256) as u8
+}
+
+fn put_pairs(pairs: &[u16], out: &mut [u8], from: usize) -> usize
+    requires { ⌜ from + 2 * length (now pairs) ≤ length (now out) ⌝ }
+    ensures { λ r. ⌜ Writes (now (out .entry)) from (parted (now (pairs .entry))) r (now (out .exit)) ⌝ }
+{
+    let mut at: usize = from;
+    let mut i: usize = 0;
+    while i < pairs.len() {
+        let w = pairs[i];
+        out[at] = low_of(w);
+        out[at + 1] = high_of(w);
+        at += 2;
+        i += 1;
+    }
+    at
+}
+
+// Stores the escaped form of sixteen bytes that all are escaped.
+fn pair_block(part: &[u8], out: &mut [u8], at: usize) -> usize
+    requires { ⌜ length (now part) ≡ 16 ⌝ }
+    requires { ⌜ countIn 0x3C 0x3E (now part) ≡ length (now part) ⌝ }
     requires { ⌜ at + length (escape (now part)) ≤ length (now out) ⌝ }
     ensures { λ r. ⌜ Writes (now (out .entry)) at (escape (now (part .entry))) r (now (out .exit)) ⌝ }
 {
-    if is_bare(part, 0x3C, 0x3E) {
-        return copy_block(part, out, at);
+    let pairs = pairs_of(part);
+    put_pairs(&pairs, out, at)
+}
+
+// How many bytes were escaped, and the place after what was written.
+struct Ran {
+    used: usize,
+    at: usize,
+}
+
+// Blocks of sixteen in which every byte is escaped, as long as there are such.
+fn escape_run(src: &[u8], out: &mut [u8], from: usize) -> Ran
+    requires { ⌜ from + length (escape (now src)) ≤ length (now out) ⌝ }
+    ensures { λ r. ⌜ RanIs (now (src .entry)) (now (out .entry)) from r (now (out .exit)) ⌝ }
+{
+    let n = src.len();
+    let mut i: usize = 0;
+    let mut at: usize = from;
+    while 16 <= n - i {
+        let j = i + 16;
+        if is_full(&src[i..j], 0x3C, 0x3E) {
+            at = pair_block(&src[i..j], out, at);
+            i = j;
+        } else {
+            return Ran { used: i, at };
+        }
     }
-    escape_few(part, out, at)
+    Ran { used: i, at }
+}
+
+// The next sixteen bytes from a place on, and, if every one of them was escaped, a run after them.
+fn escape_mixed(src: &[u8], i: usize, out: &mut [u8], from: usize) -> Ran
+    requires { ⌜ i + 16 ≤ length (now src) ⌝ }
+    requires { ⌜ from + length (escape (drop i (now src))) ≤ length (now out) ⌝ }
+    ensures { λ r. ⌜ MixedIs (now (src .entry)) i (now (out .entry)) from r (now (out .exit)) ⌝ }
+{
+    let n = src.len();
+    let j = i + 16;
+    let at = escape_few(&src[i..j], out, from);
+    if at - from == 32 {
+        let r = escape_run(&src[j..n], out, at);
+        return Ran {
+            used: 16 + r.used,
+            at: r.at,
+        };
+    }
+    Ran { used: 16, at }
 }
 
 // Stores the escaped form at a place, and returns the place after it.
@@ -692,8 +946,14 @@ fn escape_at(src: &[u8], out: &mut [u8], from: usize) -> usize
     let mut i: usize = 0;
     while 16 <= n - i {
         let j = i + 16;
-        at = escape_block(&src[i..j], out, at);
-        i = j;
+        if is_bare(&src[i..j], 0x3C, 0x3E) {
+            at = copy_block(&src[i..j], out, at);
+            i = j;
+        } else {
+            let r = escape_mixed(src, i, out, at);
+            at = r.at;
+            i += r.used;
+        }
     }
     escape_few(&src[i..n], out, at)
 }

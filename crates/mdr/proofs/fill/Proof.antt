@@ -1,14 +1,14 @@
-use Prim.Native.Nat.{_-_}
 use Rattle.mdr.proofs.Filling.{Filling, fill-start, fill-block-turn, fill-last}
+use Prim.Native.Nat.{_-_}
 use borrow.Author.Needs.{needs}
 use Rattle.mdr.proofs.fill.Statement.{statement}
 use Rattle.mdr.proofs.fill.Tie as tie
 
 abbrev Inv-loop : tie.InvT-loop
-Inv-loop s from out₀ count i₀ k₀ out i k = Filling s from out₀ 0 count i out k
+Inv-loop s from out₀ count i₀ k₀ dense₀ out i k dense = Filling s from out₀ 0 count i out k
 
 abbrev μ-loop : tie.MeasureT-loop
-μ-loop s from out₀ count i₀ k₀ out i k = count - k
+μ-loop s from out₀ count i₀ k₀ dense₀ out i k dense = count - k
 
 loop-holds : tie.Need-loop-holds Inv-loop μ-loop
 loop-holds c = search fill-start
@@ -18,6 +18,9 @@ sub-loop c = search needs
 
 fill-block-requires : tie.Need-fill-block-requires Inv-loop μ-loop
 fill-block-requires c κs = search needs
+
+sub-dense : tie.Need-sub-dense Inv-loop μ-loop
+sub-dense c = search needs
 
 add-k : tie.Need-add-k Inv-loop μ-loop
 add-k c = search needs
@@ -49,6 +52,7 @@ fill-spec =
     loop-holds
     sub-loop
     fill-block-requires
+    sub-dense
     add-k
     loop-less
     loop-again

@@ -1,18 +1,19 @@
 use Prim.Native.Nat.{_-_}
 use lib.ListN.{length}
-use Rattle.mdr.proofs.Places.{Passed, passed-start, passed-plain, passed-pair, flaw-trailing, flaw-bad, flaw-end}
+use Rattle.mdr.specs.Steps.{Clean}
+use Rattle.mdr.proofs.Flaws.{clean-plain, clean-pair, flaw-trailing, flaw-bad, flaw-end}
 use borrow.Author.Needs.{needs}
 use Rattle.mdr.proofs.first_flaw.Statement.{statement}
 use Rattle.mdr.proofs.first_flaw.Tie as tie
 
 abbrev Inv-loop : tie.InvT-loop
-Inv-loop s i₀ i = Passed s i
+Inv-loop s from i₀ i = Clean s i
 
 abbrev μ-loop : tie.MeasureT-loop
-μ-loop s i₀ i = length s - i
+μ-loop s from i₀ i = length s - i
 
 loop-holds : tie.Need-loop-holds Inv-loop μ-loop
-loop-holds c = search passed-start
+loop-holds c = search needs
 
 shared-slice-read-b : tie.Need-shared-slice-read-b Inv-loop μ-loop
 shared-slice-read-b c = search needs
@@ -36,7 +37,7 @@ loop-less : tie.Need-loop-less Inv-loop μ-loop
 loop-less c = search needs
 
 loop-again : tie.Need-loop-again Inv-loop μ-loop
-loop-again c = search passed-pair
+loop-again c = search clean-pair
 
 returns-2 : tie.Need-returns-2 Inv-loop μ-loop
 returns-2 c = search flaw-bad
@@ -45,7 +46,7 @@ loop-less-2 : tie.Need-loop-less-2 Inv-loop μ-loop
 loop-less-2 c = search needs
 
 loop-again-2 : tie.Need-loop-again-2 Inv-loop μ-loop
-loop-again-2 c = search passed-plain
+loop-again-2 c = search clean-plain
 
 returns-3 : tie.Need-returns-3 Inv-loop μ-loop
 returns-3 c = search flaw-end
