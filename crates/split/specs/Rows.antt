@@ -9,7 +9,6 @@ use lib.Dec.{eqb, leb, ltb}
 use Rattle.laws.specs.Keys.{Key, eqK}
 use Rattle.laws.specs.Count.{count, nub}
 use Rattle.words.specs.Words.{word}
-use Rattle.table.specs.Chain.{Chained}
 use Rattle.rfcomm.specs.Pieces.{Piece}
 use Rattle.rfcomm.specs.PieceTable.{pieceAt, piecesFrom, infosOf, Within}
 use Rattle.spans.specs.Spans.{onDlci}
@@ -101,10 +100,14 @@ sign n = cond (ltb 0 n) 1 0
 
 -- ---- where the tables lie
 
--- one word for each piece says which piece of its bucket came before it; equal keys are in one bucket
+-- one more than the newest of the first n rows, with their keys, that has the key k; 0 if none has
+unfoldable pub newestOf : (ℕ → Key) → Key → ℕ → ℕ
+newestOf κ k zero = 0
+newestOf κ k (suc n) = cond (eqK (κ n) k) (suc n) (newestOf κ k n)
+
+-- one word for each piece says which piece of its key came before it
 pub record Linked (w : List ℕ) (p : Plan) : Type 0 where
-  pub bucket : Key → ℕ
-  pub chained : Chained (λ j. bucket (keyAt w p j)) w (p .chain) (p .n)
+  pub before : (i : ℕ) → i < p .n → word w (p .chain + i) ≡ newestOf (λ j. keyAt w p j) (keyAt w p i) i
 
 -- the pieces below the words that link them, these below the lengths held, these below the area, and the area has room for all information
 pub record Laid (f w : List ℕ) (p : Plan) : Type 0 where

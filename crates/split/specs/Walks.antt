@@ -19,7 +19,7 @@ use Rattle.spans.specs.Parts.{tagged, tallyAll, Room, WritePre as PartPre}
 use Rattle.spans.specs.declared.Tally.{Tally}
 use Rattle.split.specs.Last.{lastn}
 use Rattle.spans.specs.Bytewise.{AllQuiet}
-use Rattle.split.specs.Rows.{piece, dlciAt, lenAt, startAt, bytesAt, heldOf, streamTo, opened, Fits, joined, cappedLength, all, liveTo, sign, Linked, Laid}
+use Rattle.split.specs.Rows.{piece, dlciAt, keyAt, lenAt, startAt, bytesAt, heldOf, streamTo, opened, Fits, joined, cappedLength, all, liveTo, sign, newestOf, Linked, Laid}
 use Rattle.split.specs.declared.Plan.{Plan}
 use Rattle.split.specs.declared.Sums.{Sums}
 
@@ -48,16 +48,11 @@ pub record LinkedTo (w : List ℕ) (p : Plan) (u : List ℕ) : Type 0 where
   pub linked : Linked u p
   pub front : Front (4 * p .chain) u w
 
--- one more than the piece of its bucket before piece i, or 0
+-- one more than the piece of its key before piece i, or 0
 pub record Earlier (w : List ℕ) (p : Plan) (i r : ℕ) : Type 0 where
-  pub at : r ≡ word w (p .chain + i)
+  pub newest : r ≡ newestOf (λ j. keyAt w p j) (keyAt w p i) i
   pub less : r ≤ i
-
-pub record TwoRows (w : List ℕ) (p : Plan) (i j : ℕ) : Type 0 where
-  pub rows : p .rows + 8 * p .n ≤ p .held
-  pub words : 4 * (p .held + p .n) ≤ length w
-  pub first : i < p .n
-  pub second : j < p .n
+  pub mine : 0 < r → keyAt w p (r - 1) ≡ keyAt w p i
 
 pub record StartIs (w : List ℕ) (p : Plan) (i r : ℕ) : Type 0 where
   pub at : r ≡ startAt w p i

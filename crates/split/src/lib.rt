@@ -7,14 +7,13 @@ ghost use mathlib.Core.Path.{_≡_};
 ghost use Prim.Native.Nat.{_+_, _-_, _%_, _≤_, _<_, min};
 ghost use lib.ListN.{length, take, drop};
 ghost use lib.Seq.{sets};
-ghost use Rattle.laws.specs.Keys.{eqK};
 ghost use Rattle.laws.specs.Stores.{Writes};
 ghost use Rattle.items.specs.Items.{rxOf};
 ghost use Rattle.spans.specs.Scan.{seek};
 ghost use Rattle.spans.specs.Parts.{CountedIs, WroteIs};
 ghost use Rattle.split.specs.Last.{lastn};
-ghost use Rattle.split.specs.Rows.{keyAt, lenAt, inWork, bytesAt, heldOf, streamTo, cappedLength, sign, Laid};
-ghost use Rattle.split.specs.Walks.{Row, LinkRoom, LinkedTo, Chain, Earlier, TwoRows, StartIs, Placed, PutPre, GatherPre, JoinPre, Joined, HoldPre, HeldMore, OpenPre, CountPre, CountHeld, CountAt, CountOn, CountClosed, Stepped, CountIs, WritePre, WriteAt, WriteOn, WroteOn, OutPre, GatherOut, ClosePre, closedItem, WroteStep, ListPre, WriteIs};
+ghost use Rattle.split.specs.Rows.{lenAt, inWork, bytesAt, heldOf, streamTo, cappedLength, sign, Laid};
+ghost use Rattle.split.specs.Walks.{Row, LinkRoom, LinkedTo, Chain, Earlier, StartIs, Placed, PutPre, GatherPre, JoinPre, Joined, HoldPre, HeldMore, OpenPre, CountPre, CountHeld, CountAt, CountOn, CountClosed, Stepped, CountIs, WritePre, WriteAt, WriteOn, WroteOn, OutPre, GatherOut, ClosePre, closedItem, WroteStep, ListPre, WriteIs};
 use classes::Rows;
 use classes::link_all;
 use items::Direction;
@@ -43,25 +42,6 @@ pub struct Plan {
 
 // ---- the table of pieces
 
-// Whether two pieces have the same DLCI, stretch and direction.
-fn same_key(w: &[u8], p: Plan, i: usize, j: usize) -> bool
-    requires { ⌜ TwoRows (now w) p i j ⌝ }
-    ensures { λ r. ⌜ r ≡ eqK (keyAt (now (w .entry)) p i) (keyAt (now (w .entry)) p j) ⌝ }
-{
-    let a = p.rows + 8 * i;
-    let b = p.rows + 8 * j;
-    if get32(w, a) != get32(w, b) {
-        return false;
-    }
-    if get32(w, a + 1) != get32(w, b + 1) {
-        return false;
-    }
-    if get32(w, a + 2) != get32(w, b + 2) {
-        return false;
-    }
-    get32(w, a + 3) == get32(w, b + 3)
-}
-
 // The length of a piece.
 fn length_of(w: &[u8], p: Plan, i: usize) -> usize
     requires { ⌜ Row (now w) p i ⌝ }
@@ -86,7 +66,7 @@ fn is_joined(w: &[u8], p: Plan, i: usize) -> bool
     get32(w, p.rows + 8 * i + 5) / 65536 == 1
 }
 
-// One more than the piece of its bucket before piece i; 0 if there is none.
+// One more than the piece of its key before piece i; 0 if there is none.
 fn earlier(w: &[u8], p: Plan, i: usize) -> usize
     requires { ⌜ Chain (now w) p i ⌝ }
     ensures { λ r. ⌜ Earlier (now (w .entry)) p i r ⌝ }
@@ -99,15 +79,11 @@ fn held_before(w: &[u8], p: Plan, i: usize) -> usize
     requires { ⌜ Chain (now w) p i ⌝ }
     ensures { λ r. ⌜ r ≡ heldOf (now (w .entry)) p i ⌝ }
 {
-    let mut j = earlier(w, p, i);
-    while 0 < j {
-        let k = j - 1;
-        j = earlier(w, p, k);
-        if same_key(w, p, k, i) {
-            return get32(w, p.held + k) as usize;
-        }
+    let j = earlier(w, p, i);
+    if j == 0 {
+        return 0;
     }
-    0
+    get32(w, p.held + (j - 1)) as usize
 }
 
 // ---- the pieces linked, before all else
@@ -187,13 +163,11 @@ fn gather(file: &[u8], w: &mut [u8], p: Plan, i: usize, h: usize)
     let mut left = h;
     while 0 < left {
         let k = j - 1;
+        let n = length_of(w, p, k);
+        let m = least(left, n);
         j = earlier(w, p, k);
-        if same_key(w, p, k, i) {
-            let n = length_of(w, p, k);
-            let m = least(left, n);
-            put_bytes(file, w, p, k, n - m, m, p.area + left - m);
-            left -= m;
-        }
+        put_bytes(file, w, p, k, n - m, m, p.area + left - m);
+        left -= m;
     }
 }
 
@@ -470,13 +444,11 @@ fn gather_out(file: &[u8], w: &[u8], p: Plan, i: usize, h: usize, out: &mut [u8]
     let mut left = h;
     while 0 < left {
         let k = j - 1;
+        let n = length_of(w, p, k);
+        let m = least(left, n);
         j = earlier(w, p, k);
-        if same_key(w, p, k, i) {
-            let n = length_of(w, p, k);
-            let m = least(left, n);
-            put_out(file, w, p, k, n - m, m, out, at + left - m);
-            left -= m;
-        }
+        put_out(file, w, p, k, n - m, m, out, at + left - m);
+        left -= m;
     }
 }
 

@@ -40,7 +40,7 @@ within-more f w at a b h i = record { inside = more (eqb (word w (at + 5) / 6553
 
 linked-any : (w : List ℕ) (q n d : ℕ) → Linked w (planOf q n 0) → Linked w (planOf q n d)
 unfolding planOf keyAt tailAt
-linked-any w q n d l = record { bucket = l .bucket; chained = l .chained }
+linked-any w q n d l = record { before = l .before }
 
 module _ (f w : List ℕ) (n : ℕ) (ready : Ready f w n) where
   t : Tabled f w n
