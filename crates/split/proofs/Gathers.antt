@@ -6,9 +6,10 @@ use mathlib.Core.List.{List, [], _∷_, _++_}
 use mathlib.Core.Logic.{_≢_}
 use native.Mathlib.Omega.{arith}
 use lib.ListN.{length, getD, set, take, drop, length-append, length-drop, length-set}
-use lib.Seq.{sets, length-sets, take-all, drop-drop, take-take, drop-cons, getD-set-other}
+use lib.Seq.{sets, length-sets, length-take-le, take-all, drop-drop, drop-cons, getD-set-other}
 use Rattle.laws.specs.Choice.{split≡}
 use Rattle.laws.specs.Keys.{Key}
+use Rattle.laws.specs.Stores.{Writes}
 use Rattle.words.specs.Front.{Front, front-refl, front-then, front-sets, part-take}
 use Rattle.rfcomm.specs.PieceTable.{infosOf}
 use Rattle.split.specs.Last.{lastn}
@@ -69,14 +70,14 @@ module _ (f w : List ℕ) (p : Plan) (j : ℕ) (t : Bool) (et : t ≡ inWork w p
     pub within-file : t ≡ false → startAt w p j + lenAt w p j ≤ length f
     within-file e = rw e at inside
 
-    module _ (s n : ℕ) (es : s ≡ startAt w p j) (en : n ≡ lenAt w p j) where
-      pub whole-work : t ≡ true → take (s + n - s) (drop s w) ≡ bytesAt f w p j
-      unfolding bytesAt
-      whole-work e = let y : s + n - s ≡ n = omega arith in rw (y, es, en, ← et, e)
+  module _ (x : List ℕ) (s n : ℕ) (es : s ≡ startAt w p j) (en : n ≡ lenAt w p j) where
+    pub whole-work : t ≡ true → x ≡ take n (drop s w) → x ≡ bytesAt f w p j
+    unfolding bytesAt
+    whole-work e ex = ex ∙ rw (es, en, ← et, e)
 
-      pub whole-file : t ≡ false → take (s + n - s) (drop s f) ≡ bytesAt f w p j
-      unfolding bytesAt
-      whole-file e = let y : s + n - s ≡ n = omega arith in rw (y, es, en, ← et, e)
+    pub whole-file : t ≡ false → x ≡ take n (drop s f) → x ≡ bytesAt f w p j
+    unfolding bytesAt
+    whole-file e ex = ex ∙ rw (es, en, ← et, e)
 
   module _ (skip m to : ℕ) (q : PutPre f w p j skip m to) (s : ℕ) (es : s ≡ startAt w p j) where
     pub put-work : t ≡ true → (u : List ℕ) → u ≡ sets w to (take m (drop (s + skip) w)) → u ≡ sets w to (take m (drop skip (bytesAt f w p j)))
@@ -85,27 +86,17 @@ module _ (f w : List ℕ) (p : Plan) (j : ℕ) (t : Bool) (et : t ≡ inWork w p
     pub put-file : t ≡ false → (u : List ℕ) → u ≡ sets w to (take (s + skip + m - (s + skip)) (drop (s + skip) f)) → u ≡ sets w to (take m (drop skip (bytesAt f w p j)))
     put-file e u eu = let y : s + skip + m - (s + skip) ≡ m = omega arith in eu ∙ rw (y, part-of skip m (q .part), e, es)
 
-  module _ (l : Laid f w p) (o : j < p .n) (skip s n : ℕ) (es : s ≡ startAt w p j) (en : n ≡ lenAt w p j) (g : skip ≤ lenAt w p j) where
-    rest-of : take (s + n - (s + skip)) (drop (s + skip) (cond t w f)) ≡ drop skip (bytesAt f w p j)
-    rest-of =
-        let y : s + n - (s + skip) ≡ n - skip = omega arith in
-        rw (y, es) (sym (part-of skip (n - skip) (omega arith)) ∙ take-all (n - skip) (drop skip (bytesAt f w p j)) (omega (arith, length-drop skip (bytesAt f w p j), length-bytes f w p l j o)))
+-- a part of it, to a place in the output
+module _ (f w : List ℕ) (p : Plan) (j skip m : ℕ) (out : List ℕ) (to : ℕ) (q : OutPre f w p j skip m out to) (x : List ℕ) (ex : x ≡ bytesAt f w p j) where
+  pub out-part : skip + m ≤ length x
+  out-part = omega (arith, q .part, ap length ex, length-bytes f w p (q .laid) j (q .row))
 
-    pub rest-work : t ≡ true → take (s + n - (s + skip)) (drop (s + skip) w) ≡ drop skip (bytesAt f w p j)
-    rest-work e = rw e at rest-of
+  module _ (y : List ℕ) (ey : y ≡ take m (drop skip x)) where
+    pub out-fits : to + length y ≤ length out
+    out-fits = omega (arith, q .fits, ap length ey, length-take-le m (drop skip x) (omega (arith, length-drop skip x, out-part)))
 
-    pub rest-file : t ≡ false → take (s + n - (s + skip)) (drop (s + skip) f) ≡ drop skip (bytesAt f w p j)
-    rest-file e = rw e at rest-of
-
-    pub rest-long : length (drop skip (bytesAt f w p j)) ≡ lenAt w p j - skip
-    rest-long = length-drop skip (bytesAt f w p j) ∙ rw (length-bytes f w p l j o)
-
-  module _ (skip m to : ℕ) (out : List ℕ) (q : OutPre f w p j skip m out to) (s : ℕ) (es : s ≡ startAt w p j) where
-    pub out-work : t ≡ true → (u : List ℕ) → u ≡ sets out to (take (s + skip + m - (s + skip)) (drop (s + skip) w)) → u ≡ sets out to (take m (drop skip (bytesAt f w p j)))
-    out-work e u eu = let y : s + skip + m - (s + skip) ≡ m = omega arith in eu ∙ rw (y, part-of skip m (q .part), e, es)
-
-    pub out-file : t ≡ false → (u : List ℕ) → u ≡ sets out to (take (s + skip + m - (s + skip)) (drop (s + skip) f)) → u ≡ sets out to (take m (drop skip (bytesAt f w p j)))
-    out-file e u eu = let y : s + skip + m - (s + skip) ≡ m = omega arith in eu ∙ rw (y, part-of skip m (q .part), e, es)
+    pub out-put : (r : ℕ) (u : List ℕ) → Writes out to y r u → u ≡ sets out to (take m (drop skip (bytesAt f w p j)))
+    out-put r u k = k .writes ∙ rw (ey, ex)
 
 -- ---- the walk back: what is left of a key's bytes before piece j, and the piece before it
 

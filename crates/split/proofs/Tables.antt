@@ -21,7 +21,7 @@ use Rattle.split.specs.Fronts.{key-front, newest-front}
 use Rattle.split.specs.declared.Plan.{Plan}
 
 pub laid-row : (f w : List ℕ) (p : Plan) (i : ℕ) → Laid f w p → i < p .n → Row w p i
-laid-row f w p i l h = record { rows = l .rows; words = omega (arith, l .area, l .room); row = h }
+laid-row f w p i l h = record { rows = l .rows; ends = l .ends; words = omega (arith, l .area, l .room); row = h }
 
 pub laid-chain : (f w : List ℕ) (p : Plan) (i : ℕ) → Laid f w p → i < p .n → Chain w p i
 laid-chain f w p i l h = record { row = laid-row f w p i l h; chain = l .chain; linked = l .linked }
@@ -129,7 +129,7 @@ infos-mono w b i (suc n) h = split≡ i (suc n) (λ e. rw e (omega arith)) (λ e
 
 module _ (f w : List ℕ) (p : Plan) (l : Laid f w p) where
   part-long : (t : Bool) (a n : ℕ) → a + n ≤ cond t (4 * p .held) (length f) → length (take n (drop a (cond t w f))) ≡ n
-  part-long true a n h = length-take-le n (drop a w) (simp length-drop (omega (arith, l .area, l .room)))
+  part-long true a n h = length-take-le n (drop a w) (simp length-drop (omega (arith, l .ends, l .area, l .room)))
   part-long false a n h = length-take-le n (drop a f) (simp length-drop (omega arith))
 
   pub length-bytes : (i : ℕ) → i < p .n → length (bytesAt f w p i) ≡ lenAt w p i

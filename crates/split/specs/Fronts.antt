@@ -73,6 +73,7 @@ module _ (f u w : List ℕ) (p : Plan) (l : Laid f w p) (s : Front (4 * p .held)
         rows = l .rows;
         chain = l .chain;
         linked = linked-front;
+        ends = l .ends;
         area = l .area;
         many = l .many;
         sum = rw z (l .sum);
