@@ -4,10 +4,10 @@ use mathlib.Core.Path.{_≡_, refl, sym, ap, _∙_}
 use mathlib.Core.Bool.{Bool, true, false, cond}
 use mathlib.Core.List.{List, [], _∷_, _++_, append-assoc, append-nil, map}
 use native.Mathlib.Omega.{arith}
-use lib.ListN.{length, take, drop}
+use lib.ListN.{length, getD, take, drop}
 use lib.Dec.{eqb, ltb, leb}
 use borrow.Author.Tests.{eq-eqb, ne-eqb, lt-ltb, le-ltb}
-use Rattle.laws.specs.Choice.{splitB, split≡, split≤}
+use Rattle.laws.specs.Choice.{splitB, split≡, split≤, no-way}
 use Rattle.laws.specs.Keys.{Key, splitK, eq-eqK, ne-eqK}
 use Rattle.laws.specs.Keyed.{Machine, step, run, after}
 use Rattle.laws.specs.Count.{count, nub}
@@ -167,6 +167,19 @@ no-end (a ∷ b) x h q e = (out-is (a ∷ b) x q ∙ inside a b x .0 ∙ rw e, n
 pub closes : (b x : List ℕ) → 0 < length b → Quiet b → ended x ≡ true → (spansOf (b ++ x) ≡ (b ++ take (end x) x) ∷ spansOf (drop (end x) x)) × (restOf (b ++ x) ≡ restOf (drop (end x) x))
 closes [] x h q e = absurd (omega arith)
 closes (a ∷ b) x h q e = (out-is (a ∷ b) x q ∙ inside a b x .0 ∙ rw (e, spans-is (drop (end x) x)), next-is (a ∷ b) x q ∙ inside a b x .1 ∙ rw (e, rest-is (drop (end x) x)))
+
+-- nothing held, and no 3C: nothing comes out, and all from the first 3E on is held
+pub no-start : (x : List ℕ) → ended (begun x) ≡ false → (spansOf x ≡ []) × (restOf x ≡ begun x)
+no-start x e = (spans-is x ∙ outside x .0 ∙ once (begun x) (begun-starts x) .0 ∙ rw e, rest-is x ∙ outside x .1 ∙ once (begun x) (begun-starts x) .1 ∙ rw e)
+
+-- the same of a 3C behind what is held, or behind a 3E at the start
+pub closes-first : (b x : List ℕ) → Quiet b → ended x ≡ true → (length b ≡ 0 → getD x 0 0 ≡ 0x3E) → (spansOf (b ++ x) ≡ (b ++ take (end x) x) ∷ spansOf (drop (end x) x)) × (restOf (b ++ x) ≡ restOf (drop (end x) x))
+unfolding seek
+closes-first (a ∷ b) x q e s = closes (a ∷ b) x (omega arith) q e
+closes-first [] [] q e s = no-way e refl
+closes-first [] (y ∷ x) q e s =
+    let z : Starts (y ∷ x) = (let k : y ≡ 0x3E = s refl in rw k (starts x)) in
+    (spans-is (y ∷ x) ∙ once (y ∷ x) z .0 ∙ rw (e, spans-is (drop (end (y ∷ x)) (y ∷ x))), rest-is (y ∷ x) ∙ once (y ∷ x) z .1 ∙ rw (e, rest-is (drop (end (y ∷ x)) (y ∷ x))))
 
 -- ---- the two machines
 

@@ -3,3 +3,4 @@ pub mod Scanning
 pub mod Parts
 pub mod Spans
 pub mod Bytewise
+pub mod Scans

@@ -1,10 +1,11 @@
 // Spans in one buffer: the next one, how many there are and what their list takes, the list itself, and what is left.
 ghost use mathlib.Core.Path.{_≡_};
 ghost use Prim.Native.Nat.{_+_, _*_, _≤_, _<_};
-ghost use lib.ListN.{length};
+ghost use lib.ListN.{length, drop};
 ghost use Rattle.items.specs.Items.{rxOf};
 ghost use Rattle.search.specs.Seek.{seek};
 ghost use Rattle.spans.specs.Parts.{NextIs, Room, tallyOne, CountedIs, WritePre, WroteIs};
+ghost use Rattle.spans.specs.Scans.{Begins, ScanPre, AddedIs, FirstPre, FirstIs, FromPre, OpenPre, OpenIs, ScannedIs};
 use items::Direction;
 use items::put_span;
 use mdr::unpacks;
@@ -95,6 +96,113 @@ pub fn count_part(buffer: &[u8], t: Tally) -> Counted
         }
     }
 }
+
+// ---- a part behind what is held
+
+// What a scan of a part finds: the spans counted, the place of its first 3C or its length, and how long the rest is.
+pub struct Scanned {
+    pub tally: Tally,
+    pub end: usize,
+    pub rest: usize,
+}
+
+// The spans counted when the first is, and how many bytes are passed by then.
+struct First {
+    tally: Tally,
+    skip: usize,
+}
+
+// Whether a part with a 3C begins a span or goes on with one: behind h bytes held it goes on.
+pub fn begins(part: &[u8], h: usize) -> bool
+    requires { ⌜ 0 < length (now part) ⌝ }
+    ensures { λ r. ⌜ Begins (now (part .entry)) h r ⌝ }
+{
+    if 0 < h {
+        return true;
+    }
+    part[0] == 0x3E
+}
+
+// One span more, of h bytes held and a part behind them.
+fn add_behind(t: Tally, h: usize, part: &[u8]) -> Tally
+    requires { ⌜ ScanPre (now part) h t ⌝ }
+    ensures { λ r. ⌜ AddedIs (now (part .entry)) h t r ⌝ }
+{
+    if t.frame {
+        return Tally {
+            count: t.count + 1,
+            bytes: t.bytes + 14 + h + part.len(),
+            frame: true,
+        };
+    }
+    add_span(t, part)
+}
+
+// Counts the span that the first 3C closes, at e.
+fn count_first(part: &[u8], h: usize, t: Tally, e: usize) -> First
+    requires { ⌜ FirstPre (now part) h t e ⌝ }
+    ensures { λ r. ⌜ FirstIs (now (part .entry)) h t r ⌝ }
+{
+    if begins(part, h) {
+        let k = e + 1;
+        let sum = add_behind(t, h, &part[0..k]);
+        return First {
+            tally: sum,
+            skip: k,
+        };
+    }
+    First { tally: t, skip: 0 }
+}
+
+// Counts the spans of a part from a place on.
+fn count_from(part: &[u8], skip: usize, t: Tally) -> Counted
+    requires { ⌜ FromPre (now part) skip t ⌝ }
+    ensures { λ r. ⌜ CountedIs (drop skip (now (part .entry))) t r ⌝ }
+{
+    if skip == part.len() {
+        return Counted { tally: t, rest: 0 };
+    }
+    count_part(&part[skip..], t)
+}
+
+// How long the rest is of h bytes held and a part with no 3C.
+fn open_rest(part: &[u8], h: usize) -> usize
+    requires { ⌜ OpenPre (now part) h ⌝ }
+    ensures { λ r. ⌜ OpenIs (now (part .entry)) h r ⌝ }
+{
+    let n = part.len();
+    if 0 < h {
+        return h + n;
+    }
+    n - find_soon(part, 0, 0x3E)
+}
+
+// Counts the spans of h bytes held and a part behind them. If something is held, a span has unpacked before, so that
+// lengths are enough.
+pub fn scan(part: &[u8], h: usize, t: Tally) -> Scanned
+    requires { ⌜ ScanPre (now part) h t ⌝ }
+    ensures { λ r. ⌜ ScannedIs (now (part .entry)) h t r ⌝ }
+{
+    let e = first_end(part);
+    if e == part.len() {
+        return Scanned {
+            tally: t,
+            end: e,
+            rest: open_rest(part, h),
+        };
+    }
+    let f = count_first(part, h, t, e);
+    let sum = f.tally;
+    let c = count_from(part, f.skip, sum);
+    let all = c.tally;
+    Scanned {
+        tally: all,
+        end: e,
+        rest: c.rest,
+    }
+}
+
+// ---- writing
 
 // Where the list goes on, and how long the rest of the buffer is.
 pub struct Wrote {

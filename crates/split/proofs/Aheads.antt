@@ -19,7 +19,6 @@ use Rattle.spans.specs.Spans.{scanner, emptied, onDlci}
 use Rattle.spans.specs.Parts.{tagged}
 use Rattle.split.specs.Last.{lastn}
 use Rattle.split.specs.Rows.{piece, dlciAt, tailAt, keyAt, heldIn, streamOf, opened, Fits, joined, ahead, keysTo, liveTo, Laid}
-use Rattle.split.specs.Walks.{Moved}
 use Rattle.split.specs.Fronts.{table-front}
 use Rattle.split.specs.declared.Plan.{Plan}
 use Rattle.split.proofs.Lasts.{lastn-zero}
@@ -49,16 +48,16 @@ module _ (f w : List ℕ) (p : Plan) (i : ℕ) (h : i < p .n) (d : dlciAt w p i 
   unfolding run
   first-run = rw (ahead-own, own-joined)
 
-  module _ (u : List ℕ) (l : Laid f w p) (m : Moved f w p i u) where
+  module _ (u : List ℕ) (l : Laid f w p) (s : Front (4 * p .held) u w) (m : opened f u p (i + 1) ≡ step scanner (opened f w p i) (piece f w p i)) where
     next-ahead : ahead f u p (i + 1) ≡ ahead f w p (i + 1)
-    next-ahead = rw (table-front f u w p l (m .front) (i + 1) (p .n - (i + 1)) (omega arith))
+    next-ahead = rw (table-front f u w p l s (i + 1) (p .n - (i + 1)) (omega arith))
 
     pub next-run : run scanner (opened f w p i) (ahead f w p i) ≡ tagged (piece f w p i .rx) (piece f w p i .time) (spansOf (joined f w p i)) ++ run scanner (opened f u p (i + 1)) (ahead f u p (i + 1))
-    next-run = rw (next-ahead, m .opens) first-run
+    next-run = rw (next-ahead, m) first-run
 
     pub next-after : after scanner (opened f w p i) (ahead f w p i) ≡ after scanner (opened f u p (i + 1)) (ahead f u p (i + 1))
     unfolding after
-    next-after = rw (ahead-own, next-ahead, m .opens)
+    next-after = rw (ahead-own, next-ahead, m)
 
     pub next-keys : map (λ x. x .key) (ahead f w p i) ≡ tailAt w p i ∷ map (λ x. x .key) (ahead f u p (i + 1))
     next-keys = rw (ahead-own, next-ahead, piece-key f w p i)

@@ -1,39 +1,43 @@
 -- The walk that counts.
 use Prim.Native.Nat.{ℕ, suc, _+_, _-_, _*_, _<_, _≤_}
-use mathlib.Core.Path.{_≡_, refl, sym, ap, subst, _∙_, fun-ext}
+use mathlib.Core.Path.{_≡_, refl, sym, ap, _∙_, fun-ext}
 use mathlib.Core.Bool.{Bool, true, false, cond, _||_}
 use mathlib.Core.List.{List, [], _∷_, _++_, append-nil, append-assoc, map}
 use native.Mathlib.Omega.{arith}
 use native.Mathlib.Numerals.{add-one}
-use lib.ListN.{length, take, drop, length-append, length-drop}
-use lib.Dec.{eqb, ltb}
+use lib.ListN.{length, take, drop, length-append}
+use lib.Dec.{ltb}
 use borrow.Author.Tests.{eq-eqb}
-use Rattle.laws.specs.Choice.{splitB}
+use Rattle.laws.specs.Choice.{splitB, split≡, no-way}
 use Rattle.laws.specs.Keys.{Key}
 use Rattle.laws.specs.Keyed.{step, run, after}
 use Rattle.laws.specs.Count.{count, nub}
-use Rattle.words.specs.Words.{word, putWord}
+use Rattle.words.specs.Words.{word}
 use Rattle.words.specs.Front.{Front, front-refl, front-then}
 use Rattle.items.specs.Items.{Span, spanItem, spanList}
 use Rattle.items.specs.Writing.{length-span, spans-none, spans-more}
 use Rattle.mdr.specs.Frame.{unpacksOf}
 use Rattle.channels.specs.Channels.{any}
 use Rattle.spans.specs.Scan.{spansOf, restOf}
+use Rattle.search.specs.Seek.{seek}
 use Rattle.spans.specs.Spans.{scanner, emptied, spans, unfinished}
 use Rattle.spans.specs.Parts.{tagged, tallyOne, tallyAll, Room, CountedIs}
 use Rattle.spans.specs.Bytewise.{AllQuiet, quiet-emptied}
+use Rattle.spans.specs.Scans.{ScanPre, ScannedIs}
+use Rattle.spans.proofs.Scans.{seek-le, silent, silent-rest}
 use Rattle.spans.specs.declared.Tally.{Tally}
 use Rattle.spans.specs.declared.Counted.{Counted}
+use Rattle.spans.specs.declared.Scanned.{Scanned}
 use Rattle.split.specs.Rows.{piece, dlciAt, tailAt, lenAt, bytesAt, heldIn, heldOf, streamOf, streamTo, opened, Fits, joined, cappedLength, ahead, all, keysTo, liveTo, sign, Laid}
-use Rattle.split.specs.Walks.{JoinPre, Joined, Silent, HoldPre, HeldMore, Moved, OpenPre, CountPre, CountHeld, CountAt, CountOn, Closes, CountClosed, Stepped, CountIs}
-use Rattle.split.specs.Fronts.{dlci-front, tail-front, keys-front, laid-front}
+use Rattle.split.specs.Walks.{Row, JoinPre, Joined, Kept, Noted, AllTold, Moved, OpenPre, CountPre, CountHeld, Known, Behind, Stepped, CountIs}
+use Rattle.split.specs.Fronts.{dlci-front, tail-front, keys-front, bytes-front, laid-front}
 use Rattle.split.specs.declared.Plan.{Plan}
 use Rattle.split.specs.declared.Sums.{Sums}
 use Rattle.split.specs.Last.{lastn}
 use Rattle.split.proofs.Lasts.{length-lastn}
 use Rattle.split.proofs.Counts.{sign-le}
 use Rattle.split.proofs.Tables.{laid-row, length-bytes}
-use Rattle.split.proofs.Steps.{own-fits, length-joined, joined-small, moved, step-live, quiet-moved, joined-long, joined-front, in-area, silent-spans, silent-moved, silent-live, closed-spans, closed-rest, closed-long, closed-small, bare-joined}
+use Rattle.split.proofs.Steps.{own-key, own-fits, length-joined, joined-small, kept-over, joined-kept, all-told, moved-opens, moved-quiet, moved-fits, moved-live, joined-front, in-area}
 use Rattle.split.proofs.Aheads.{opened-none, ahead-none, next-run, next-after, next-keys, ahead-skip, opened-skip, fits-skip, keys-skip, live-skip}
 
 -- ---- what is counted of a list of spans
@@ -67,126 +71,131 @@ tally-frame t (s ∷ ss) = tally-frame (tallyOne t (s .wire)) ss ∙ splitB (t .
 
 -- ---- a piece
 
-pub counted-part : (a b : List ℕ) (t : Tally) (c : Counted) → a ≡ b → CountedIs a t c → CountedIs b t c
-counted-part a b t c e k = subst (λ (l : List ℕ). CountedIs l t c) e k
+pub known-none : (h : ℕ) (t : Tally) → h ≡ 0 → Known h t true
+known-none h t e = record { yes = λ z g. absurd (omega arith); no = λ z. no-way refl z }
+
+pub known-frame : (h : ℕ) (t : Tally) → (h ≡ 0 → ⊥) → Known h t (t .frame)
+known-frame h t n = record { yes = λ z g. z; no = λ z. omega arith }
+
+module _ (f w : List ℕ) (p : Plan) (i h : ℕ) (t : Tally) (q : CountHeld f w p i h t) where
+  -- what is held
+  abbrev held : List ℕ
+  held = lastn h (streamTo f w p i)
+
+  held-long : length held ≡ h
+  held-long = length-lastn h (streamTo f w p i) (q .come)
+
+  own-long : length (bytesAt f w p i) ≡ lenAt w p i
+  own-long = length-bytes f w p (q .laid) i (q .row)
+
+  behind : joined f w p i ≡ held ++ bytesAt f w p i
+  unfolding joined
+  behind = rw (q .holds)
+
+  module _ (x : List ℕ) (ex : x ≡ bytesAt f w p i) where
+    pub behind-scan : (g : Bool) → Known h t g → g ≡ true → ScanPre x h t
+    behind-scan g k z = record { room = rw (ex, own-long) (q .room); known = k .yes z }
+
+    pub behind-scanned : (c : Scanned) → ScannedIs x h t c → Behind f w p i h t w c
+    behind-scanned c s = record {
+      front = front-refl (p .area) w;
+      end = s .end ∙ rw ex;
+      low = omega (arith, s .end, seek-le 0x3C x, ap length ex, own-long);
+      all = rw behind (rw ex at (s .all held (q .quiet) held-long));
+      left = rw behind (rw ex at (s .left held (q .quiet) held-long));
+      fewer = s .fewer;
+      bytes = omega (arith, s .bytes, ap length ex, own-long);
+    }
+
+    module _ (e : ℕ) (ee : e ≡ seek 0x3C x) where
+      low : e ≤ lenAt w p i
+      low = omega (arith, ee, seek-le 0x3C x, ap length ex, own-long)
+
+      -- no 3C
+      pub behind-none : 0 < h → (m : ℕ) → m ≡ lenAt w p i → e ≡ m → Behind f w p i h t w (record { tally = t; end = e; rest = h + m })
+      unfolding tallyAll
+      behind-none o m em z =
+          let y : seek 0x3C (bytesAt f w p i) ≡ length (bytesAt f w p i) = rw ex at (sym ee ∙ z ∙ em ∙ sym own-long) in
+          record {
+            front = front-refl (p .area) w;
+            end = ee ∙ rw ex;
+            low = low;
+            all = rw (behind, silent (bytesAt f w p i) y held (q .quiet));
+            left = rw (behind, silent-rest (bytesAt f w p i) y held (q .quiet) (omega (arith, held-long))) (omega (arith, length-append held (bytesAt f w p i), held-long, own-long));
+            fewer = q .room .fewer;
+            bytes = omega arith;
+          }
+
+      module _ (v : List ℕ) (n : ℕ) (j : Joined f w p i v n) where
+        pub behind-room : Room t (length (take (p .area + n - p .area) (drop (p .area) v)))
+        behind-room = rw (in-area f w p i v n j (p .area + n) refl, behind, length-append, held-long, own-long) (q .room)
+
+        pub behind-counted : (c : Counted) → CountedIs (take (p .area + n - p .area) (drop (p .area) v)) t c → Behind f w p i h t v (record { tally = c .tally; end = e; rest = c .rest })
+        behind-counted c k =
+            let y : CountedIs (joined f w p i) t c = rw (in-area f w p i v n j (p .area + n) refl) at k in
+            record {
+              front = joined-front f w p i v n j;
+              end = ee ∙ rw ex;
+              low = low;
+              all = y .all;
+              left = y .left;
+              fewer = y .fewer;
+              bytes = omega (arith, y .bytes, ap length behind, length-append held (bytesAt f w p i), held-long, own-long);
+            }
+
+  pub behind-join : JoinPre f w p i h
+  behind-join = record { laid = q .laid; row = q .row; held = q .holds; fits = q .come }
 
 module _ (f w : List ℕ) (p : Plan) (i : ℕ) (s : Sums) (q : CountPre f w p i s) (h : ℕ) (eh : h ≡ heldOf w p i) where
   fits : heldOf w p i ≤ length (streamTo f w p i)
   fits = own-fits f w p i (q .own) (q .fits)
 
-  pub count-join : JoinPre f w p i h
-  count-join = record { laid = q .laid; row = q .row; held = eh; fits = rw eh fits }
+  small : h + lenAt w p i ≤ 1048576
+  small = omega (arith, length-joined f w p i (q .laid) (q .row) fits, joined-small f w p i (q .laid) (q .row) fits .0)
 
-  pub count-hold : HoldPre w p i h
-  count-hold = record {
-    row = laid-row f w p i (q .laid) (q .row);
-    small = omega (arith, length-joined f w p i (q .laid) (q .row) fits, joined-small f w p i (q .laid) (q .row) fits .0);
+  pub count-held : CountHeld f w p i h (s .tally)
+  unfolding opened
+  count-held = record {
+    laid = q .laid;
+    row = q .row;
+    holds = eh;
+    come = rw eh fits;
+    quiet = rw eh (rw (← own-key w p i (q .own)) at (q .quiet .at (tailAt w p i)));
+    room = record { fewer = q .fewer; bytes = omega (arith, q .bytes, q .row, q .laid .many, small) };
   }
 
-  module _ (v : List ℕ) (n : ℕ) (j : Joined f w p i v n) (e : ℕ) (ee : e ≡ p .area + n) where
-    pub count-room : Room (s .tally) (length (take (e - p .area) (drop (p .area) v)))
-    count-room = rw (in-area f w p i v n j e ee) (record {
-      fewer = q .fewer;
-      bytes = omega (arith, q .bytes, q .row, q .laid .many, joined-small f w p i (q .laid) (q .row) fits .0);
-    })
+  module _ (v : List ℕ) (c : Scanned) (b : Behind f w p i h (s .tally) v c) (lv : length v ≡ length w) where
+    pub count-row : Row v p i
+    count-row = (let g = laid-row f w p i (q .laid) (q .row) in record { rows = g .rows; ends = g .ends; words = rw lv (g .words); row = g .row })
 
-    module _ (c : Counted) (k : CountedIs (take (e - p .area) (drop (p .area) v)) (s .tally) c) (r : ℕ) (ec : r ≡ cappedLength (c .rest)) (u : List ℕ) (eu : u ≡ putWord v (p .held + i) r) where
-      counted : CountedIs (joined f w p i) (s .tally) c
-      counted = rw (in-area f w p i v n j e ee) at k
+    module _ (r : ℕ) (er : r ≡ cappedLength (c .rest)) (u : List ℕ) (n : Noted v p i r (c .end) u) where
+      kept : Kept w p i u
+      kept = kept-over f w p i (q .laid) (q .row) v u lv (b .front) (n .kept)
+
+      moves : Moved f w p i u
+      moves = record {
+        kept = kept;
+        told = record {
+          holds = n .holds ∙ er ∙ ap cappedLength (b .left) ∙ rw (joined-kept f u w p (q .laid) i (q .row) kept i (omega arith));
+          end = n .end ∙ b .end ∙ rw (bytes-front f u w p (q .laid) (kept .front) i (q .row));
+        };
+      }
 
       lives : liveTo u p (i + 1) + sign h ≡ s .unfinished + sign r
-      lives = rw (eh, q .live) (step-live f w p i (q .laid) (q .row) fits v u r (c .rest) (joined-long f w p i v n j) (joined-front f w p i v n j) (counted .left) ec eu (q .own))
+      lives = rw (eh, q .live, ← n .holds) (moved-live f w p i (q .laid) (q .row) fits u moves (q .own))
 
       pub count-less : OpenPre (s .unfinished) r h
       count-less = record { few = omega (arith, q .few, q .row, q .laid .many); less = omega (arith, lives) }
 
       pub count-stepped : (o : ℕ) → o ≡ s .unfinished + sign r - sign h → Stepped f w p i s u (record { tally = c .tally; unfinished = o })
       count-stepped o eo = record {
-        moves = moved f w p i (q .laid) (q .row) fits v u r (c .rest) (joined-long f w p i v n j) (joined-front f w p i v n j) (counted .left) ec eu (q .own) (q .fits);
-        all = counted .all;
-        fewer = counted .fewer;
-        bytes = omega (arith, counted .bytes, q .bytes, joined-small f w p i (q .laid) (q .row) fits .0);
+        moves = moves;
+        all = b .all;
+        fewer = b .fewer;
+        bytes = omega (arith, b .bytes, q .bytes, small);
         few = omega (arith, q .few, sign-le r);
         live = omega (arith, lives);
       }
-
-  pub count-bare : h ≡ 0 → CountOn f w p i s h (s .tally) 0
-  count-bare e =
-      let z : joined f w p i ≡ bytesAt f w p i = bare-joined f w p i h eh e in
-      record { pre = q; holds = eh; within = omega arith; all = rw z; rest = rw z; fewer = q .fewer; bytes = omega (arith, ap length z, length-bytes f w p (q .laid) i (q .row)) }
-
-  module _ (t : Tally) (skip : ℕ) (g : CountOn f w p i s h t skip) where
-    pub on-at : CountAt f w p i skip t
-    on-at = record {
-      laid = q .laid;
-      row = q .row;
-      within = g .within;
-      room = record { fewer = g .fewer; bytes = omega (arith, g .bytes, q .bytes, q .row, q .laid .many, joined-small f w p i (q .laid) (q .row) fits .0) };
-    }
-
-    module _ (c : Counted) (k : CountedIs (drop skip (bytesAt f w p i)) t c) (r : ℕ) (ec : r ≡ cappedLength (c .rest)) (u : List ℕ) (eu : u ≡ putWord w (p .held + i) r) where
-      on-left : c .rest ≡ length (restOf (joined f w p i))
-      on-left = k .left ∙ ap length (sym (g .rest))
-
-      on-lives : liveTo u p (i + 1) + sign h ≡ s .unfinished + sign r
-      on-lives = rw (eh, q .live) (step-live f w p i (q .laid) (q .row) fits w u r (c .rest) refl (front-refl (p .area) w) on-left ec eu (q .own))
-
-      pub on-less : OpenPre (s .unfinished) r h
-      on-less = record { few = omega (arith, q .few, q .row, q .laid .many); less = omega (arith, on-lives) }
-
-      pub on-stepped : (o : ℕ) → o ≡ s .unfinished + sign r - sign h → Stepped f w p i s u (record { tally = c .tally; unfinished = o })
-      on-stepped o eo = record {
-        moves = moved f w p i (q .laid) (q .row) fits w u r (c .rest) refl (front-refl (p .area) w) on-left ec eu (q .own) (q .fits);
-        all = k .all ∙ sym (g .all);
-        fewer = k .fewer;
-        bytes = omega (arith, k .bytes, g .bytes, q .bytes, length-drop skip (bytesAt f w p i), length-bytes f w p (q .laid) i (q .row), joined-small f w p i (q .laid) (q .row) fits .0);
-        few = omega (arith, q .few, sign-le r);
-        live = omega (arith, on-lives);
-      }
-
-  module _ (y : Silent f w p i h) (u : List ℕ) (r : ℕ) (m : HeldMore w p i h u r) where
-    quiet-lives : liveTo u p (i + 1) + sign h ≡ s .unfinished + sign r
-    quiet-lives = rw (q .live) (silent-live f w p i (q .laid) (q .row) (q .own) (q .fits) (q .quiet) h eh y u r m)
-
-    pub silent-less : OpenPre (s .unfinished) r h
-    silent-less = record { few = omega (arith, q .few, q .row, q .laid .many); less = omega (arith, quiet-lives) }
-
-    pub silent-stepped : (o : ℕ) → o ≡ s .unfinished + sign r - sign h → Stepped f w p i s u (record { tally = s .tally; unfinished = o })
-    unfolding tallyAll
-    silent-stepped o eo = record {
-      moves = silent-moved f w p i (q .laid) (q .row) (q .own) (q .fits) (q .quiet) h eh y u r m;
-      all = rw (silent-spans f w p i (q .laid) (q .row) (q .own) (q .fits) (q .quiet) h eh y);
-      fewer = q .fewer;
-      bytes = omega (arith, q .bytes);
-      few = omega (arith, q .few, sign-le r);
-      live = omega (arith, quiet-lives);
-    }
-
--- a first 3C at e, behind what is held
-module _ (f w : List ℕ) (p : Plan) (i : ℕ) (s : Sums) (h e : ℕ) (g : CountClosed f w p i s h e) where
-  pub closed-room : s .tally .bytes + 15 + h + e < 4611686018427387904
-  closed-room = omega (arith, g .pre .bytes, g .pre .row, g .pre .laid .many, g .closes .high, closed-small f w p i (g .pre .laid) (g .pre .row) (g .pre .own) (g .pre .fits) (g .pre .quiet) h e (g .closes))
-
-  closed-tally : s .tally .frame ≡ true → tallyOne (s .tally) (lastn h (streamTo f w p i) ++ take (e + 1) (bytesAt f w p i)) ≡ record { count = s .tally .count + 1; bytes = s .tally .bytes + 15 + h + e; frame = true }
-  unfolding tallyOne
-  closed-tally z =
-      let k : s .tally .bytes + 14 + length (lastn h (streamTo f w p i) ++ take (e + 1) (bytesAt f w p i)) ≡ s .tally .bytes + 15 + h + e = omega (arith, closed-long f w p i (g .pre .laid) (g .pre .row) (g .pre .own) (g .pre .fits) (g .pre .quiet) h e (g .closes)) in
-      rw (k, z)
-
-  pub count-closed : s .tally .frame ≡ true → CountOn f w p i s h (record { count = s .tally .count + 1; bytes = s .tally .bytes + 15 + h + e; frame = true }) (e + 1)
-  unfolding tallyAll
-  count-closed z = record {
-    pre = g .pre;
-    holds = g .closes .holds;
-    within = omega (arith, g .closes .high);
-    all = ap (tallyAll (s .tally)) (closed-spans f w p i (g .pre .laid) (g .pre .row) (g .pre .own) (g .pre .fits) (g .pre .quiet) h e (g .closes)) ∙ ap (λ (t : Tally). tallyAll t (spansOf (drop (e + 1) (bytesAt f w p i)))) (closed-tally z);
-    rest = closed-rest f w p i (g .pre .laid) (g .pre .row) (g .pre .own) (g .pre .fits) (g .pre .quiet) h e (g .closes);
-    fewer = omega (arith, g .pre .fewer);
-    bytes = omega (arith, g .closes .high, g .closes .holds, length-joined f w p i (g .pre .laid) (g .pre .row) (own-fits f w p i (g .pre .own) (g .pre .fits)));
-  }
-
-  pub closed-held : CountHeld f w p i s h
-  closed-held = record { pre = g .pre; holds = g .closes .holds }
 
 -- ---- all pieces
 
@@ -204,6 +213,7 @@ pub record CountingTo (f w₀ : List ℕ) (p : Plan) (w : List ℕ) (i : ℕ) (s
   pub tallied : tallySpans (s .tally) (run scanner (opened f w p i) (ahead f w p i)) ≡ tallySpans nothing (spans (all f w₀ p))
   pub ends : after scanner (opened f w p i) (ahead f w p i) ≡ after scanner emptied (all f w₀ p)
   pub keys : keysTo w p i ++ map (λ x. x .key) (ahead f w p i) ≡ map (λ x. x .key) (all f w₀ p)
+  pub told : AllTold f w p i
 
 pub counting-start : (f w : List ℕ) (p : Plan) → Laid f w p → CountingTo f w p w 0 (record { tally = record { count = 0; bytes = 0; frame = false }; unfinished = 0 })
 unfolding nothing spans liveTo keysTo nub count heldIn
@@ -223,6 +233,7 @@ counting-start f w p l =
       tallied = rw (z, opened-none f w p);
       ends = rw (z, opened-none f w p);
       keys = rw z;
+      told = record { at = λ i h. absurd (omega arith) };
     }
 
 module _ (f w₀ : List ℕ) (p : Plan) (w : List ℕ) (i : ℕ) (s : Sums) (v : CountingTo f w₀ p w i s) where
@@ -235,30 +246,34 @@ module _ (f w₀ : List ℕ) (p : Plan) (w : List ℕ) (i : ℕ) (s : Sums) (v :
     counting-turn e u r t =
         let d : dlciAt w p i ≡ p .dlci = sym ex ∙ e in
         let m : Moved f w p i u = t .moves in
+        let F : Front (4 * p .held) u w = m .kept .front in
+        let x : heldOf w p i ≤ length (streamTo f w p i) = own-fits f w p i d (v .fits) in
+        let k : opened f u p (i + 1) ≡ step scanner (opened f w p i) (piece f w p i) = moved-opens f w p i (v .laid) h x u m d in
         let R : List Span = run scanner (opened f u p (i + 1)) (ahead f u p (i + 1)) in
         record {
           within = omega arith;
-          laid = laid-front f u w p (v .laid) (m .front) (m .long);
-          long = m .long ∙ v .long;
-          front = front-then (4 * p .held) u w w₀ (m .front) (v .front);
-          fits = m .fits;
-          quiet = quiet-moved f w p i u m (v .quiet);
+          laid = laid-front f u w p (v .laid) F (m .kept .long);
+          long = m .kept .long ∙ v .long;
+          front = front-then (4 * p .held) u w w₀ F (v .front);
+          fits = moved-fits f w p i (v .laid) h x u m d (v .fits);
+          quiet = moved-quiet f w p i (v .laid) h x u m d (v .quiet);
           fewer = t .fewer;
           bytes = t .bytes;
           few = t .few;
           live = t .live;
-          tallied = rw (t .all, ← tally-tagged (s .tally) (piece f w p i .rx) (piece f w p i .time) (spansOf (joined f w p i)) R, ← next-run f w p i h d u (v .laid) m) (v .tallied);
-          ends = sym (next-after f w p i h d u (v .laid) m) ∙ v .ends;
+          tallied = rw (t .all, ← tally-tagged (s .tally) (piece f w p i .rx) (piece f w p i .time) (spansOf (joined f w p i)) R, ← next-run f w p i h d u (v .laid) F k) (v .tallied);
+          ends = sym (next-after f w p i h d u (v .laid) F k) ∙ v .ends;
           keys = rw (
             add-one i,
-            dlci-front f u w p (v .laid) (m .front) i h,
+            dlci-front f u w p (v .laid) F i h,
             eq-eqb (dlciAt w p i) (p .dlci) d,
-            tail-front f u w p (v .laid) (m .front) i h,
-            keys-front f u w p (v .laid) (m .front) i (omega arith),
+            tail-front f u w p (v .laid) F i h,
+            keys-front f u w p (v .laid) F i (omega arith),
             append-assoc,
             ← add-one i,
-            ← next-keys f w p i h d u (v .laid) m,
+            ← next-keys f w p i h d u (v .laid) F k,
           ) (v .keys);
+          told = all-told f u w p (v .laid) i h (m .kept) (v .told) (m .told);
         }
 
     pub counting-skip : (x ≡ p .dlci → ⊥) → CountingTo f w₀ p w (i + 1) s
@@ -278,6 +293,7 @@ module _ (f w₀ : List ℕ) (p : Plan) (w : List ℕ) (i : ℕ) (s : Sums) (v :
           tallied = rw (ahead-skip f w p i h d, ← opened-skip f w p i h d) at (v .tallied);
           ends = rw (ahead-skip f w p i h d, ← opened-skip f w p i h d) at (v .ends);
           keys = rw (ahead-skip f w p i h d, ← keys-skip f w p i h d) at (v .keys);
+          told = record { at = λ j g z. split≡ j i (λ y. absurd (d (rw y at z))) (λ y. v .told .at j (omega arith) z) };
         }
 
   pub counting-end : p .n ≤ i → CountIs f w₀ p w s
@@ -291,4 +307,5 @@ module _ (f w₀ : List ℕ) (p : Plan) (w : List ℕ) (i : ℕ) (s : Sums) (v :
         frame = ap (λ (x : Tally). x .frame) t ∙ tally-frame nothing (spans (all f w₀ p));
         live = v .live ∙ rw (← (rw z at (v .ends)), ← (rw (z, append-nil) at (v .keys)), fun-ext (λ k. ap (λ (n : ℕ). ltb 0 n) (length-lastn (heldIn w p i (p .dlci ∷ k)) (streamOf f w p i (p .dlci ∷ k)) (v .fits .at k))));
         front = v .front;
+        told = (let y : i ≡ p .n = omega (arith, v .within) in rw y at (v .told));
       }

@@ -6,20 +6,20 @@ use mathlib.Core.List.{List, [], _∷_, _++_}
 use mathlib.Core.Logic.{_≢_}
 use native.Mathlib.Omega.{arith}
 use lib.ListN.{length, getD, set, take, drop, length-append, length-drop, length-set}
-use lib.Seq.{sets, length-sets, take-all, drop-drop, take-take, drop-cons, getD-set-other}
-use Rattle.laws.specs.Choice.{split≡, no-way}
-use Rattle.laws.specs.Keys.{Key, eqK, eq-eqK, eqK-true}
-use Rattle.words.specs.Words.{word}
-use Rattle.words.specs.Front.{Front, front-refl, front-then, front-sets, front-word, part-take}
+use lib.Seq.{sets, length-sets, length-take-le, take-all, drop-drop, drop-cons, getD-set-other}
+use Rattle.laws.specs.Choice.{split≡}
+use Rattle.laws.specs.Keys.{Key}
+use Rattle.laws.specs.Stores.{Writes}
+use Rattle.words.specs.Front.{Front, front-refl, front-then, front-sets, part-take}
 use Rattle.rfcomm.specs.PieceTable.{infosOf}
 use Rattle.split.specs.Last.{lastn}
-use Rattle.split.specs.Rows.{keyAt, lenAt, startAt, inWork, bytesAt, streamOf, streamTo, Linked, Laid}
-use Rattle.split.specs.Walks.{Row, Chain, Earlier, TwoRows, PutPre, GatherPre, OutPre, GatherOut}
-use Rattle.split.specs.Fronts.{key-front, bytes-front, laid-front}
+use Rattle.split.specs.Rows.{keyAt, lenAt, startAt, inWork, bytesAt, streamOf, streamTo, Laid}
+use Rattle.split.specs.Walks.{Row, Chain, Earlier, PutPre, GatherPre, OutPre, GatherOut}
+use Rattle.split.specs.Fronts.{len-front, bytes-front, laid-front}
 use Rattle.split.specs.declared.Plan.{Plan}
 use Rattle.split.proofs.Backs.{sets-back}
 use Rattle.split.proofs.Lasts.{length-lastn, lastn-zero, lastn-append}
-use Rattle.split.proofs.Tables.{laid-row, laid-chain, jump, jump-bucket, stream-mine, stream-other, length-bytes, stream-infos, infos-mono}
+use Rattle.split.proofs.Tables.{laid-row, laid-chain, earlier-front, stream-mine, stream-back, length-bytes, stream-infos, infos-mono}
 
 -- ---- a copy inside work, upwards
 
@@ -70,14 +70,14 @@ module _ (f w : List ℕ) (p : Plan) (j : ℕ) (t : Bool) (et : t ≡ inWork w p
     pub within-file : t ≡ false → startAt w p j + lenAt w p j ≤ length f
     within-file e = rw e at inside
 
-    module _ (s n : ℕ) (es : s ≡ startAt w p j) (en : n ≡ lenAt w p j) where
-      pub whole-work : t ≡ true → take (s + n - s) (drop s w) ≡ bytesAt f w p j
-      unfolding bytesAt
-      whole-work e = let y : s + n - s ≡ n = omega arith in rw (y, es, en, ← et, e)
+  module _ (x : List ℕ) (s n : ℕ) (es : s ≡ startAt w p j) (en : n ≡ lenAt w p j) where
+    pub whole-work : t ≡ true → x ≡ take n (drop s w) → x ≡ bytesAt f w p j
+    unfolding bytesAt
+    whole-work e ex = ex ∙ rw (es, en, ← et, e)
 
-      pub whole-file : t ≡ false → take (s + n - s) (drop s f) ≡ bytesAt f w p j
-      unfolding bytesAt
-      whole-file e = let y : s + n - s ≡ n = omega arith in rw (y, es, en, ← et, e)
+    pub whole-file : t ≡ false → x ≡ take n (drop s f) → x ≡ bytesAt f w p j
+    unfolding bytesAt
+    whole-file e ex = ex ∙ rw (es, en, ← et, e)
 
   module _ (skip m to : ℕ) (q : PutPre f w p j skip m to) (s : ℕ) (es : s ≡ startAt w p j) where
     pub put-work : t ≡ true → (u : List ℕ) → u ≡ sets w to (take m (drop (s + skip) w)) → u ≡ sets w to (take m (drop skip (bytesAt f w p j)))
@@ -86,250 +86,166 @@ module _ (f w : List ℕ) (p : Plan) (j : ℕ) (t : Bool) (et : t ≡ inWork w p
     pub put-file : t ≡ false → (u : List ℕ) → u ≡ sets w to (take (s + skip + m - (s + skip)) (drop (s + skip) f)) → u ≡ sets w to (take m (drop skip (bytesAt f w p j)))
     put-file e u eu = let y : s + skip + m - (s + skip) ≡ m = omega arith in eu ∙ rw (y, part-of skip m (q .part), e, es)
 
-  module _ (l : Laid f w p) (o : j < p .n) (skip s n : ℕ) (es : s ≡ startAt w p j) (en : n ≡ lenAt w p j) (g : skip ≤ lenAt w p j) where
-    rest-of : take (s + n - (s + skip)) (drop (s + skip) (cond t w f)) ≡ drop skip (bytesAt f w p j)
-    rest-of =
-        let y : s + n - (s + skip) ≡ n - skip = omega arith in
-        rw (y, es) (sym (part-of skip (n - skip) (omega arith)) ∙ take-all (n - skip) (drop skip (bytesAt f w p j)) (omega (arith, length-drop skip (bytesAt f w p j), length-bytes f w p l j o)))
+-- a part of it, to a place in the output
+module _ (f w : List ℕ) (p : Plan) (j skip m : ℕ) (out : List ℕ) (to : ℕ) (q : OutPre f w p j skip m out to) (x : List ℕ) (ex : x ≡ bytesAt f w p j) where
+  pub out-part : skip + m ≤ length x
+  out-part = omega (arith, q .part, ap length ex, length-bytes f w p (q .laid) j (q .row))
 
-    pub rest-work : t ≡ true → take (s + n - (s + skip)) (drop (s + skip) w) ≡ drop skip (bytesAt f w p j)
-    rest-work e = rw e at rest-of
+  module _ (y : List ℕ) (ey : y ≡ take m (drop skip x)) where
+    pub out-fits : to + length y ≤ length out
+    out-fits = omega (arith, q .fits, ap length ey, length-take-le m (drop skip x) (omega (arith, length-drop skip x, out-part)))
 
-    pub rest-file : t ≡ false → take (s + n - (s + skip)) (drop (s + skip) f) ≡ drop skip (bytesAt f w p j)
-    rest-file e = rw e at rest-of
+    pub out-put : (r : ℕ) (u : List ℕ) → Writes out to y r u → u ≡ sets out to (take m (drop skip (bytesAt f w p j)))
+    out-put r u k = k .writes ∙ rw (ey, ex)
 
-    pub rest-long : length (drop skip (bytesAt f w p j)) ≡ lenAt w p j - skip
-    rest-long = length-drop skip (bytesAt f w p j) ∙ rw (length-bytes f w p l j o)
+-- ---- the walk back: what is left of a key's bytes before piece j, and the piece before it
 
-  module _ (skip m to : ℕ) (out : List ℕ) (q : OutPre f w p j skip m out to) (s : ℕ) (es : s ≡ startAt w p j) where
-    pub out-work : t ≡ true → (u : List ℕ) → u ≡ sets out to (take (s + skip + m - (s + skip)) (drop (s + skip) w)) → u ≡ sets out to (take m (drop skip (bytesAt f w p j)))
-    out-work e u eu = let y : s + skip + m - (s + skip) ≡ m = omega arith in eu ∙ rw (y, part-of skip m (q .part), e, es)
+module _ (f w : List ℕ) (p : Plan) (l : Laid f w p) (k : Key) (j left : ℕ) (o : j ≤ p .n) (mine : 0 < j → keyAt w p (j - 1) ≡ k) (come : left ≤ length (streamOf f w p j k)) (z : 0 < left) where
+  pub back-more : 0 < j
+  unfolding streamOf
+  back-more = split≡ j 0 (λ e. let y = rw e at come in absurd (omega (arith, y))) (λ e. omega arith)
 
-    pub out-file : t ≡ false → (u : List ℕ) → u ≡ sets out to (take (s + skip + m - (s + skip)) (drop (s + skip) f)) → u ≡ sets out to (take m (drop skip (bytesAt f w p j)))
-    out-file e u eu = let y : s + skip + m - (s + skip) ≡ m = omega arith in eu ∙ rw (y, part-of skip m (q .part), e, es)
+  module _ (r : ℕ) (b : Earlier w p (j - 1) r) where
+    back-stream : streamOf f w p j k ≡ streamOf f w p r k ++ bytesAt f w p (j - 1)
+    back-stream =
+        let y : suc (j - 1) ≡ j = omega (arith, back-more) in
+        let a : streamOf f w p (j - 1) k ≡ streamOf f w p r k = rw (mine back-more) at (stream-back f w p (j - 1) r b) in
+        rw (y, a) at (stream-mine f w p (j - 1) k (mine back-more))
 
--- ---- the walk back
+    pub back-mine : 0 < r → keyAt w p (r - 1) ≡ k
+    back-mine h = b .mine h ∙ mine back-more
 
+    module _ (n m : ℕ) (en : n ≡ lenAt w p (j - 1)) (em : m ≡ min left n) where
+      back-long : length (bytesAt f w p (j - 1)) ≡ n
+      back-long = length-bytes f w p l (j - 1) (omega (arith, back-more)) ∙ sym en
+
+      back-sum : left ≤ length (streamOf f w p r k) + length (bytesAt f w p (j - 1))
+      back-sum = rw (back-stream, length-append) at come
+
+      pub back-come : left - m ≤ length (streamOf f w p r k)
+      back-come = omega (arith, back-sum, back-long)
+
+      pub back-last : lastn left (streamOf f w p j k) ≡ lastn (left - m) (streamOf f w p r k) ++ drop (n - m) (bytesAt f w p (j - 1))
+      back-last = rw (back-stream, ← back-long) (lastn-append left m (streamOf f w p r k) (bytesAt f w p (j - 1)) back-sum (omega (arith, back-long)))
+
+      -- a copy of the end of the piece, and what is left before it
+      pub back-sets : (d : List ℕ) (at : ℕ) (e : List ℕ) → e ≡ sets d (at + left - m) (take m (drop (n - m) (bytesAt f w p (j - 1)))) → sets e at (lastn (left - m) (streamOf f w p r k)) ≡ sets d at (lastn left (streamOf f w p j k))
+      back-sets d at e ee =
+          let S : List ℕ = lastn (left - m) (streamOf f w p r k) in
+          let B : List ℕ = drop (n - m) (bytesAt f w p (j - 1)) in
+          let x : take m B ≡ B = take-all m B (simp length-drop (omega (arith, back-long))) in
+          let y : at + left - m ≡ at + length S = omega (arith, length-lastn (left - m) (streamOf f w p r k) back-come) in
+          rw (ee, x, y, back-last) (sym (sets-back d at S B))
+
+-- in work, to the area
 pub record Gathering (f w₀ : List ℕ) (p : Plan) (i h : ℕ) (w : List ℕ) (j left : ℕ) : Type 0 where
   pub low : j ≤ i
   pub most : left ≤ h
   pub come : left ≤ length (streamOf f w₀ p j (keyAt w₀ p i))
+  pub mine : 0 < j → keyAt w₀ p (j - 1) ≡ keyAt w₀ p i
   pub long : length w ≡ length w₀
   pub front : Front (4 * p .held) w w₀
   pub done : sets w (p .area) (lastn left (streamOf f w₀ p j (keyAt w₀ p i))) ≡ sets w₀ (p .area) (lastn h (streamTo f w₀ p i))
 
-gathering-start : (f w : List ℕ) (p : Plan) (i h : ℕ) → GatherPre f w p i h → Gathering f w p i h w i h
-gathering-start f w p i h q = record { low = omega arith; most = omega arith; come = q .fits; long = refl; front = front-refl (4 * p .held) w; done = refl }
+module _ (f w₀ : List ℕ) (p : Plan) (i h : ℕ) (q : GatherPre f w₀ p i h) where
+  pub gathering-start : (r : ℕ) → Earlier w₀ p i r → Gathering f w₀ p i h w₀ r h
+  gathering-start r b =
+      let s = stream-back f w₀ p i r b in
+      record { low = b .less; most = omega arith; come = rw s at (q .fits); mine = b .mine; long = refl; front = front-refl (4 * p .held) w₀; done = rw s }
 
-module _ (f w₀ : List ℕ) (p : Plan) (i h : ℕ) (w : List ℕ) (j left : ℕ) (g : Gathering f w₀ p i h w j left) where
-  gathering-end : left ≤ 0 → w ≡ sets w₀ (p .area) (lastn h (streamTo f w₀ p i))
-  gathering-end l = rw (lastn-zero left (streamOf f w₀ p j (keyAt w₀ p i)) (omega arith)) at (g .done)
+  module _ (w : List ℕ) (j left : ℕ) (g : Gathering f w₀ p i h w j left) where
+    pub gathering-end : left ≤ 0 → w ≡ sets w₀ (p .area) (lastn h (streamTo f w₀ p i))
+    gathering-end l = rw (lastn-zero left (streamOf f w₀ p j (keyAt w₀ p i)) (omega arith)) at (g .done)
 
-  -- something is left only if there are pieces
-  gathering-more : 0 < left → 0 < j
-  unfolding streamOf
-  gathering-more l = split≡ j 0 (λ e. let z = rw e at (g .come) in absurd (omega (arith, z))) (λ e. omega arith)
+    below : j ≤ p .n
+    below = omega (arith, g .low, q .row)
 
-  module _ (q : GatherPre f w₀ p i h) where
-    gathering-laid : Laid f w p
-    gathering-laid = laid-front f w w₀ p (q .laid) (g .front) (g .long)
+    laid : Laid f w p
+    laid = laid-front f w w₀ p (q .laid) (g .front) (g .long)
 
-    gathering-room : p .area + left ≤ length w
+    pub gathering-room : p .area + left ≤ length w
     gathering-room =
-        let a = stream-infos f w₀ p (q .laid) j (keyAt w₀ p i) (omega (arith, g .low, q .row)) in
-        let b = infos-mono w₀ (p .rows) j (p .n) (omega (arith, g .low, q .row)) in
+        let a = stream-infos f w₀ p (q .laid) j (keyAt w₀ p i) below in
+        let b = infos-mono w₀ (p .rows) j (p .n) below in
         omega (arith, g .come, g .long, q .laid .room)
 
-    module _ (r : 0 < left) where
-      gathering-row : Row w p (j - 1)
-      gathering-row = laid-row f w p (j - 1) gathering-laid (omega (arith, gathering-more r, g .low, q .row))
-
-      gathering-rows : TwoRows w p (j - 1) i
-      gathering-rows = record { rows = gathering-row .rows; words = gathering-row .words; first = gathering-row .row; second = q .row }
-
-      own : keyAt w p (j - 1) ≡ keyAt w₀ p (j - 1)
-      own = key-front f w w₀ p (q .laid) (g .front) (j - 1) (gathering-row .row)
-
-      mine : keyAt w p i ≡ keyAt w₀ p i
-      mine = key-front f w w₀ p (q .laid) (g .front) i (q .row)
-
-      back-one : suc (j - 1) ≡ j
-      back-one = omega (arith, gathering-more r)
-
-      module _ (t : Bool) (et : t ≡ eqK (keyAt w p (j - 1)) (keyAt w p i)) where
-        gathering-miss : t ≡ false → Gathering f w₀ p i h w (j - 1) left
-        gathering-miss e =
-            let k : eqK (keyAt w₀ p (j - 1)) (keyAt w₀ p i) ≡ false = rw (own, mine) at (sym et ∙ e) in
-            let s : streamOf f w₀ p j (keyAt w₀ p i) ≡ streamOf f w₀ p (j - 1) (keyAt w₀ p i) = rw back-one at (stream-other f w₀ p (j - 1) (keyAt w₀ p i) (λ z. no-way (eq-eqK (keyAt w₀ p (j - 1)) (keyAt w₀ p i) z) k)) in
-            record { low = omega (arith, g .low); most = g .most; come = rw s at (g .come); long = g .long; front = g .front; done = rw s at (g .done) }
-
-        module _ (e : t ≡ true) (n m : ℕ) (en : n ≡ lenAt w p (j - 1)) (em : m ≡ min left n) where
-          gathering-put : PutPre f w p (j - 1) (n - m) m (p .area + left - m)
-          gathering-put = record {
-            laid = gathering-laid;
-            row = gathering-row .row;
-            part = omega arith;
-            above = omega (arith, q .laid .area);
-            fits = omega (arith, gathering-room);
-          }
-
-          gathering-hit : (u : List ℕ) → u ≡ sets w (p .area + left - m) (take m (drop (n - m) (bytesAt f w p (j - 1)))) → Gathering f w₀ p i h u (j - 1) (left - m)
-          gathering-hit u eu =
-              let k : keyAt w₀ p (j - 1) ≡ keyAt w₀ p i = eqK-true (keyAt w₀ p (j - 1)) (keyAt w₀ p i) (rw (own, mine) at (sym et ∙ e)) in
-              let S : List ℕ = streamOf f w₀ p (j - 1) (keyAt w₀ p i) in
-              let B : List ℕ = bytesAt f w₀ p (j - 1) in
-              let s : streamOf f w₀ p j (keyAt w₀ p i) ≡ S ++ B = rw back-one at (stream-mine f w₀ p (j - 1) (keyAt w₀ p i) k) in
-              let b : bytesAt f w p (j - 1) ≡ B = bytes-front f w w₀ p (q .laid) (g .front) (j - 1) (gathering-row .row) in
-              let o : length B ≡ n = ap length (sym b) ∙ length-bytes f w p gathering-laid (j - 1) (gathering-row .row) ∙ sym en in
-              let c : left ≤ length S + length B = rw (s, length-append) at (g .come) in
-              let x : take m (drop (n - m) (bytesAt f w p (j - 1))) ≡ drop (n - m) B = rw b (take-all m (drop (n - m) B) (simp length-drop (omega arith))) in
-              let v : lastn left (streamOf f w₀ p j (keyAt w₀ p i)) ≡ lastn (left - m) S ++ drop (n - m) B = rw (s, ← o) (lastn-append left m S B c (omega arith)) in
-              let y : length (lastn (left - m) S) ≡ left - m = length-lastn (left - m) S (omega arith) in
-              let a : p .area + left - m ≡ p .area + (left - m) = omega arith in
-              let eu′ : u ≡ sets w (p .area + (left - m)) (drop (n - m) B) = rw (x, a) at eu in
-              record {
-                low = omega (arith, g .low);
-                most = omega (arith, g .most);
-                come = omega arith;
-                long = ap length eu′ ∙ length-sets w (p .area + (left - m)) (drop (n - m) B) ∙ g .long;
-                front = rw eu′ (front-then (4 * p .held) _ w w₀ (front-sets (4 * p .held) (drop (n - m) B) w (p .area + (left - m)) (omega (arith, q .laid .area))) (g .front));
-                done = rw eu′ (sym (rw y at (sets-back w (p .area) (lastn (left - m) S) (drop (n - m) B)))) ∙ rw v at (g .done);
-              }
-
--- ---- from piece to piece of the bucket
-
-pub record Chasing (f w₀ : List ℕ) (p : Plan) (i h : ℕ) (w : List ℕ) (j left : ℕ) : Type 0 where
-  pub gathers : Gathering f w₀ p i h w j left
-  pub mine : (l : Linked w₀ p) → 0 < j → l .bucket (keyAt w₀ p (j - 1)) ≡ l .bucket (keyAt w₀ p i)
-
-module _ (f w₀ : List ℕ) (p : Plan) (i h : ℕ) (q : GatherPre f w₀ p i h) where
-  chase : (w : List ℕ) (j left r : ℕ) → Gathering f w₀ p i h w j left → ((l : Linked w₀ p) → l .bucket (keyAt w₀ p j) ≡ l .bucket (keyAt w₀ p i)) → j < p .n → r ≡ word w₀ (p .chain + j) → r ≤ j → Chasing f w₀ p i h w r left
-  chase w j left r g b n e o =
-      let s : streamOf f w₀ p j (keyAt w₀ p i) ≡ streamOf f w₀ p r (keyAt w₀ p i) = jump w₀ p (q .laid .linked) i (λ k. streamOf f w₀ p k (keyAt w₀ p i)) (λ k z. stream-other f w₀ p k (keyAt w₀ p i) z) j r n (b (q .laid .linked)) e in
-      record {
-        gathers = record { low = omega (arith, g .low); most = g .most; come = rw s at (g .come); long = g .long; front = g .front; done = rw s at (g .done) };
-        mine = λ l z. jump-bucket w₀ p l i j r n (b l) e z;
-      }
-
-  pub chasing-start : (r : ℕ) → Earlier w₀ p i r → Chasing f w₀ p i h w₀ r h
-  chasing-start r b = chase w₀ i h r (gathering-start f w₀ p i h q) (λ l. refl) (q .row) (b .at) (b .less)
-
-  module _ (w : List ℕ) (j left : ℕ) (v : Chasing f w₀ p i h w j left) where
-    pub chasing-end : left ≤ 0 → w ≡ sets w₀ (p .area) (lastn h (streamTo f w₀ p i))
-    chasing-end = gathering-end f w₀ p i h w j left (v .gathers)
-
-    pub chasing-more : 0 < left → 0 < j
-    chasing-more = gathering-more f w₀ p i h w j left (v .gathers)
-
-    pub chasing-room : p .area + left ≤ length w
-    chasing-room = gathering-room f w₀ p i h w j left (v .gathers) q
-
     module _ (z : 0 < left) where
-      pub chasing-row : Row w p (j - 1)
-      chasing-row = gathering-row f w₀ p i h w j left (v .gathers) q z
+      pub gathering-more : 0 < j
+      gathering-more = back-more f w₀ p (q .laid) (keyAt w₀ p i) j left below (g .mine) (g .come) z
 
-      pub chasing-rows : TwoRows w p (j - 1) i
-      chasing-rows = gathering-rows f w₀ p i h w j left (v .gathers) q z
+      last : j - 1 < p .n
+      last = omega (arith, gathering-more, below)
 
-      pub chasing-chain : Chain w p (j - 1)
-      chasing-chain = laid-chain f w p (j - 1) (gathering-laid f w₀ p i h w j left (v .gathers) q) (chasing-row .row)
+      pub gathering-row : Row w p (j - 1)
+      gathering-row = laid-row f w p (j - 1) laid last
 
-      module _ (r : ℕ) (b : Earlier w p (j - 1) r) where
-        old : r ≡ word w₀ (p .chain + (j - 1))
-        old = b .at ∙ front-word (4 * p .held) w w₀ (p .chain + (j - 1)) (omega (arith, q .laid .chain, chasing-row .row)) (v .gathers .front)
+      pub gathering-chain : Chain w p (j - 1)
+      gathering-chain = laid-chain f w p (j - 1) laid last
 
-        pub chasing-miss : (t : Bool) → t ≡ eqK (keyAt w p (j - 1)) (keyAt w p i) → t ≡ false → Chasing f w₀ p i h w r left
-        chasing-miss t et e = chase w (j - 1) left r (gathering-miss f w₀ p i h w j left (v .gathers) q z t et e) (λ l. v .mine l (chasing-more z)) (chasing-row .row) old (b .less)
+      module _ (n m : ℕ) (en : n ≡ lenAt w p (j - 1)) (em : m ≡ min left n) where
+        pub gathering-put : PutPre f w p (j - 1) (n - m) m (p .area + left - m)
+        gathering-put = record { laid = laid; row = last; part = omega arith; above = omega (arith, q .laid .area); fits = omega (arith, gathering-room) }
 
-        module _ (t : Bool) (et : t ≡ eqK (keyAt w p (j - 1)) (keyAt w p i)) (e : t ≡ true) (n m : ℕ) (en : n ≡ lenAt w p (j - 1)) (em : m ≡ min left n) where
-          pub chasing-put : PutPre f w p (j - 1) (n - m) m (p .area + left - m)
-          chasing-put = gathering-put f w₀ p i h w j left (v .gathers) q z t et e n m en em
+        pub gathering-turn : (r : ℕ) → Earlier w p (j - 1) r → (u : List ℕ) → u ≡ sets w (p .area + left - m) (take m (drop (n - m) (bytesAt f w p (j - 1)))) → Gathering f w₀ p i h u r (left - m)
+        gathering-turn r b u eu =
+            let b₀ : Earlier w₀ p (j - 1) r = earlier-front f w w₀ p (q .laid) (g .front) (j - 1) last r b in
+            let n₀ : n ≡ lenAt w₀ p (j - 1) = en ∙ len-front f w w₀ p (q .laid) (g .front) (j - 1) last in
+            let v : u ≡ sets w (p .area + left - m) (take m (drop (n - m) (bytesAt f w₀ p (j - 1)))) = rw (bytes-front f w w₀ p (q .laid) (g .front) (j - 1) last) at eu in
+            record {
+              low = omega (arith, g .low, b .less);
+              most = omega (arith, g .most);
+              come = back-come f w₀ p (q .laid) (keyAt w₀ p i) j left below (g .mine) (g .come) z r b₀ n m n₀ em;
+              mine = back-mine f w₀ p (q .laid) (keyAt w₀ p i) j left below (g .mine) (g .come) z r b₀;
+              long = ap length eu ∙ simp length-sets (g .long);
+              front = front-then (4 * p .held) u w w₀ (rw eu (front-sets (4 * p .held) (take m (drop (n - m) (bytesAt f w p (j - 1)))) w (p .area + left - m) (omega (arith, q .laid .area)))) (g .front);
+              done = back-sets f w₀ p (q .laid) (keyAt w₀ p i) j left below (g .mine) (g .come) z r b₀ n m n₀ em w (p .area) u v ∙ g .done;
+            }
 
-          pub chasing-hit : (u : List ℕ) → u ≡ sets w (p .area + left - m) (take m (drop (n - m) (bytesAt f w p (j - 1)))) → Chasing f w₀ p i h u r (left - m)
-          chasing-hit u eu = chase u (j - 1) (left - m) r (gathering-hit f w₀ p i h w j left (v .gathers) q z t et e n m en em u eu) (λ l. v .mine l (chasing-more z)) (chasing-row .row) old (b .less)
-
--- ---- the same walk, to a place in the output
-
+-- to a place in the output
 pub record Reaching (f w : List ℕ) (p : Plan) (i h : ℕ) (out₀ : List ℕ) (at : ℕ) (out : List ℕ) (j left : ℕ) : Type 0 where
   pub low : j ≤ i
   pub most : left ≤ h
   pub come : left ≤ length (streamOf f w p j (keyAt w p i))
+  pub mine : 0 < j → keyAt w p (j - 1) ≡ keyAt w p i
   pub long : length out ≡ length out₀
   pub done : sets out at (lastn left (streamOf f w p j (keyAt w p i))) ≡ sets out₀ at (lastn h (streamTo f w p i))
 
-pub record Fetching (f w : List ℕ) (p : Plan) (i h : ℕ) (out₀ : List ℕ) (at : ℕ) (out : List ℕ) (j left : ℕ) : Type 0 where
-  pub reaches : Reaching f w p i h out₀ at out j left
-  pub mine : (l : Linked w p) → 0 < j → l .bucket (keyAt w p (j - 1)) ≡ l .bucket (keyAt w p i)
-
 module _ (f w : List ℕ) (p : Plan) (i h : ℕ) (out₀ : List ℕ) (at : ℕ) (q : GatherOut f w p i h out₀ at) where
-  fetch : (out : List ℕ) (j left r : ℕ) → Reaching f w p i h out₀ at out j left → ((l : Linked w p) → l .bucket (keyAt w p j) ≡ l .bucket (keyAt w p i)) → j < p .n → r ≡ word w (p .chain + j) → r ≤ j → Fetching f w p i h out₀ at out r left
-  fetch out j left r g b n e o =
-      let s : streamOf f w p j (keyAt w p i) ≡ streamOf f w p r (keyAt w p i) = jump w p (q .laid .linked) i (λ k. streamOf f w p k (keyAt w p i)) (λ k z. stream-other f w p k (keyAt w p i) z) j r n (b (q .laid .linked)) e in
-      record {
-        reaches = record { low = omega (arith, g .low); most = g .most; come = rw s at (g .come); long = g .long; done = rw s at (g .done) };
-        mine = λ l z. jump-bucket w p l i j r n (b l) e z;
-      }
+  pub reaching-start : (r : ℕ) → Earlier w p i r → Reaching f w p i h out₀ at out₀ r h
+  reaching-start r b =
+      let s = stream-back f w p i r b in
+      record { low = b .less; most = omega arith; come = rw s at (q .come); mine = b .mine; long = refl; done = rw s }
 
-  pub fetching-start : (r : ℕ) → Earlier w p i r → Fetching f w p i h out₀ at out₀ r h
-  fetching-start r b = fetch out₀ i h r (record { low = omega arith; most = omega arith; come = q .come; long = refl; done = refl }) (λ l. refl) (q .row) (b .at) (b .less)
+  module _ (out : List ℕ) (j left : ℕ) (g : Reaching f w p i h out₀ at out j left) where
+    pub reaching-end : left ≤ 0 → out ≡ sets out₀ at (lastn h (streamTo f w p i))
+    reaching-end l = rw (lastn-zero left (streamOf f w p j (keyAt w p i)) (omega arith)) at (g .done)
 
-  module _ (out : List ℕ) (j left : ℕ) (v : Fetching f w p i h out₀ at out j left) where
-    pub fetching-end : left ≤ 0 → out ≡ sets out₀ at (lastn h (streamTo f w p i))
-    fetching-end l = rw (lastn-zero left (streamOf f w p j (keyAt w p i)) (omega arith)) at (v .reaches .done)
+    under : j ≤ p .n
+    under = omega (arith, g .low, q .row)
 
-    pub fetching-more : 0 < left → 0 < j
-    unfolding streamOf
-    fetching-more l = split≡ j 0 (λ e. let z = rw e at (v .reaches .come) in absurd (omega (arith, z))) (λ e. omega arith)
-
-    pub fetching-room : at + left ≤ length out
-    fetching-room = omega (arith, v .reaches .most, v .reaches .long, q .fits)
+    pub reaching-room : at + left ≤ length out
+    reaching-room = omega (arith, g .most, g .long, q .fits)
 
     module _ (z : 0 < left) where
-      pub fetching-row : Row w p (j - 1)
-      fetching-row = laid-row f w p (j - 1) (q .laid) (omega (arith, fetching-more z, v .reaches .low, q .row))
+      pub reaching-more : 0 < j
+      reaching-more = back-more f w p (q .laid) (keyAt w p i) j left under (g .mine) (g .come) z
 
-      pub fetching-rows : TwoRows w p (j - 1) i
-      fetching-rows = record { rows = fetching-row .rows; words = fetching-row .words; first = fetching-row .row; second = q .row }
+      pub reaching-row : Row w p (j - 1)
+      reaching-row = laid-row f w p (j - 1) (q .laid) (omega (arith, reaching-more, under))
 
-      pub fetching-chain : Chain w p (j - 1)
-      fetching-chain = laid-chain f w p (j - 1) (q .laid) (fetching-row .row)
+      pub reaching-chain : Chain w p (j - 1)
+      reaching-chain = laid-chain f w p (j - 1) (q .laid) (omega (arith, reaching-more, under))
 
-      back-by : suc (j - 1) ≡ j
-      back-by = omega (arith, fetching-more z)
+      module _ (n m : ℕ) (en : n ≡ lenAt w p (j - 1)) (em : m ≡ min left n) where
+        pub reaching-put : OutPre f w p (j - 1) (n - m) m out (at + left - m)
+        reaching-put = record { laid = q .laid; row = omega (arith, reaching-more, under); part = omega arith; fits = omega (arith, reaching-room) }
 
-      module _ (r : ℕ) (b : Earlier w p (j - 1) r) (t : Bool) (et : t ≡ eqK (keyAt w p (j - 1)) (keyAt w p i)) where
-        pub fetching-miss : t ≡ false → Fetching f w p i h out₀ at out r left
-        fetching-miss e =
-            let g = v .reaches in
-            let s : streamOf f w p j (keyAt w p i) ≡ streamOf f w p (j - 1) (keyAt w p i) = rw back-by at (stream-other f w p (j - 1) (keyAt w p i) (λ y. no-way (eq-eqK (keyAt w p (j - 1)) (keyAt w p i) y) (sym et ∙ e))) in
-            fetch out (j - 1) left r
-            (record { low = omega (arith, g .low); most = g .most; come = rw s at (g .come); long = g .long; done = rw s at (g .done) })
-            (λ l. v .mine l (fetching-more z)) (fetching-row .row) (b .at) (b .less)
-
-        module _ (e : t ≡ true) (n m : ℕ) (en : n ≡ lenAt w p (j - 1)) (em : m ≡ min left n) where
-          pub fetching-put : OutPre f w p (j - 1) (n - m) m out (at + left - m)
-          fetching-put = record { laid = q .laid; row = fetching-row .row; part = omega arith; fits = omega (arith, fetching-room) }
-
-          pub fetching-hit : (u : List ℕ) → u ≡ sets out (at + left - m) (take m (drop (n - m) (bytesAt f w p (j - 1)))) → Fetching f w p i h out₀ at u r (left - m)
-          fetching-hit u eu =
-              let g = v .reaches in
-              let k : keyAt w p (j - 1) ≡ keyAt w p i = eqK-true (keyAt w p (j - 1)) (keyAt w p i) (sym et ∙ e) in
-              let S : List ℕ = streamOf f w p (j - 1) (keyAt w p i) in
-              let B : List ℕ = bytesAt f w p (j - 1) in
-              let s : streamOf f w p j (keyAt w p i) ≡ S ++ B = rw back-by at (stream-mine f w p (j - 1) (keyAt w p i) k) in
-              let o : length B ≡ n = length-bytes f w p (q .laid) (j - 1) (fetching-row .row) ∙ sym en in
-              let c : left ≤ length S + length B = rw (s, length-append) at (g .come) in
-              let x : take m (drop (n - m) B) ≡ drop (n - m) B = take-all m (drop (n - m) B) (simp length-drop (omega arith)) in
-              let y : lastn left (streamOf f w p j (keyAt w p i)) ≡ lastn (left - m) S ++ drop (n - m) B = rw (s, ← o) (lastn-append left m S B c (omega arith)) in
-              let d : length (lastn (left - m) S) ≡ left - m = length-lastn (left - m) S (omega arith) in
-              let a : at + left - m ≡ at + (left - m) = omega arith in
-              let eu′ : u ≡ sets out (at + (left - m)) (drop (n - m) B) = rw (x, a) at eu in
-              fetch u (j - 1) (left - m) r
-              (record {
-                low = omega (arith, g .low);
-                most = omega (arith, g .most);
-                come = omega arith;
-                long = ap length eu′ ∙ length-sets out (at + (left - m)) (drop (n - m) B) ∙ g .long;
-                done = rw eu′ (sym (rw d at (sets-back out at (lastn (left - m) S) (drop (n - m) B)))) ∙ rw y at (g .done);
-              })
-              (λ l. v .mine l (fetching-more z)) (fetching-row .row) (b .at) (b .less)
+        pub reaching-turn : (r : ℕ) → Earlier w p (j - 1) r → (u : List ℕ) → u ≡ sets out (at + left - m) (take m (drop (n - m) (bytesAt f w p (j - 1)))) → Reaching f w p i h out₀ at u r (left - m)
+        reaching-turn r b u eu = record {
+          low = omega (arith, g .low, b .less);
+          most = omega (arith, g .most);
+          come = back-come f w p (q .laid) (keyAt w p i) j left under (g .mine) (g .come) z r b n m en em;
+          mine = back-mine f w p (q .laid) (keyAt w p i) j left under (g .mine) (g .come) z r b;
+          long = ap length eu ∙ simp length-sets (g .long);
+          done = back-sets f w p (q .laid) (keyAt w p i) j left under (g .mine) (g .come) z r b n m en em out at u eu ∙ g .done;
+        }

@@ -74,10 +74,6 @@ back (suc n) b =
     rw e (omega (arith, ih .0), sym (lastn-drop (length (restN n (drop m (begun b)))) (seek 0x3E b) b (omega (arith, ih .0))) ∙ sym (lastn-drop (length (restN n (drop m (begun b)))) m (begun b) (ih .0)) ∙ ih .1))
     (λ e. rw e (simp length-drop (omega arith), lastn-of (seek 0x3E b) b))
 
-pub rest-long : (b : List ℕ) → length (restOf b) ≤ length b
-unfolding restOf
-rest-long b = back (suc (length b)) b .0
-
 pub rest-back : (b : List ℕ) → lastn (length (restOf b)) b ≡ restOf b
 unfolding restOf
 rest-back b = back (suc (length b)) b .1

@@ -1,17 +1,16 @@
 -- What lies below the lengths held stays, and so does what is read from it.
 use Prim.Native.Nat.{ℕ, zero, suc, _+_, _-_, _*_, _<_, _≤_}
-use mathlib.Core.Path.{_≡_, refl, ap}
+use mathlib.Core.Path.{_≡_, refl, sym, ap, _∙_}
 use mathlib.Core.List.{List, [], _∷_, _++_}
 use native.Mathlib.Omega.{arith}
 use lib.ListN.{length}
 use Rattle.laws.specs.Keys.{Key}
 use Rattle.words.specs.Words.{word}
 use Rattle.words.specs.Front.{Front, front-word}
-use Rattle.table.specs.Chain.{Chained, chained-agree}
 use Rattle.rfcomm.specs.Pieces.{Piece}
 use Rattle.rfcomm.specs.PieceTable.{pieceAt, piecesFrom, infosOf}
 use Rattle.rfcomm.specs.PieceRows.{piece-front, pieces-front, infos-front, within-front}
-use Rattle.split.specs.Rows.{rowOf, piece, dlciAt, tailAt, keyAt, lenAt, bytesAt, streamOf, heldIn, ahead, keysTo, Linked, Laid}
+use Rattle.split.specs.Rows.{rowOf, piece, dlciAt, tailAt, keyAt, lenAt, bytesAt, streamOf, heldIn, ahead, keysTo, newestOf, Linked, Laid}
 use Rattle.split.specs.declared.Plan.{Plan}
 
 module _ (f u w : List ℕ) (p : Plan) (l : Laid f w p) (s : Front (4 * p .held) u w) where
@@ -57,10 +56,14 @@ module _ (f u w : List ℕ) (p : Plan) (l : Laid f w p) (s : Front (4 * p .held)
   held-front zero k h g = refl
   held-front (suc i) k h g = rw (held-front i k (omega arith) (λ j q. g j (omega arith)), key-front i (omega arith), g i (omega arith))
 
+  pub newest-front : (k : Key) (i : ℕ) → i ≤ p .n → newestOf (λ j. keyAt u p j) k i ≡ newestOf (λ j. keyAt w p j) k i
+  unfolding newestOf
+  newest-front k zero h = refl
+  newest-front k (suc i) h = rw (key-front i (omega arith), newest-front k i (omega arith))
+
   linked-front : Linked u p
   linked-front = record {
-    bucket = l .linked .bucket;
-    chained = chained-agree _ _ u w (p .chain) (p .n) (λ j h. ap (l .linked .bucket) (key-front j h)) (λ j h. front-word (4 * p .held) u w (p .chain + j) (omega (arith, l .chain)) s) (l .linked .chained);
+    before = λ i h. front-word (4 * p .held) u w (p .chain + i) (omega (arith, l .chain)) s ∙ l .linked .before i h ∙ sym (rw (key-front i h) (newest-front (keyAt w p i) i (omega arith)));
   }
 
   pub laid-front : length u ≡ length w → Laid f u p
@@ -70,6 +73,7 @@ module _ (f u w : List ℕ) (p : Plan) (l : Laid f w p) (s : Front (4 * p .held)
         rows = l .rows;
         chain = l .chain;
         linked = linked-front;
+        ends = l .ends;
         area = l .area;
         many = l .many;
         sum = rw z (l .sum);

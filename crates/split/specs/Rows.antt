@@ -1,4 +1,4 @@
--- The table of pieces, and behind it one word for each piece: how many bytes its key holds after it.
+-- The table of pieces, and behind it words for each piece; one of them says how many bytes its key holds after it.
 -- What a key holds before the i-th piece is the last so many bytes of all that came under the key.
 use Prim.Native.Nat.{ℕ, zero, suc, _+_, _-_, _*_, _/_, _%_, _<_, _≤_}
 use mathlib.Core.Path.{_≡_}
@@ -9,7 +9,6 @@ use lib.Dec.{eqb, leb, ltb}
 use Rattle.laws.specs.Keys.{Key, eqK}
 use Rattle.laws.specs.Count.{count, nub}
 use Rattle.words.specs.Words.{word}
-use Rattle.table.specs.Chain.{Chained}
 use Rattle.rfcomm.specs.Pieces.{Piece}
 use Rattle.rfcomm.specs.PieceTable.{pieceAt, piecesFrom, infosOf, Within}
 use Rattle.spans.specs.Spans.{onDlci}
@@ -101,17 +100,23 @@ sign n = cond (ltb 0 n) 1 0
 
 -- ---- where the tables lie
 
--- one word for each piece says which piece of its bucket came before it; equal keys are in one bucket
-pub record Linked (w : List ℕ) (p : Plan) : Type 0 where
-  pub bucket : Key → ℕ
-  pub chained : Chained (λ j. bucket (keyAt w p j)) w (p .chain) (p .n)
+-- one more than the newest of the first n rows, with their keys, that has the key k; 0 if none has
+unfoldable pub newestOf : (ℕ → Key) → Key → ℕ → ℕ
+newestOf κ k zero = 0
+newestOf κ k (suc n) = cond (eqK (κ n) k) (suc n) (newestOf κ k n)
 
--- the pieces below the words that link them, these below the lengths held, these below the area, and the area has room for all information
+-- one word for each piece says which piece of its key came before it
+pub record Linked (w : List ℕ) (p : Plan) : Type 0 where
+  pub before : (i : ℕ) → i < p .n → word w (p .chain + i) ≡ newestOf (λ j. keyAt w p j) (keyAt w p i) i
+
+-- the pieces and the words that link them below the lengths held, these below the places of 3C, these below the area, and the area has
+-- room for all information
 pub record Laid (f w : List ℕ) (p : Plan) : Type 0 where
   pub rows : p .rows + 8 * p .n ≤ p .held
   pub chain : p .chain + p .n ≤ p .held
   pub linked : Linked w p
-  pub area : 4 * (p .held + p .n) ≤ p .area
+  pub ends : p .held + p .n ≤ p .ends
+  pub area : 4 * (p .ends + p .n) ≤ p .area
   pub many : p .n ≤ 1048576
   pub sum : infosOf w (p .rows) (p .n) ≤ 1048576
   pub room : p .area + infosOf w (p .rows) (p .n) ≤ length w

@@ -3,32 +3,34 @@ use Prim.Native.Nat.{ℕ, _+_, _-_, _*_, _<_, _≤_}
 use mathlib.Core.Path.{_≡_}
 use mathlib.Core.Bool.{Bool, true, false}
 use mathlib.Core.List.{List, [], _∷_, _++_}
-use lib.ListN.{length, take, drop}
+use lib.ListN.{length, getD, take, drop}
 use lib.Seq.{sets}
-use Rattle.laws.specs.Keyed.{step}
 use Rattle.laws.specs.Stores.{Writes}
-use Rattle.words.specs.Words.{word, putWord}
+use Rattle.words.specs.Words.{word}
 use Rattle.words.specs.Front.{Front}
 use Rattle.items.specs.Items.{Span, span, spanItem, spanList}
 use Rattle.mdr.specs.Frame.{unpacksOf}
 use Rattle.channels.specs.Channels.{any}
 use Rattle.rfcomm.specs.Pieces.{Piece}
+use Rattle.spans.specs.Scan.{spansOf, restOf}
 use Rattle.search.specs.Seek.{seek}
-use Rattle.spans.specs.Scan.{ended, spansOf, restOf}
-use Rattle.spans.specs.Spans.{scanner, spans, unfinished}
-use Rattle.spans.specs.Parts.{tagged, tallyAll, Room, WritePre as PartPre}
+use Rattle.spans.specs.Spans.{spans, unfinished}
+use Rattle.spans.specs.Parts.{tagged, tallyAll, Room}
+use Rattle.spans.specs.Bytewise.{Quiet, AllQuiet}
 use Rattle.spans.specs.declared.Tally.{Tally}
+use Rattle.spans.specs.declared.Scanned.{Scanned}
 use Rattle.split.specs.Last.{lastn}
-use Rattle.spans.specs.Bytewise.{AllQuiet}
-use Rattle.split.specs.Rows.{piece, dlciAt, lenAt, startAt, bytesAt, heldOf, streamTo, opened, Fits, joined, cappedLength, all, liveTo, sign, Linked, Laid}
+use Rattle.split.specs.Rows.{piece, dlciAt, keyAt, lenAt, startAt, bytesAt, heldOf, streamTo, opened, Fits, joined, cappedLength, all, liveTo, sign, newestOf, Linked, Laid}
 use Rattle.split.specs.declared.Plan.{Plan}
 use Rattle.split.specs.declared.Sums.{Sums}
+use Rattle.split.specs.declared.Onward.{Onward}
 
 -- ---- one piece
 
 pub record Row (w : List ℕ) (p : Plan) (i : ℕ) : Type 0 where
   pub rows : p .rows + 8 * p .n ≤ p .held
-  pub words : 4 * (p .held + p .n) ≤ length w
+  pub ends : p .held + p .n ≤ p .ends
+  pub words : 4 * (p .ends + p .n) ≤ length w
   pub row : i < p .n
 
 -- a piece and the words that link the pieces
@@ -49,16 +51,11 @@ pub record LinkedTo (w : List ℕ) (p : Plan) (u : List ℕ) : Type 0 where
   pub linked : Linked u p
   pub front : Front (4 * p .chain) u w
 
--- one more than the piece of its bucket before piece i, or 0
+-- one more than the piece of its key before piece i, or 0
 pub record Earlier (w : List ℕ) (p : Plan) (i r : ℕ) : Type 0 where
-  pub at : r ≡ word w (p .chain + i)
+  pub newest : r ≡ newestOf (λ j. keyAt w p j) (keyAt w p i) i
   pub less : r ≤ i
-
-pub record TwoRows (w : List ℕ) (p : Plan) (i j : ℕ) : Type 0 where
-  pub rows : p .rows + 8 * p .n ≤ p .held
-  pub words : 4 * (p .held + p .n) ≤ length w
-  pub first : i < p .n
-  pub second : j < p .n
+  pub mine : 0 < r → keyAt w p (r - 1) ≡ keyAt w p i
 
 pub record StartIs (w : List ℕ) (p : Plan) (i r : ℕ) : Type 0 where
   pub at : r ≡ startAt w p i
@@ -95,25 +92,33 @@ pub record Joined (f w : List ℕ) (p : Plan) (i : ℕ) (u : List ℕ) (r : ℕ)
   pub fits : p .area + r ≤ length w
   pub small : r ≤ 1048576
 
--- something is held, and the piece has no 3C
-pub record Silent (f w : List ℕ) (p : Plan) (i h : ℕ) : Type 0 where
-  pub some : 0 < h
-  pub ends : ended (bytesAt f w p i) ≡ false
+-- ---- what is stored of a piece
 
-pub record HoldPre (w : List ℕ) (p : Plan) (i h : ℕ) : Type 0 where
-  pub row : Row w p i
-  pub small : h ≤ 1048576
-
-pub record HeldMore (w : List ℕ) (p : Plan) (i h : ℕ) (u : List ℕ) (r : ℕ) : Type 0 where
-  pub grown : r ≡ cappedLength (h + lenAt w p i)
-  pub put : u ≡ putWord w (p .held + i) r
-
--- the step of the machine by the piece i
-pub record Moved (f w : List ℕ) (p : Plan) (i : ℕ) (u : List ℕ) : Type 0 where
-  pub opens : opened f u p (i + 1) ≡ step scanner (opened f w p i) (piece f w p i)
-  pub fits : Fits f u p (i + 1)
+-- what lies below the words of piece i is as it was
+pub record Kept (w : List ℕ) (p : Plan) (i : ℕ) (u : List ℕ) : Type 0 where
   pub front : Front (4 * p .held) u w
   pub long : length u ≡ length w
+  pub held : (j : ℕ) → j < i → word u (p .held + j) ≡ word w (p .held + j)
+  pub ends : (j : ℕ) → j < i → word u (p .ends + j) ≡ word w (p .ends + j)
+
+pub record Noted (w : List ℕ) (p : Plan) (i r e : ℕ) (u : List ℕ) : Type 0 where
+  pub kept : Kept w p i u
+  pub holds : word u (p .held + i) ≡ r
+  pub end : word u (p .ends + i) ≡ e
+
+-- the words of piece i: how much its key holds after it, and where its first 3C stands
+pub record Told (f w : List ℕ) (p : Plan) (i : ℕ) : Type 0 where
+  pub holds : word w (p .held + i) ≡ cappedLength (length (restOf (joined f w p i)))
+  pub end : word w (p .ends + i) ≡ seek 0x3C (bytesAt f w p i)
+
+-- those of the DLCI's pieces before the n-th
+pub record AllTold (f w : List ℕ) (p : Plan) (n : ℕ) : Type 0 where
+  pub at : (i : ℕ) → i < n → dlciAt w p i ≡ p .dlci → Told f w p i
+
+-- the step by piece i
+pub record Moved (f w : List ℕ) (p : Plan) (i : ℕ) (u : List ℕ) : Type 0 where
+  pub kept : Kept w p i u
+  pub told : Told f u p i
 
 -- ---- counting
 
@@ -133,37 +138,33 @@ pub record CountPre (f w : List ℕ) (p : Plan) (i : ℕ) (s : Sums) : Type 0 wh
   pub few : s .unfinished ≤ i
   pub live : s .unfinished ≡ liveTo w p i
 
-pub record CountHeld (f w : List ℕ) (p : Plan) (i : ℕ) (s : Sums) (h : ℕ) : Type 0 where
-  pub pre : CountPre f w p i s
-  pub holds : h ≡ heldOf w p i
-
--- the spans of piece i from skip on
-pub record CountAt (f w : List ℕ) (p : Plan) (i skip : ℕ) (t : Tally) : Type 0 where
+-- h bytes are held of its key
+pub record CountHeld (f w : List ℕ) (p : Plan) (i h : ℕ) (t : Tally) : Type 0 where
   pub laid : Laid f w p
   pub row : i < p .n
-  pub within : skip ≤ lenAt w p i
-  pub room : Room t (lenAt w p i - skip)
-
--- t has the spans that end before skip
-pub record CountOn (f w : List ℕ) (p : Plan) (i : ℕ) (s : Sums) (h : ℕ) (t : Tally) (skip : ℕ) : Type 0 where
-  pub pre : CountPre f w p i s
   pub holds : h ≡ heldOf w p i
-  pub within : skip ≤ lenAt w p i
-  pub all : tallyAll (s .tally) (spansOf (joined f w p i)) ≡ tallyAll t (spansOf (drop skip (bytesAt f w p i)))
-  pub rest : restOf (joined f w p i) ≡ restOf (drop skip (bytesAt f w p i))
-  pub fewer : t .count ≤ t .bytes
-  pub bytes : t .bytes + 15 * (lenAt w p i - skip) ≤ s .tally .bytes + 15 * length (joined f w p i)
+  pub come : h ≤ length (streamTo f w p i)
+  pub quiet : Quiet (lastn h (streamTo f w p i))
+  pub room : Room t (h + lenAt w p i)
 
--- something is held, and the first 3C of the piece stands at e
-pub record Closes (f w : List ℕ) (p : Plan) (i h e : ℕ) : Type 0 where
-  pub holds : h ≡ heldOf w p i
+-- a span of what is held can be counted by its length
+pub record Known (h : ℕ) (t : Tally) (r : Bool) : Type 0 where
+  pub yes : r ≡ true → 0 < h → t .frame ≡ true
+  pub no : r ≡ false → 0 < h
+
+pub record JoinHeld (f w : List ℕ) (p : Plan) (i h : ℕ) (t : Tally) : Type 0 where
+  pub pre : CountHeld f w p i h t
   pub some : 0 < h
-  pub at : e ≡ seek 0x3C (bytesAt f w p i)
-  pub high : e < lenAt w p i
 
-pub record CountClosed (f w : List ℕ) (p : Plan) (i : ℕ) (s : Sums) (h e : ℕ) : Type 0 where
-  pub pre : CountPre f w p i s
-  pub closes : Closes f w p i h e
+-- the spans that the piece brings are counted, and nothing below the area is changed
+pub record Behind (f w : List ℕ) (p : Plan) (i h : ℕ) (t : Tally) (u : List ℕ) (r : Scanned) : Type 0 where
+  pub front : Front (p .area) u w
+  pub end : r .end ≡ seek 0x3C (bytesAt f w p i)
+  pub low : r .end ≤ lenAt w p i
+  pub all : r .tally ≡ tallyAll t (spansOf (joined f w p i))
+  pub left : r .rest ≡ length (restOf (joined f w p i))
+  pub fewer : r .tally .count ≤ r .tally .bytes
+  pub bytes : r .tally .bytes ≤ t .bytes + 15 * (h + lenAt w p i)
 
 pub record Stepped (f w : List ℕ) (p : Plan) (i : ℕ) (s : Sums) (u : List ℕ) (r : Sums) : Type 0 where
   pub moves : Moved f w p i u
@@ -180,6 +181,7 @@ pub record CountIs (f w : List ℕ) (p : Plan) (u : List ℕ) (r : Sums) : Type 
   pub frame : r .tally .frame ≡ any (λ s. unpacksOf (s .wire)) (spans (all f w p))
   pub live : r .unfinished ≡ unfinished (all f w p)
   pub front : Front (4 * p .held) u w
+  pub told : AllTold f u p (p .n)
 
 -- ---- writing
 
@@ -193,30 +195,41 @@ pub record WritePre (f w : List ℕ) (p : Plan) (i : ℕ) (out : List ℕ) (at :
   pub own : dlciAt w p i ≡ p .dlci
   pub fits : Fits f w p i
   pub quiet : AllQuiet (opened f w p i)
+  pub told : Told f w p i
   pub room : at + length (itemsOf f w p i) ≤ length out
 
 -- those of the spans of piece i from skip on
 abbrev pub itemsFrom : List ℕ → List ℕ → Plan → ℕ → ℕ → List ℕ
 itemsFrom f w p i skip = spanList (tagged (piece f w p i .rx) (piece f w p i .time) (spansOf (drop skip (bytesAt f w p i))))
 
-pub record WriteAt (f w : List ℕ) (p : Plan) (i skip rx time : ℕ) (out : List ℕ) (at : ℕ) : Type 0 where
-  pub laid : Laid f w p
-  pub row : i < p .n
-  pub within : skip ≤ lenAt w p i
-  pub room : PartPre (drop skip (bytesAt f w p i)) rx time out at
+-- the first 3C of the piece stands at e
+pub record FirstOut (f w : List ℕ) (p : Plan) (i : ℕ) (out : List ℕ) (at e : ℕ) : Type 0 where
+  pub pre : WritePre f w p i out at
+  pub is : e ≡ seek 0x3C (bytesAt f w p i)
+  pub high : e < lenAt w p i
 
-pub record WriteOn (f w : List ℕ) (p : Plan) (i : ℕ) (out : List ℕ) (at skip : ℕ) : Type 0 where
+-- some of the items are written, and those of the piece from skip on are still to come
+pub record FirstWrote (f w : List ℕ) (p : Plan) (i : ℕ) (out : List ℕ) (at : ℕ) (r : Onward) (out′ : List ℕ) : Type 0 where
+  pub done : List ℕ
+  pub items : itemsOf f w p i ≡ done ++ itemsFrom f w p i (r .skip)
+  pub writes : Writes out at done (r .at) out′
+  pub within : r .skip ≤ lenAt w p i
+  pub rest : restOf (joined f w p i) ≡ restOf (drop (r .skip) (bytesAt f w p i))
+
+pub record RestPre (f w : List ℕ) (p : Plan) (i : ℕ) (out : List ℕ) (at skip : ℕ) : Type 0 where
   pub laid : Laid f w p
   pub row : i < p .n
-  pub own : dlciAt w p i ≡ p .dlci
-  pub fits : Fits f w p i
+  pub told : Told f w p i
   pub within : skip ≤ lenAt w p i
   pub rest : restOf (joined f w p i) ≡ restOf (drop skip (bytesAt f w p i))
   pub room : at + length (itemsFrom f w p i skip) ≤ length out
 
-pub record WroteOn (f w : List ℕ) (p : Plan) (i : ℕ) (out : List ℕ) (at skip : ℕ) (u : List ℕ) (r : ℕ) (out′ : List ℕ) : Type 0 where
-  pub moves : Moved f w p i u
-  pub writes : Writes out at (itemsFrom f w p i skip) r out′
+-- the first 3C of the piece stands at e, and closes what is held or what the piece begins with
+pub record Closes (f w : List ℕ) (p : Plan) (i h e : ℕ) : Type 0 where
+  pub holds : h ≡ heldOf w p i
+  pub first : h ≡ 0 → getD (bytesAt f w p i) 0 0 ≡ 0x3E
+  pub at : e ≡ seek 0x3C (bytesAt f w p i)
+  pub high : e < lenAt w p i
 
 -- m bytes of the piece j from skip on, to a place in out
 pub record OutPre (f w : List ℕ) (p : Plan) (j skip m : ℕ) (out : List ℕ) (to : ℕ) : Type 0 where
@@ -243,15 +256,8 @@ pub record ClosePre (f w : List ℕ) (p : Plan) (i : ℕ) (out : List ℕ) (at h
   pub part : k ≤ lenAt w p i
   pub room : at + 14 + h + k ≤ length out
 
-pub record WroteStep (f w : List ℕ) (p : Plan) (i : ℕ) (out : List ℕ) (at : ℕ) (u : List ℕ) (r : ℕ) (out′ : List ℕ) : Type 0 where
-  pub moves : Moved f w p i u
-  pub writes : Writes out at (itemsOf f w p i) r out′
-
+-- room for the list, and the words that counting left
 pub record ListPre (f w : List ℕ) (p : Plan) (out : List ℕ) : Type 0 where
   pub laid : Laid f w p
+  pub told : AllTold f w p (p .n)
   pub room : length (spanList (spans (all f w p))) ≤ length out
-
--- the list of the DLCI's spans is written
-pub record WriteIs (f w : List ℕ) (p : Plan) (out : List ℕ) (u : List ℕ) (r : ℕ) (out′ : List ℕ) : Type 0 where
-  pub writes : Writes out 0 (spanList (spans (all f w p))) r out′
-  pub front : Front (4 * p .held) u w

@@ -1,29 +1,28 @@
 // The pieces of one DLCI split into spans: counted, or written as a list of items.
 //
-// Two words are stored for each piece: which piece of its key came before it, and how many bytes its key holds after it.
-// The buffer of a key is then the last that many bytes of all that came under the key, and is put together where a 3C may
-// close something. No piece of another key is walked.
+// Three words are stored for each piece: which piece of its key came before it, how many bytes its key holds after it, and
+// where its first 3C stands. The buffer of a key is then the last that many bytes of all that came under the key, and is
+// put together where a 3C closes it. No piece of another key is walked, and what counting finds is not searched for again.
 ghost use mathlib.Core.Path.{_≡_};
 ghost use Prim.Native.Nat.{_+_, _-_, _%_, _≤_, _<_, min};
 ghost use lib.ListN.{length, take, drop};
 ghost use lib.Seq.{sets};
-ghost use Rattle.laws.specs.Keys.{eqK};
 ghost use Rattle.laws.specs.Stores.{Writes};
-ghost use Rattle.items.specs.Items.{rxOf};
-ghost use Rattle.search.specs.Seek.{seek};
-ghost use Rattle.spans.specs.Parts.{CountedIs, WroteIs};
+ghost use Rattle.items.specs.Items.{rxOf, spanList};
+ghost use Rattle.spans.specs.Spans.{spans};
 ghost use Rattle.split.specs.Last.{lastn};
-ghost use Rattle.split.specs.Rows.{keyAt, lenAt, inWork, bytesAt, heldOf, streamTo, cappedLength, sign, Laid};
-ghost use Rattle.split.specs.Walks.{Row, LinkRoom, LinkedTo, Chain, Earlier, TwoRows, StartIs, Placed, PutPre, GatherPre, JoinPre, Joined, HoldPre, HeldMore, OpenPre, CountPre, CountHeld, CountAt, CountOn, CountClosed, Stepped, CountIs, WritePre, WriteAt, WriteOn, WroteOn, OutPre, GatherOut, ClosePre, closedItem, WroteStep, ListPre, WriteIs};
+ghost use Rattle.split.specs.Rows.{lenAt, inWork, bytesAt, heldOf, streamTo, cappedLength, sign, all, Laid};
+ghost use Rattle.split.specs.Walks.{Row, LinkRoom, LinkedTo, Chain, Earlier, StartIs, Placed, PutPre, GatherPre, JoinPre, Joined, Noted, OpenPre, Known, CountPre, CountHeld, JoinHeld, Behind, Stepped, CountIs, itemsOf, itemsFrom, WritePre, FirstOut, FirstWrote, RestPre, OutPre, GatherOut, ClosePre, closedItem, ListPre};
 use classes::Rows;
 use classes::link_all;
 use items::Direction;
 use items::put_head;
-use spans::Counted;
+use spans::Scanned;
 use spans::Tally;
-use spans::Wrote;
+use spans::begins;
 use spans::count_part;
 use spans::first_end;
+use spans::scan;
 use spans::write_part;
 use words::copy_to;
 use words::get32;
@@ -31,36 +30,19 @@ use words::get64;
 use words::put_le;
 use words::put32;
 
-// Where the tables lie in work: the pieces, what links them and the lengths held by words, the area by bytes. And the DLCI.
+// Where the tables lie in work: the pieces, what links them, the lengths held and the places of 3C by words, the area by
+// bytes. And the DLCI.
 pub struct Plan {
     pub rows: usize,
     pub n: usize,
     pub chain: usize,
     pub held: usize,
+    pub ends: usize,
     pub area: usize,
     pub dlci: u32,
 }
 
 // ---- the table of pieces
-
-// Whether two pieces have the same DLCI, stretch and direction.
-fn same_key(w: &[u8], p: Plan, i: usize, j: usize) -> bool
-    requires { ⌜ TwoRows (now w) p i j ⌝ }
-    ensures { λ r. ⌜ r ≡ eqK (keyAt (now (w .entry)) p i) (keyAt (now (w .entry)) p j) ⌝ }
-{
-    let a = p.rows + 8 * i;
-    let b = p.rows + 8 * j;
-    if get32(w, a) != get32(w, b) {
-        return false;
-    }
-    if get32(w, a + 1) != get32(w, b + 1) {
-        return false;
-    }
-    if get32(w, a + 2) != get32(w, b + 2) {
-        return false;
-    }
-    get32(w, a + 3) == get32(w, b + 3)
-}
 
 // The length of a piece.
 fn length_of(w: &[u8], p: Plan, i: usize) -> usize
@@ -86,7 +68,7 @@ fn is_joined(w: &[u8], p: Plan, i: usize) -> bool
     get32(w, p.rows + 8 * i + 5) / 65536 == 1
 }
 
-// One more than the piece of its bucket before piece i; 0 if there is none.
+// One more than the piece of its key before piece i; 0 if there is none.
 fn earlier(w: &[u8], p: Plan, i: usize) -> usize
     requires { ⌜ Chain (now w) p i ⌝ }
     ensures { λ r. ⌜ Earlier (now (w .entry)) p i r ⌝ }
@@ -99,15 +81,11 @@ fn held_before(w: &[u8], p: Plan, i: usize) -> usize
     requires { ⌜ Chain (now w) p i ⌝ }
     ensures { λ r. ⌜ r ≡ heldOf (now (w .entry)) p i ⌝ }
 {
-    let mut j = earlier(w, p, i);
-    while 0 < j {
-        let k = j - 1;
-        j = earlier(w, p, k);
-        if same_key(w, p, k, i) {
-            return get32(w, p.held + k) as usize;
-        }
+    let j = earlier(w, p, i);
+    if j == 0 {
+        return 0;
     }
-    0
+    get32(w, p.held + (j - 1)) as usize
 }
 
 // ---- the pieces linked, before all else
@@ -127,17 +105,28 @@ pub fn link_pieces(w: &mut [u8], p: Plan, links: usize)
     link_all(w, x, chain, links + 2 * n);
 }
 
-// The place of the first 3C in a piece; the length of the piece, if it has none.
-fn piece_end(file: &[u8], w: &[u8], p: Plan, i: usize) -> usize
+// ---- the bytes of a piece
+
+// n bytes from a place on.
+fn part(s: &[u8], a: usize, n: usize) -> &[u8]
+    requires { ⌜ a + n ≤ length (now s) ⌝ }
+    ensures { λ r. ⌜ now r ≡ take n (drop a (now (s .entry))) ⌝ }
+{
+    let e = a + n;
+    &s[a..e]
+}
+
+// The bytes of a piece, where they lie: in the file, or in work if it was joined.
+fn piece<'a>(file: &'a [u8], w: &'a [u8], p: Plan, i: usize) -> &'a [u8]
     requires { ⌜ Placed (now file) (now w) p i ⌝ }
-    ensures { λ r. ⌜ r ≡ seek 0x3C (bytesAt (now (file .entry)) (now (w .entry)) p i) ⌝ }
+    ensures { λ r. ⌜ now r ≡ bytesAt (now (file .entry)) (now (w .entry)) p i ⌝ }
 {
     let start = start_of(w, p, i);
-    let end = start + length_of(w, p, i);
+    let n = length_of(w, p, i);
     if is_joined(w, p, i) {
-        return first_end(&w[start..end]);
+        return part(w, start, n);
     }
-    first_end(&file[start..end])
+    part(file, start, n)
 }
 
 // ---- the buffer of a key, put together in the area
@@ -187,13 +176,11 @@ fn gather(file: &[u8], w: &mut [u8], p: Plan, i: usize, h: usize)
     let mut left = h;
     while 0 < left {
         let k = j - 1;
+        let n = length_of(w, p, k);
+        let m = least(left, n);
         j = earlier(w, p, k);
-        if same_key(w, p, k, i) {
-            let n = length_of(w, p, k);
-            let m = least(left, n);
-            put_bytes(file, w, p, k, n - m, m, p.area + left - m);
-            left -= m;
-        }
+        put_bytes(file, w, p, k, n - m, m, p.area + left - m);
+        left -= m;
     }
 }
 
@@ -218,15 +205,13 @@ fn capped(n: usize) -> u32
     n as u32
 }
 
-// Sets the length held after piece i, which comes behind h bytes.
-fn hold_more(w: &mut [u8], p: Plan, i: usize, h: usize) -> u32
-    requires { ⌜ HoldPre (now w) p i h ⌝ }
-    ensures { λ r. ⌜ HeldMore (now (w .entry)) p i h (now (w .exit)) r ⌝ }
+// Stores how much is held after piece i, and where its first 3C stands.
+fn note(w: &mut [u8], p: Plan, i: usize, r: u32, e: u32)
+    requires { ⌜ Row (now w) p i ⌝ }
+    ensures { λ _. ⌜ Noted (now (w .entry)) p i r e (now (w .exit)) ⌝ }
 {
-    let n = length_of(w, p, i);
-    let r = capped(h + n);
     put32(w, p.held + i, r);
-    r
+    put32(w, p.ends + i, e);
 }
 
 // ---- counting
@@ -257,78 +242,51 @@ fn count_open(many: usize, r: u32, h: usize) -> usize
     many + a - b
 }
 
-// Counts the spans that piece i brings, behind the h bytes held.
-fn count_joined(file: &[u8], w: &mut [u8], p: Plan, i: usize, s: Sums, h: usize) -> Sums
-    requires { ⌜ CountHeld (now file) (now w) p i s h ⌝ }
-    ensures { λ r. ⌜ Stepped (now (file .entry)) (now (w .entry)) p i s (now (w .exit)) r ⌝ }
+// Whether closing what is held needs no look at it: nothing is held, or a span has unpacked.
+fn is_known(h: usize, t: Tally) -> bool
+    ensures { λ r. ⌜ Known h t r ⌝ }
 {
+    if h == 0 {
+        return true;
+    }
+    t.frame
+}
+
+// Counts the spans that piece i brings behind the h bytes held, which are put before it if a 3C closes them.
+fn count_joined(file: &[u8], w: &mut [u8], p: Plan, i: usize, h: usize, t: Tally) -> Scanned
+    requires { ⌜ JoinHeld (now file) (now w) p i h t ⌝ }
+    ensures { λ r. ⌜ Behind (now (file .entry)) (now (w .entry)) p i h t (now (w .exit)) r ⌝ }
+{
+    let e = first_end(piece(file, w, p, i));
+    let m = length_of(w, p, i);
+    if e == m {
+        return Scanned {
+            tally: t,
+            end: e,
+            rest: h + m,
+        };
+    }
     let n = join(file, w, p, i, h);
     let area = p.area;
     let end = area + n;
-    let t = s.tally;
     let c = count_part(&w[area..end], t);
-    let r = capped(c.rest);
-    put32(w, p.held + i, r);
     let sum = c.tally;
-    Sums {
+    Scanned {
         tally: sum,
-        unfinished: count_open(s.unfinished, r, h),
+        end: e,
+        rest: c.rest,
     }
 }
 
-// Counts the spans of piece i from a place on, where it lies.
-fn count_at(file: &[u8], w: &[u8], p: Plan, i: usize, skip: usize, t: Tally) -> Counted
-    requires { ⌜ CountAt (now file) (now w) p i skip t ⌝ }
-    ensures { λ r. ⌜ CountedIs (drop skip (bytesAt (now (file .entry)) (now (w .entry)) p i)) t r ⌝ }
+// Counts the spans that piece i brings behind the h bytes held.
+fn count_behind(file: &[u8], w: &mut [u8], p: Plan, i: usize, h: usize, t: Tally) -> Scanned
+    requires { ⌜ CountHeld (now file) (now w) p i h t ⌝ }
+    ensures { λ r. ⌜ Behind (now (file .entry)) (now (w .entry)) p i h t (now (w .exit)) r ⌝ }
 {
-    let start = start_of(w, p, i);
-    let end = start + length_of(w, p, i);
-    let from = start + skip;
-    if is_joined(w, p, i) {
-        return count_part(&w[from..end], t);
+    if is_known(h, t) {
+        return scan(piece(file, w, p, i), h, t);
     }
-    count_part(&file[from..end], t)
-}
-
-// Counts the spans that piece i brings, where t has those that end before a place in it.
-fn count_on(
-    file: &[u8],
-    w: &mut [u8],
-    p: Plan,
-    i: usize,
-    s: Sums,
-    h: usize,
-    t: Tally,
-    skip: usize,
-) -> Sums
-    requires { ⌜ CountOn (now file) (now w) p i s h t skip ⌝ }
-    ensures { λ r. ⌜ Stepped (now (file .entry)) (now (w .entry)) p i s (now (w .exit)) r ⌝ }
-{
-    let c = count_at(file, w, p, i, skip, t);
-    let r = capped(c.rest);
-    put32(w, p.held + i, r);
-    let sum = c.tally;
-    Sums {
-        tally: sum,
-        unfinished: count_open(s.unfinished, r, h),
-    }
-}
-
-// Counts the spans that piece i brings, behind the h bytes held, by a first 3C at e. Once a span unpacks, lengths are enough.
-fn count_closed(file: &[u8], w: &mut [u8], p: Plan, i: usize, s: Sums, h: usize, e: usize) -> Sums
-    requires { ⌜ CountClosed (now file) (now w) p i s h e ⌝ }
-    ensures { λ r. ⌜ Stepped (now (file .entry)) (now (w .entry)) p i s (now (w .exit)) r ⌝ }
-{
-    let t = s.tally;
-    if t.frame {
-        let more = Tally {
-            count: t.count + 1,
-            bytes: t.bytes + 15 + h + e,
-            frame: true,
-        };
-        return count_on(file, w, p, i, s, h, more, e + 1);
-    }
-    count_joined(file, w, p, i, s, h)
+    count_joined(file, w, p, i, h, t)
 }
 
 // Counts the spans that piece i brings.
@@ -338,16 +296,12 @@ fn count_piece(file: &[u8], w: &mut [u8], p: Plan, i: usize, s: Sums) -> Sums
 {
     let h = held_before(w, p, i);
     let t = s.tally;
-    if h == 0 {
-        return count_on(file, w, p, i, s, h, t, 0);
-    }
-    let e = piece_end(file, w, p, i);
-    if e < length_of(w, p, i) {
-        return count_closed(file, w, p, i, s, h, e);
-    }
-    let r = hold_more(w, p, i, h);
+    let c = count_behind(file, w, p, i, h, t);
+    let r = capped(c.rest);
+    note(w, p, i, r, c.end as u32);
+    let sum = c.tally;
     Sums {
-        tally: t,
+        tally: sum,
         unfinished: count_open(s.unfinished, r, h),
     }
 }
@@ -392,56 +346,10 @@ fn direction_of(word: u32) -> Direction
     Direction::Tx
 }
 
-// Writes the spans of piece i from a place on, where it lies.
-fn write_at(
-    file: &[u8],
-    w: &[u8],
-    p: Plan,
-    i: usize,
-    skip: usize,
-    direction: Direction,
-    ms: u64,
-    out: &mut [u8],
-    at: usize,
-) -> Wrote
-    requires { ⌜ WriteAt (now file) (now w) p i skip (rxOf direction) ms (now out) at ⌝ }
-    ensures { λ r. ⌜ WroteIs (drop skip (bytesAt (now (file .entry)) (now (w .entry)) p i)) (rxOf direction) ms (now (out .entry)) at r (now (out .exit)) ⌝ }
-{
-    let start = start_of(w, p, i);
-    let end = start + length_of(w, p, i);
-    let from = start + skip;
-    if is_joined(w, p, i) {
-        return write_part(&w[from..end], direction, ms, out, at);
-    }
-    write_part(&file[from..end], direction, ms, out, at)
-}
-
-// Writes the spans that piece i brings from a place in it on, where those that end before it are written.
-fn write_on(
-    file: &[u8],
-    w: &mut [u8],
-    p: Plan,
-    i: usize,
-    out: &mut [u8],
-    at: usize,
-    skip: usize,
-) -> usize
-    requires { ⌜ WriteOn (now file) (now w) p i (now out) at skip ⌝ }
-    ensures { λ r. ⌜ WroteOn (now (file .entry)) (now (w .entry)) p i (now (out .entry)) at skip (now (w .exit)) r (now (out .exit)) ⌝ }
-{
-    let row = p.rows + 8 * i;
-    let direction = direction_of(get32(w, row + 1));
-    let ms = get64(w, row + 6);
-    let c = write_at(file, w, p, i, skip, direction, ms, out, at);
-    let r = capped(c.rest);
-    put32(w, p.held + i, r);
-    c.at
-}
-
 // Copies m bytes of piece j, from skip on, to a place in out.
-fn put_out(
-    file: &[u8],
-    w: &[u8],
+fn put_out<'a>(
+    file: &'a [u8],
+    w: &'a [u8],
     p: Plan,
     j: usize,
     skip: usize,
@@ -452,17 +360,19 @@ fn put_out(
     requires { ⌜ OutPre (now file) (now w) p j skip m (now out) to ⌝ }
     ensures { λ _. ⌜ now (out .exit) ≡ sets (now (out .entry)) to (take m (drop skip (bytesAt (now (file .entry)) (now (w .entry)) p j))) ⌝ }
 {
-    let start = start_of(w, p, j) + skip;
-    let end = start + m;
-    if is_joined(w, p, j) {
-        copy_to(&w[start..end], out, to);
-        return;
-    }
-    copy_to(&file[start..end], out, to);
+    copy_to(part(piece(file, w, p, j), skip, m), out, to);
 }
 
 // Puts the last h bytes of what came under the key of i before i to a place in out: piece by piece, the newest first.
-fn gather_out(file: &[u8], w: &[u8], p: Plan, i: usize, h: usize, out: &mut [u8], at: usize)
+fn gather_out<'a>(
+    file: &'a [u8],
+    w: &'a [u8],
+    p: Plan,
+    i: usize,
+    h: usize,
+    out: &mut [u8],
+    at: usize,
+)
     requires { ⌜ GatherOut (now file) (now w) p i h (now out) at ⌝ }
     ensures { λ _. ⌜ now (out .exit) ≡ sets (now (out .entry)) at (lastn h (streamTo (now (file .entry)) (now (w .entry)) p i)) ⌝ }
 {
@@ -470,13 +380,11 @@ fn gather_out(file: &[u8], w: &[u8], p: Plan, i: usize, h: usize, out: &mut [u8]
     let mut left = h;
     while 0 < left {
         let k = j - 1;
+        let n = length_of(w, p, k);
+        let m = least(left, n);
         j = earlier(w, p, k);
-        if same_key(w, p, k, i) {
-            let n = length_of(w, p, k);
-            let m = least(left, n);
-            put_out(file, w, p, k, n - m, m, out, at + left - m);
-            left -= m;
-        }
+        put_out(file, w, p, k, n - m, m, out, at + left - m);
+        left -= m;
     }
 }
 
@@ -491,9 +399,9 @@ fn kind_of(word: u32) -> u16
 }
 
 // Writes the span of the h bytes held and the first k bytes of piece i.
-fn write_closed(
-    file: &[u8],
-    w: &[u8],
+fn write_closed<'a>(
+    file: &'a [u8],
+    w: &'a [u8],
     p: Plan,
     i: usize,
     out: &mut [u8],
@@ -515,28 +423,82 @@ fn write_closed(
     rest + k
 }
 
-// Writes the spans that piece i brings.
-fn write_piece(file: &[u8], w: &mut [u8], p: Plan, i: usize, out: &mut [u8], at: usize) -> usize
-    requires { ⌜ WritePre (now file) (now w) p i (now out) at ⌝ }
-    ensures { λ r. ⌜ WroteStep (now (file .entry)) (now (w .entry)) p i (now (out .entry)) at (now (w .exit)) r (now (out .exit)) ⌝ }
+// Where the list goes on, and from where on in the piece.
+struct Onward {
+    at: usize,
+    skip: usize,
+}
+
+// Writes the span that the first 3C of piece i closes, at e.
+fn write_first<'a>(
+    file: &'a [u8],
+    w: &'a [u8],
+    p: Plan,
+    i: usize,
+    out: &mut [u8],
+    at: usize,
+    e: usize,
+) -> Onward
+    requires { ⌜ FirstOut (now file) (now w) p i (now out) at e ⌝ }
+    ensures { λ r. ⌜ FirstWrote (now (file .entry)) (now (w .entry)) p i (now (out .entry)) at r (now (out .exit)) ⌝ }
 {
     let h = held_before(w, p, i);
-    if h == 0 {
-        return write_on(file, w, p, i, out, at, 0);
+    if begins(piece(file, w, p, i), h) {
+        let k = e + 1;
+        let to = write_closed(file, w, p, i, out, at, h, k);
+        return Onward { at: to, skip: k };
     }
-    let e = piece_end(file, w, p, i);
-    if e < length_of(w, p, i) {
-        let to = write_closed(file, w, p, i, out, at, h, e + 1);
-        return write_on(file, w, p, i, out, to, e + 1);
+    Onward { at: at, skip: 0 }
+}
+
+// Writes the spans of piece i from a place on. What its key holds after it needs no look.
+fn write_rest<'a>(
+    file: &'a [u8],
+    w: &'a [u8],
+    p: Plan,
+    i: usize,
+    out: &mut [u8],
+    at: usize,
+    skip: usize,
+) -> usize
+    requires { ⌜ RestPre (now file) (now w) p i (now out) at skip ⌝ }
+    ensures { λ r. ⌜ Writes (now (out .entry)) at (itemsFrom (now (file .entry)) (now (w .entry)) p i skip) r (now (out .exit)) ⌝ }
+{
+    let n = length_of(w, p, i) - skip;
+    if n == get32(w, p.held + i) as usize {
+        return at;
     }
-    hold_more(w, p, i, h);
-    at
+    let row = p.rows + 8 * i;
+    let direction = direction_of(get32(w, row + 1));
+    let ms = get64(w, row + 6);
+    let c = write_part(part(piece(file, w, p, i), skip, n), direction, ms, out, at);
+    c.at
+}
+
+// Writes the spans that piece i brings.
+fn write_piece<'a>(
+    file: &'a [u8],
+    w: &'a [u8],
+    p: Plan,
+    i: usize,
+    out: &mut [u8],
+    at: usize,
+) -> usize
+    requires { ⌜ WritePre (now file) (now w) p i (now out) at ⌝ }
+    ensures { λ r. ⌜ Writes (now (out .entry)) at (itemsOf (now (file .entry)) (now (w .entry)) p i) r (now (out .exit)) ⌝ }
+{
+    let e = get32(w, p.ends + i) as usize;
+    if e == length_of(w, p, i) {
+        return at;
+    }
+    let f = write_first(file, w, p, i, out, at, e);
+    write_rest(file, w, p, i, out, f.at, f.skip)
 }
 
 // Writes the list of the DLCI's spans, and returns its length.
-pub fn write_spans(file: &[u8], w: &mut [u8], p: Plan, out: &mut [u8]) -> usize
+pub fn write_spans<'a>(file: &'a [u8], w: &'a [u8], p: Plan, out: &mut [u8]) -> usize
     requires { ⌜ ListPre (now file) (now w) p (now out) ⌝ }
-    ensures { λ r. ⌜ WriteIs (now (file .entry)) (now (w .entry)) p (now (out .entry)) (now (w .exit)) r (now (out .exit)) ⌝ }
+    ensures { λ r. ⌜ Writes (now (out .entry)) 0 (spanList (spans (all (now (file .entry)) (now (w .entry)) p))) r (now (out .exit)) ⌝ }
 {
     let n = p.n;
     let rows = p.rows;

@@ -40,7 +40,7 @@ within-more f w at a b h i = record { inside = more (eqb (word w (at + 5) / 6553
 
 linked-any : (w : List ℕ) (q n d : ℕ) → Linked w (planOf q n 0) → Linked w (planOf q n d)
 unfolding planOf keyAt tailAt
-linked-any w q n d l = record { bucket = l .bucket; chained = l .chained }
+linked-any w q n d l = record { before = l .before }
 
 module _ (f w : List ℕ) (n : ℕ) (ready : Ready f w n) where
   t : Tabled f w n
@@ -52,6 +52,7 @@ module _ (f w : List ℕ) (n : ℕ) (ready : Ready f w n) where
     rows = omega (arith, t .few);
     chain = omega arith;
     linked = linked-any w (length f / 4) n d (ready .linked);
+    ends = omega arith;
     area = omega (arith, t .few);
     many = omega (arith, t .few, t .small);
     sum = omega (arith, t .few, t .small);
@@ -116,7 +117,9 @@ choosing-start f w n channel =
 module _ (f w₀ : List ℕ) (n : ℕ) (channel : Channel) (w tried : List ℕ) (i : ℕ) (v : Choosing f w₀ n channel w tried i) where
   pub choosing-end : n ≤ i → Chooses f w₀ n channel w Nothing
   unfolding first piecesFrom choiceOf
-  choosing-end h = let z : n - i ≡ 0 = omega arith in record { chooses = rw (← (rw z at (v .same))); front = v .front }
+  choosing-end h =
+      let z : n - i ≡ 0 = omega arith in
+      record { chooses = rw (← (rw z at (v .same))); front = v .front; told = λ s e. (let y : _≡_ {A = ℕ} 0 1 = cc in absurd (omega arith)) }
 
   module _ (t : Ready f w₀ n) (h : i < n) (d : ℕ) (ed : d ≡ word w (5 * (length f / 4) + 8 * i)) where
     mine : word w₀ (5 * (length f / 4) + 8 * i) ≡ d
@@ -166,11 +169,12 @@ module _ (f w₀ : List ℕ) (n : ℕ) (channel : Channel) (w tried : List ℕ) 
                 (fit false (has-is ∙ g)))
 
             pub choosing-found : s .tally .frame ≡ true → Chooses f w₀ n channel u (Chosen (record { dlci = d; spans = s .tally .count; bytes = s .tally .bytes; unfinished = s .unfinished }))
-            unfolding choiceOf streamOf
+            unfolding choiceOf streamOf planOf
             choosing-found g =
                 let a : all f w p ≡ onDlci d (tablePieces f w₀ n) = all-same f w₀ n t w (v .front) p d ep in
                 let o : chosen (channelOf channel) (tablePieces f w₀ n) ≡ some d = sym (v .same) ∙ more ∙ rw (fit true (has-is ∙ g)) in
                 record {
                   chooses = rw (o, c .count, c .bytes, c .live, a);
                   front = front-then (below f n) u w w₀ (front-plan f u w n d p ep (c .front)) (v .front);
+                  told = λ s e. (let y : s .dlci ≡ d = cc in rw y (rw ep at (c .told)));
                 }

@@ -14,7 +14,7 @@ use Rattle.rfcomm.specs.PieceTable.{infosOf}
 use Rattle.rfcomm.specs.PieceRows.{pieces-front, infos-front, within-front}
 use Rattle.spans.specs.Spans.{spans, unfinished, onDlci}
 use Rattle.split.specs.Rows.{all}
-use Rattle.split.specs.Walks.{ListPre, WriteIs, LinkRoom, LinkedTo}
+use Rattle.split.specs.Walks.{ListPre, LinkRoom, LinkedTo}
 use Rattle.split.specs.declared.Plan.{Plan}
 use Rattle.outcome.specs.Import.{chosen, listed, given}
 use Rattle.streams.specs.Streams.{channelOf, planOf, tablePieces, Tabled, Ready, below, streamOf, choiceOf, Chooses, told, ListsSpans}
@@ -24,7 +24,7 @@ use Rattle.streams.specs.declared.Choice.{Choice}
 use Rattle.streams.specs.declared.Choice.the-variants.{Nothing, Chosen}
 use Rattle.streams.specs.declared.Listed.{Listed}
 use Rattle.streams.specs.declared.Listed.the-variants.{NoStream, OutShort, Spans}
-use Rattle.streams.proofs.Choosing.{laid-later, all-same, front-plan}
+use Rattle.streams.proofs.Choosing.{laid-later, all-same}
 
 low : (f : List ℕ) (n : ℕ) (u w : List ℕ) → Front (below f n) u w → Front (24 * (length f / 4)) u w
 low f n u w s = front-less (24 * (length f / 4)) (below f n) u w (omega arith) s
@@ -70,16 +70,18 @@ module _ (f w : List ℕ) (n : ℕ) (channel : Channel) (u : List ℕ) (c : Choi
 
     module _ (t : Ready f w n) (h : s .bytes ≤ length out) (k : length u ≡ length w) (p : Plan) (ep : p ≡ planOf (length f / 4) n (s .dlci)) where
       pub lists-pre : ListPre f u p out
-      lists-pre = record { laid = laid-later f w n t u (q .front) k p (s .dlci) ep; room = rw (all-same f w n t u (q .front) p (s .dlci) ep) (omega (arith, needed)) }
+      unfolding planOf
+      lists-pre = record {
+        laid = laid-later f w n t u (q .front) k p (s .dlci) ep;
+        told = rw ep (q .told s e);
+        room = rw (all-same f w n t u (q .front) p (s .dlci) ep) (omega (arith, needed));
+      }
 
-      pub lists-all : (v : List ℕ) (r : ℕ) (out′ : List ℕ) → WriteIs f u p out v r out′ → ListsSpans f w n channel out (Spans s) v out′
+      pub lists-all : (r : ℕ) (out′ : List ℕ) → Writes out 0 (spanList (spans (all f u p))) r out′ → ListsSpans f w n channel out (Spans s) u out′
       unfolding told
-      lists-all v r out′ y =
-          let x : Writes out 0 list r out′ = rw (all-same f w n t u (q .front) p (s .dlci) ep) at (y .writes) in
-          record {
-            meets = λ tail. meets-wrote _ out _ list r out′ (gives-list tail) (omega (arith, needed)) x;
-            front = low f n v w (front-then (below f n) v u w (front-plan f v u n (s .dlci) p ep (y .front)) (q .front));
-          }
+      lists-all r out′ y =
+          let x : Writes out 0 list r out′ = rw (all-same f w n t u (q .front) p (s .dlci) ep) at y in
+          record { meets = λ tail. meets-wrote _ out _ list r out′ (gives-list tail) (omega (arith, needed)) x; front = low f n u w (q .front) }
 
 -- ---- the pieces linked first
 

@@ -11,6 +11,7 @@ use Rattle.rfcomm.specs.Pieces.{Piece}
 use Rattle.rfcomm.specs.PieceTable.{piecesFrom, Pieced}
 use Rattle.spans.specs.Spans.{spans, unfinished, onDlci}
 use Rattle.split.specs.Rows.{Linked}
+use Rattle.split.specs.Walks.{AllTold}
 use Rattle.split.specs.declared.Plan.{Plan}
 use Rattle.outcome.specs.Import.{chosen, listed, given}
 use Rattle.streams.specs.declared.Channel.{Channel}
@@ -27,10 +28,10 @@ channelOf (Only c) = some c
 
 -- ---- the table of pieces in work
 
--- for a file of 4 * q bytes or a little more: the pieces from word 5 * q on, from word 6 * q on what links them and then the lengths held,
--- and from byte 28 * q on what a key holds
+-- for a file of 4 * q bytes or a little more: the pieces from word 5 * q on, from word 6 * q on what links them, then the lengths held and
+-- the places of 3C, and from byte 28 * q on what a key holds
 unfoldable pub planOf : ℕ → ℕ → ℕ → Plan
-planOf q n d = record { rows = 5 * q; n = n; chain = 6 * q; held = 6 * q + n; area = 28 * q; dlci = d }
+planOf q n d = record { rows = 5 * q; n = n; chain = 6 * q; held = 6 * q + n; ends = 6 * q + 2 * n; area = 28 * q; dlci = d }
 
 -- the pieces that the table holds
 abbrev pub tablePieces : List ℕ → List ℕ → ℕ → List Piece
@@ -66,9 +67,11 @@ unfoldable pub choiceOf : List Piece → Option ℕ → Choice
 choiceOf ps none = Nothing
 choiceOf ps (some d) = Chosen (streamOf ps d)
 
+-- and work has the words of the DLCI chosen
 pub record Chooses (f w : List ℕ) (n : ℕ) (channel : Channel) (u : List ℕ) (r : Choice) : Type 0 where
   pub chooses : r ≡ choiceOf (tablePieces f w n) (chosen (channelOf channel) (tablePieces f w n))
   pub front : Front (below f n) u w
+  pub told : (s : Stream) → r ≡ Chosen s → AllTold f u (planOf (length f / 4) n (s .dlci)) n
 
 -- ---- the list
 

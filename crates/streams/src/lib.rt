@@ -71,6 +71,7 @@ pub fn plan(q: usize, n: usize, dlci: u32) -> Plan
         n: n,
         chain: 6 * q,
         held: 6 * q + n,
+        ends: 6 * q + 2 * n,
         area: 28 * q,
         dlci: dlci,
     }

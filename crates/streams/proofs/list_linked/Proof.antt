@@ -59,7 +59,7 @@ same-length-4 c = search needs
 
 -- src/lib.rt:117:1
 returns-3 : tie.Need-returns-3
-returns-3 c = lists-all _ _ _ _ _ _ (c .before .before .before .before .before .before .before .before .before .before .before .before .before .before .before .before .choose-dlci .ensures) (c .before .before .before .before .before .before .before .before .before .before .before .before .before .before .before .before .before .before .before .before .before .args .out .now) _ (c .before .before .before .before .before .before .before .before .before .before .before .before .c .given .1) (c .before .before .before .before .before .before .before .before .before .before .before .before .before .before .before .before .before .before .before .before .before .pre) (c .before .before .before .before .before .before .before .before .before .if1 .left) (omega arith) _ (c .before .before .before .before .before .before .before .plan .ensures) _ _ _ (c .before .before .before .before .write-spans .ensures)
+returns-3 c = lists-all _ _ _ _ _ _ (c .before .before .before .before .before .before .before .before .before .before .before .before .before .before .choose-dlci .ensures) (c .before .before .before .before .before .before .before .before .before .before .before .before .before .before .before .before .before .before .before .args .out .now) _ (c .before .before .before .before .before .before .before .before .before .before .c .given .1) (c .before .before .before .before .before .before .before .before .before .before .before .before .before .before .before .before .before .before .before .pre) (c .before .before .before .before .before .before .before .if1 .left) (omega arith) _ (c .before .before .before .before .before .plan .ensures) _ _ (c .before .before .write-spans .ensures)
 
 pub list-linked-spec : {M : Type 1} → statement M
 list-linked-spec =

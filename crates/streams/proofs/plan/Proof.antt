@@ -27,10 +27,22 @@ add-t7 c = search needs
 mul-t8 : tie.Need-mul-t8
 mul-t8 c = search needs
 
+-- src/lib.rt:74:23
+mul-t9 : tie.Need-mul-t9
+mul-t9 c = search needs
+
+-- src/lib.rt:74:15
+add-t10 : tie.Need-add-t10
+add-t10 c = search needs
+
+-- src/lib.rt:75:15
+mul-t11 : tie.Need-mul-t11
+mul-t11 c = search needs
+
 -- src/lib.rt:65:1
 returns : tie.Need-returns
 unfolding planOf
 returns c = refl
 
 pub plan-spec : {M : Type 1} → statement M
-plan-spec = tie.close (tie.spec mul-t4 mul-t5 mul-t6 add-t7 mul-t8 returns)
+plan-spec = tie.close (tie.spec mul-t4 mul-t5 mul-t6 add-t7 mul-t8 mul-t9 add-t10 mul-t11 returns)

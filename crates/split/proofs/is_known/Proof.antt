@@ -1,0 +1,18 @@
+use Rattle.split.proofs.Counting.{known-none, known-frame}
+use native.Mathlib.Omega.{arith}
+use borrow.Author.Needs.{needs}
+use Rattle.split.proofs.is_known.Statement.{statement}
+use Rattle.split.proofs.is_known.Tie as tie
+use Rattle.split.proofs.is_known.Reads as reads
+use Rattle.split.proofs.is_known.Lts as lts
+
+-- src/lib.rt:250:9
+returns : tie.Need-returns
+returns c = search known-none
+
+-- src/lib.rt:246:1
+returns-2 : tie.Need-returns-2
+returns-2 c = search needs
+
+pub is-known-spec : {M : Type 1} → statement M
+is-known-spec = tie.close (tie.spec returns returns-2)
