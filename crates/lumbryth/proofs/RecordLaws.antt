@@ -7,7 +7,9 @@ use lib.Seq.{sets}
 use Rattle.laws.specs.Answers.{refused}
 use Rattle.btsnoop.specs.Listing.{listing, startsOf, toldListed, Lists}
 use Rattle.btsnoop.specs.declared.Listed.{Listed}
-use Rattle.telling.specs.Telling.{stored, Tells}
+use Rattle.telling.specs.Telling.{numberOf, valuesOf, stored, Shows, Tells}
+use Rattle.telling.specs.declared.Shown.{Shown}
+use Rattle.telling.proofs.TellLaws.{told-as}
 use Rattle.lumbryth.specs.RecordCalls.{RecordsCalls}
 
 -- a refusal leaves the list as it was
@@ -29,5 +31,7 @@ sets-stored [] d = refl
 sets-stored (y ∷ l) [] = sets-none l 1
 sets-stored (y ∷ l) (x ∷ d) = sets-later l y d 0 ∙ ap (λ (t : List ℕ). y ∷ t) (sets-stored l d)
 
-pub records-calls : (f d : List ℕ) (l : Listed) (d′ : List ℕ) → Lists f d l d′ → (v : List ℕ) (r : ℕ) (v′ : List ℕ) → Tells (toldListed l) v r v′ → RecordsCalls f d v r d′ v′
-records-calls f d l d′ m v r v′ t = record { tells = rw (m .answers) at t; starts = m .writes ∙ sets-stored (startsOf f) d }
+pub records-calls :
+    (f d : List ℕ) (l : Listed) (d′ : List ℕ) → Lists f d l d′ → (s : Shown) → Shows (numberOf (toldListed l)) (valuesOf (toldListed l)) s →
+    (v : List ℕ) (r : ℕ) (v′ : List ℕ) → Tells s v r v′ → RecordsCalls f d v r d′ v′
+records-calls f d l d′ m s p v r v′ t = record { tells = told-as (toldListed l) (listing f) (m .answers) s p v r v′ t; starts = m .writes ∙ sets-stored (startsOf f) d }

@@ -1,6 +1,6 @@
 -- What a caller gets of an import with a lent list of stretches.
 use Prim.Native.Nat.{ℕ}
-use mathlib.Core.Path.{_≡_, ap, subst, _∙_}
+use mathlib.Core.Path.{_≡_, ap, _∙_}
 use mathlib.Core.Bool.{true}
 use mathlib.Core.List.{List}
 use lib.ListN.{length}
@@ -8,25 +8,11 @@ use Rattle.laws.specs.Choice.{splitB, no-way}
 use Rattle.btsnoop.specs.Records.{btsnoop}
 use Rattle.outcome.specs.Import.{Options, fits, workSuffices, placesSuffice, imported, importedIn}
 use Rattle.outcome.proofs.Import.{same-in}
-use Rattle.capture.specs.Calls.{toldImported}
-use Rattle.capture.specs.declared.Imported.{Imported}
-use Rattle.places.specs.Places.{suffices, ImportsIn}
+use Rattle.imports.specs.Places.{suffices, ToldIn}
 use Rattle.stretches.specs.Filled.{filled}
 use Rattle.stretches.specs.declared.Stretch.{Stretch}
-use Rattle.telling.specs.Telling.{Tells}
 use Rattle.lumbryth.specs.Imports.{ImportCalls}
-use Rattle.lumbryth.specs.Stretches.{ToldIn, StretchCalls}
-
-pub told-in :
-    (f w : List ℕ) (places : ℕ) (out : List ℕ) (o o′ : Options) → o ≡ o′ → (i : Imported) (listed : ℕ) (w′ out′ : List ℕ) → ImportsIn f w places o out i listed w′ out′ →
-    (v : List ℕ) (r : ℕ) (v′ : List ℕ) → Tells (toldImported i) v r v′ → ToldIn f w places out o′ v r listed w′ out′ v′
-told-in f w places out o o′ e i listed w′ out′ m v r v′ s = subst (λ (z : Options). ToldIn f w places out z v r listed w′ out′ v′) e (record {
-  calls = record { writes = m .meets .writes; tells = rw (m .meets .answers) at s };
-  spared = m .spared;
-  none = m .none;
-  few = m .few;
-  cut = λ h. rw (m .meets .answers) at (m .cut h);
-})
+use Rattle.lumbryth.specs.Stretches.{StretchCalls}
 
 pub stretch-calls :
     (f w : List ℕ) (s : List Stretch) (out : List ℕ) (o : Options) (v : List ℕ) (r listed : ℕ) (w′ out′ v′ : List ℕ) → ToldIn f w (length s) out o v r listed w′ out′ v′ →

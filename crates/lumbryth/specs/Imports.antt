@@ -1,15 +1,13 @@
--- Import over the C interface: options by number.
+-- Directions, tests and import over the C interface.
 use Prim.Native.Nat.{ℕ}
 use mathlib.Core.Path.{_≡_}
 use mathlib.Core.Bool.{Bool, true, false, cond, _&&_}
-use mathlib.Core.List.{List, [], _∷_}
-use mathlib.Core.Option.{Option, none, some}
-use lib.ListN.{length, getD}
-use lib.Dec.{leb, eqb}
+use mathlib.Core.List.{List}
+use lib.ListN.{length}
+use lib.Dec.{eqb}
 use Rattle.laws.specs.Answers.{answer}
 use Rattle.btsnoop.specs.Records.{btsnoop}
-use Rattle.channels.specs.Tried.{source}
-use Rattle.outcome.specs.Import.{Tail, strict, tolerant, Options, fits, workSuffices, imported}
+use Rattle.outcome.specs.Import.{Options, fits, workSuffices, imported}
 use Rattle.cut.specs.Claim.{CutClaim}
 use Rattle.telling.specs.Telling.{Calls}
 
@@ -20,22 +18,6 @@ bit false = 0
 -- 1 is Rx, any other Tx
 unfoldable pub wayOf : ℕ → ℕ
 wayOf way = cond (eqb way 1) 1 0
-
--- over 255 is any
-unfoldable pub channelNumber : ℕ → Option ℕ
-channelNumber n = cond (leb n 255) (some n) none
-
--- 0 is strict, any other tolerant
-unfoldable pub tailNumber : ℕ → Tail
-tailNumber n = cond (eqb n 0) strict tolerant
-
--- The options in a list of numbers: the channel, the tail rule. What a list lacks has its default: any channel, strict.
-abbrev pub optionsIn : List ℕ → Options
-optionsIn l = record { channel = channelNumber (getD l 0 256); tail = tailNumber (getD l 1 0); rule = source }
-
--- those of the calls that take two numbers
-abbrev pub optionsNumber : ℕ → ℕ → Options
-optionsNumber channel tail = optionsIn (channel ∷ tail ∷ [])
 
 -- Answer and output by the definition; work is unchanged after 1 and 2; and the claim of the cut.
 pub record ImportCalls (f w out : List ℕ) (o : Options) (v : List ℕ) (r : ℕ) (w′ out′ v′ : List ℕ) : Type 0 where

@@ -3,9 +3,9 @@ use Prim.Native.Nat.{ℕ}
 use mathlib.Core.Path.{_≡_}
 use mathlib.Core.List.{List}
 use Rattle.btsnoop.specs.Listing.{listing, startsOf}
-use Rattle.telling.specs.Telling.{stored, Tells}
+use Rattle.telling.specs.Telling.{stored, Told}
 
 -- the answer, told; and where each record starts, as many as the list d has room for: nothing after a refusal
 pub record RecordsCalls (f d v : List ℕ) (r : ℕ) (d′ v′ : List ℕ) : Type 0 where
-  pub tells : Tells (listing f) v r v′
+  pub tells : Told (listing f) v r v′
   pub starts : d′ ≡ stored (startsOf f) d

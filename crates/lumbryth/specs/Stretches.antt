@@ -1,5 +1,5 @@
 -- Import with a lent list of stretches, over the C interface.
-use Prim.Native.Nat.{ℕ, _≤_}
+use Prim.Native.Nat.{ℕ}
 use mathlib.Core.Path.{_≡_}
 use mathlib.Core.Bool.{true, false}
 use mathlib.Core.List.{List}
@@ -8,17 +8,9 @@ use Rattle.laws.specs.Answers.{answer}
 use Rattle.btsnoop.specs.Records.{btsnoop}
 use Rattle.outcome.specs.Import.{Options, placesSuffice, importedIn}
 use Rattle.cut.specs.Claim.{CutClaim}
-use Rattle.places.specs.Places.{suffices}
+use Rattle.imports.specs.Places.{suffices}
 use Rattle.stretches.specs.declared.Stretch.{Stretch}
 use Rattle.telling.specs.Telling.{Calls}
-
--- The same as below, with how many stretches are listed in work.
-pub record ToldIn (f w : List ℕ) (places : ℕ) (out : List ℕ) (o : Options) (v : List ℕ) (r listed : ℕ) (w′ out′ v′ : List ℕ) : Type 0 where
-  pub calls : Calls (importedIn btsnoop f (length w) places o) out out′ v r v′
-  pub spared : suffices f (length w) places ≡ false → w′ ≡ w
-  pub none : suffices f (length w) places ≡ false → listed ≡ 0
-  pub few : listed ≤ places
-  pub cut : placesSuffice f places ≡ true → CutClaim btsnoop f (length w) o out (answer (importedIn btsnoop f (length w) places o) (length out)) out′
 
 -- Answer and output by the definition; work and stretches are unchanged after 1 and 2; and with enough places the claim of the cut.
 pub record StretchCalls (f w : List ℕ) (s : List Stretch) (out : List ℕ) (o : Options) (v : List ℕ) (r : ℕ) (w′ : List ℕ) (s′ : List Stretch) (out′ v′ : List ℕ) : Type 0 where

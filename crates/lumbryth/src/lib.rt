@@ -1,29 +1,27 @@
 // The proved calls for C and Rust. A call returns 0, or document 01's number of the refusal; as many of the values that it
 // answers, or that the refusal carries, as the list lent for them has room for are stored at its front.
 ghost use mathlib.Core.Path.{_≡_};
-ghost use lib.ListN.{getD};
-ghost use Rattle.capture.specs.Calls.{toldImported};
-ghost use Rattle.capture.specs.Options.{tailOf, optionsOf};
 ghost use Rattle.fixtures.specs.Plan.{planOf};
 ghost use Rattle.items.specs.Items.{rxOf};
 ghost use Rattle.mdr.specs.Frame.{unpackOf, packOf};
 ghost use Rattle.names.specs.Commands.{isCommandName};
 ghost use Rattle.names.specs.Names.{fixtureName};
 ghost use Rattle.order.specs.Order.{captureOrder};
-ghost use Rattle.streams.specs.Streams.{channelOf};
-ghost use Rattle.telling.specs.Telling.{Calls, Tells};
-ghost use Rattle.lumbryth.specs.Imports.{bit, wayOf, channelNumber, tailNumber, optionsIn, optionsNumber, ImportCalls};
+ghost use Rattle.imports.specs.Numbers.{optionsIn, optionsNumber};
+ghost use Rattle.telling.specs.Telling.{Calls};
+ghost use Rattle.lumbryth.specs.Imports.{bit, wayOf, ImportCalls};
 ghost use Rattle.lumbryth.specs.RecordCalls.{RecordsCalls};
-ghost use Rattle.lumbryth.specs.Stretches.{ToldIn, StretchCalls};
+ghost use Rattle.lumbryth.specs.Stretches.{StretchCalls};
+use imports::import_told;
+use imports::options_in;
+use imports::shown_imported;
+use telling::shown_listed;
 use telling::shown_named;
 use telling::shown_ordered;
 use telling::shown_packed;
 use telling::shown_planned;
 use telling::shown_unpacked;
-use telling::store;
-use telling::store_five;
-use telling::tell_one;
-use telling::tell_records;
+use telling::tell;
 
 // Reads one frame, and writes its payload to the front of out. Values: type, sequence number, payload length.
 #[no_mangle]
@@ -32,8 +30,7 @@ pub extern "C" fn lumbryth_unpack(wire: &[u8], out: &mut [u8], values: &mut [u64
 {
     let u = mdr::unpack(wire, out);
     let s = shown_unpacked(u);
-    store(values, s.count, s.a, s.b, s.c);
-    s.number
+    tell(s, values)
 }
 
 // Writes a frame to the front of out. Value: the wire's length.
@@ -49,8 +46,7 @@ pub extern "C" fn lumbryth_pack(
 {
     let p = mdr::pack(kind, seq, payload, out);
     let s = shown_packed(p);
-    store(values, s.count, s.a, s.b, s.c);
-    s.number
+    tell(s, values)
 }
 
 // Which way a frame went, by number: 1 is Rx, any other Tx.
@@ -78,8 +74,7 @@ pub extern "C" fn lumbryth_fixture_name(
     let direction = direction_of(way);
     let n = names::fixture_name(ms, counter, direction, wire, out);
     let s = shown_named(n);
-    store(values, s.count, s.a, s.b, s.c);
-    s.number
+    tell(s, values)
 }
 
 // 1 if either table has the name, else 0.
@@ -105,8 +100,7 @@ pub extern "C" fn lumbryth_plan(
 {
     let p = fixtures::plan(spans, excluded, out);
     let s = shown_planned(p);
-    store(values, s.count, s.a, s.b, s.c);
-    s.number
+    tell(s, values)
 }
 
 // Writes a list of names in the order of their frames to the front of out. Value: its length.
@@ -116,76 +110,7 @@ pub extern "C" fn lumbryth_capture_order(names: &[u8], out: &mut [u8], values: &
 {
     let o = order::capture_order(names, out);
     let s = shown_ordered(o);
-    store(values, s.count, s.a, s.b, s.c);
-    s.number
-}
-
-// The channel by number: over 255 is any.
-fn channel_of(channel: u64) -> streams::Channel
-    ensures { λ r. ⌜ channelOf r ≡ channelNumber channel ⌝ }
-{
-    if channel <= 255 {
-        return streams::Channel::Only(channel as u8);
-    }
-    streams::Channel::Any
-}
-
-// The tail rule by number: 0 is strict, any other tolerant.
-fn tail_of(tolerant: u64) -> capture::Tail
-    ensures { λ r. ⌜ tailOf r ≡ tailNumber tolerant ⌝ }
-{
-    if tolerant == 0 {
-        return capture::Tail::Strict;
-    }
-    capture::Tail::Tolerant
-}
-
-// The number at a place of the list, or its default where the list is shorter.
-fn option_at(options: &[u64], at: usize, default: u64) -> u64
-    ensures { λ r. ⌜ r ≡ getD (now (options .entry)) at default ⌝ }
-{
-    if at < options.len() {
-        return options[at];
-    }
-    default
-}
-
-// The options in a list of numbers: the channel, the tail rule.
-fn options_in(options: &[u64]) -> capture::Options
-    ensures { λ r. ⌜ optionsOf r ≡ optionsIn (now (options .entry)) ⌝ }
-{
-    let channel = option_at(options, 0, 256);
-    let tolerant = option_at(options, 1, 0);
-    capture::Options {
-        channel: channel_of(channel),
-        tail: tail_of(tolerant),
-    }
-}
-
-// Tells an answer of import.
-fn tell_import(i: capture::Imported, values: &mut [u64]) -> u32
-    ensures { λ r. ⌜ Tells (toldImported i) (now (values .entry)) r (now (values .exit)) ⌝ }
-{
-    match i {
-        capture::Imported::Spans(dlci, frames, unfinished, tail, written) => {
-            store_five(
-                values,
-                dlci as u64,
-                frames as u64,
-                unfinished as u64,
-                tail as u64,
-                written as u64,
-            );
-            0
-        }
-        capture::Imported::FileLong => 1,
-        capture::Imported::WorkShort => 2,
-        capture::Imported::NotBtsnoop => 3,
-        capture::Imported::Datalink(n) => tell_one(4, values, n as u64),
-        capture::Imported::Truncated(offset) => tell_one(5, values, offset as u64),
-        capture::Imported::NoStream => 6,
-        capture::Imported::OutShort(needed) => tell_one(7, values, needed as u64),
-    }
+    tell(s, values)
 }
 
 // Imports a trace: writes the list of the spans of one DLCI to the front of out. The options are a list of numbers: a channel,
@@ -203,7 +128,8 @@ pub extern "C" fn lumbryth_import_with(
 {
     let o = options_in(options);
     let i = capture::import(file, work, out, o);
-    tell_import(i, values)
+    let s = shown_imported(i);
+    tell(s, values)
 }
 
 // Imports a trace by two options.
@@ -243,35 +169,8 @@ pub extern "C" fn lumbryth_records(file: &[u8], starts: &mut [u64], values: &mut
     ensures { λ r. ⌜ RecordsCalls (now (file .entry)) (now (starts .entry)) (now (values .entry)) r (now (starts .exit)) (now (values .exit)) ⌝ }
 {
     let l = btsnoop::list_records(file, starts);
-    tell_records(l, values)
-}
-
-// An answer's number, and how many stretches stand at the start of work.
-struct Told {
-    number: u32,
-    listed: usize,
-}
-
-// Imports a trace where a list of stretches of so many places is lent, and tells the answer.
-fn import_told(
-    file: &[u8],
-    work: &mut [u8],
-    out: &mut [u8],
-    channel: u32,
-    tolerant: u32,
-    values: &mut [u64],
-    places: usize,
-) -> Told
-    ensures { λ r. ⌜ ToldIn (now (file .entry)) (now (work .entry)) places (now (out .entry)) (optionsNumber channel tolerant) (now (values .entry)) (r .number) (r .listed) (now (work .exit)) (now (out .exit)) (now (values .exit)) ⌝ }
-{
-    let options = [channel as u64, tolerant as u64];
-    let o = options_in(&options);
-    let p = places::import_places(file, work, out, o, places);
-    let answer = p.answer;
-    Told {
-        number: tell_import(answer, values),
-        listed: p.listed,
-    }
+    let s = shown_listed(l);
+    tell(s, values)
 }
 
 // Imports a trace, and fills the first places of the list lent with the stretches that are open at the end. It wants as many

@@ -1,87 +1,76 @@
 -- From an answer's case to its number and values, and from there to what a caller gets.
-use Prim.Native.Nat.{ℕ, _≤_}
-use mathlib.Core.Path.{_≡_, refl, sym, _∙_, subst}
+use Prim.Native.Nat.{ℕ, zero, suc, _<_, _≤_}
+use mathlib.Core.Path.{_≡_, refl, sym, ap, subst, _∙_}
+use mathlib.Core.Bool.{Bool, true, false, cond}
 use mathlib.Core.List.{List, [], _∷_}
 use native.Mathlib.Omega.{arith}
-use lib.ListN.{set, take}
-use Rattle.laws.specs.Answers.{Answer, accepted, refused, Outcome, Meets}
-use Rattle.telling.specs.Telling.{numberOf, valuesOf, stored, Tells, Calls, shownValues, Shows}
+use lib.Dec.{ltb}
+use lib.ListN.{length, set, take}
+use lib.Seq.{set-out}
+use borrow.Author.Tests.{lt-ltb, le-ltb}
+use Rattle.laws.specs.Choice.{split≤}
+use Rattle.laws.specs.Answers.{Answer, Outcome, Meets}
+use Rattle.telling.specs.Telling.{numberOf, valuesOf, stored, Told, Calls, shownValues, Shows, Tells, putAt}
 use Rattle.telling.specs.declared.Shown.{Shown}
 
 pub shows-as : {X : Type 0} (tell : X → Answer) (u x : X) (s : Shown) → u ≡ x → Shows (numberOf (tell x)) (valuesOf (tell x)) s → Shows (numberOf (tell u)) (valuesOf (tell u)) s
 shows-as {X} tell u x s e v = subst (λ (y : X). Shows (numberOf (tell y)) (valuesOf (tell y)) s) (sym e) v
 
-pub calls : (o : Outcome) (d : List ℕ) (a : Answer) (e v : List ℕ) (s : Shown) (w : List ℕ) → Meets o d a e → Shows (numberOf a) (valuesOf a) s → w ≡ stored (shownValues s) v → Calls o d e v (s .number) w
-calls o d a e v s w m p q = record {
-  writes = m .writes;
-  tells = record { number = rw (sym (m .answers)) (p .number); values = q ∙ rw (p .values, m .answers) };
+pub told-as : (a a′ : Answer) → a ≡ a′ → (s : Shown) → Shows (numberOf a) (valuesOf a) s → (v : List ℕ) (r : ℕ) (w : List ℕ) → Tells s v r w → Told a′ v r w
+told-as a a′ e s p v r w t = rw (sym e) (record { number = t .number ∙ p .number; values = t .values ∙ rw (p .values) })
+
+pub calls : (o : Outcome) (d : List ℕ) (a : Answer) (e : List ℕ) → Meets o d a e → (s : Shown) → Shows (numberOf a) (valuesOf a) s → (v : List ℕ) (r : ℕ) (w : List ℕ) → Tells s v r w → Calls o d e v r w
+calls o d a e m s p v r w t = record { writes = m .writes; tells = told-as a _ (m .answers) s p v r w t }
+
+-- ---- values stored
+
+module _ (n at x : ℕ) (d : List ℕ) where
+  pub put-past : n ≤ at → d ≡ putAt n at x d
+  unfolding putAt
+  put-past h = rw (le-ltb at n h)
+
+  pub put-there : at < n → set d at x ≡ putAt n at x d
+  unfolding putAt
+  put-there h = rw (lt-ltb at n h)
+
+  pub put-out : at < n → length d ≤ at → d ≡ putAt n at x d
+  put-out h g = sym (set-out d at x g) ∙ put-there h
+
+-- one place after another
+abbrev puts : ℕ → ℕ → List ℕ → List ℕ → List ℕ
+puts n at [] d = d
+puts n at (x ∷ xs) d = puts n (suc at) xs (putAt n at x d)
+
+puts-none : (at : ℕ) (xs d : List ℕ) → puts 0 at xs d ≡ d
+puts-none at [] d = refl
+puts-none at (x ∷ xs) d = rw (sym (put-past 0 at x d (omega arith))) (puts-none (suc at) xs d)
+
+puts-empty : (n at : ℕ) (xs : List ℕ) → puts n at xs [] ≡ []
+unfolding putAt
+puts-empty n at [] = refl
+puts-empty n at (x ∷ xs) = split≤ n at (λ h. rw (le-ltb at n h) (puts-empty n (suc at) xs)) (λ h. rw (lt-ltb at n h) (puts-empty n (suc at) xs))
+
+put-later : (n at x y : ℕ) (d : List ℕ) → putAt (suc n) (suc at) x (y ∷ d) ≡ y ∷ putAt n at x d
+unfolding putAt
+put-later n at x y d = split≤ n at
+    (λ h. rw (le-ltb at n h, le-ltb (suc at) (suc n) (omega arith)))
+    (λ h. rw (lt-ltb at n h, lt-ltb (suc at) (suc n) (omega arith)))
+
+puts-later : (n at : ℕ) (xs : List ℕ) (y : ℕ) (d : List ℕ) → puts (suc n) (suc at) xs (y ∷ d) ≡ y ∷ puts n at xs d
+puts-later n at [] y d = refl
+puts-later n at (x ∷ xs) y d = rw (put-later n at x y d) (puts-later n (suc at) xs y (putAt n at x d))
+
+puts-stored : (n : ℕ) (xs d : List ℕ) → puts n 0 xs d ≡ stored (take n xs) d
+unfolding stored
+puts-stored zero xs d = puts-none 0 xs d
+puts-stored (suc n) [] d = refl
+puts-stored (suc n) (x ∷ xs) [] = puts-empty (suc n) 0 (x ∷ xs)
+puts-stored (suc n) (x ∷ xs) (y ∷ d) = rw (sym (put-there (suc n) 0 x (y ∷ d) (omega arith))) (puts-later n 0 xs x d ∙ ap (λ (l : List ℕ). x ∷ l) (puts-stored n xs d))
+
+pub tells-all :
+    (s : Shown) (v p q t u w : List ℕ) → p ≡ putAt (s .count) 0 (s .a) v → q ≡ putAt (s .count) 1 (s .b) p → t ≡ putAt (s .count) 2 (s .c) q → u ≡ putAt (s .count) 3 (s .d) t →
+    w ≡ putAt (s .count) 4 (s .e) u → Tells s v (s .number) w
+tells-all s v p q t u w ep eq et eu ew = record {
+  number = refl;
+  values = ew ∙ rw (eu, et, eq, ep) (puts-stored (s .count) (s .a ∷ s .b ∷ s .c ∷ s .d ∷ s .e ∷ []) v);
 }
-
--- ---- stores at the front
-
-module _ (d : List ℕ) (n a b c : ℕ) where
-  pub store-none : n ≡ 0 → d ≡ stored (take n (a ∷ b ∷ c ∷ [])) d
-  unfolding stored
-  store-none e = rw e
-
-  store-one-at : (d : List ℕ) → set d 0 a ≡ stored (a ∷ []) d
-  unfolding stored
-  store-one-at [] = refl
-  store-one-at (x ∷ d) = refl
-
-  pub store-one : n ≡ 1 → (e : List ℕ) → e ≡ set d 0 a → e ≡ stored (take n (a ∷ b ∷ c ∷ [])) d
-  store-one q e p = p ∙ rw q (store-one-at d)
-
-  store-two-at : (d : List ℕ) → set (set d 0 a) 1 b ≡ stored (a ∷ b ∷ []) d
-  unfolding stored
-  store-two-at [] = refl
-  store-two-at (x ∷ []) = refl
-  store-two-at (x ∷ y ∷ d) = refl
-
-  pub store-two : n ≡ 2 → (e f : List ℕ) → e ≡ set d 0 a → f ≡ set e 1 b → f ≡ stored (take n (a ∷ b ∷ c ∷ [])) d
-  store-two q e f p r = r ∙ rw (p, q) (store-two-at d)
-
-  store-three-at : (d : List ℕ) → set (set (set d 0 a) 1 b) 2 c ≡ stored (a ∷ b ∷ c ∷ []) d
-  unfolding stored
-  store-three-at [] = refl
-  store-three-at (x ∷ []) = refl
-  store-three-at (x ∷ y ∷ []) = refl
-  store-three-at (x ∷ y ∷ z ∷ d) = refl
-
-  pub store-three : n ≤ 3 → (n ≡ 0 → ⊥) → (n ≡ 1 → ⊥) → (n ≡ 2 → ⊥) → (e f g : List ℕ) → e ≡ set d 0 a → f ≡ set e 1 b → g ≡ set f 2 c → g ≡ stored (take n (a ∷ b ∷ c ∷ [])) d
-  store-three l h i j e f g p r s =
-      let q : n ≡ 3 = omega arith in
-      s ∙ rw (r, p, q) (store-three-at d)
-
-five-at : (a b c d e : ℕ) (l : List ℕ) → set (set (set (set (set l 0 a) 1 b) 2 c) 3 d) 4 e ≡ stored (a ∷ b ∷ c ∷ d ∷ e ∷ []) l
-unfolding stored
-five-at a b c d e [] = refl
-five-at a b c d e (v ∷ []) = refl
-five-at a b c d e (v ∷ w ∷ []) = refl
-five-at a b c d e (v ∷ w ∷ x ∷ []) = refl
-five-at a b c d e (v ∷ w ∷ x ∷ y ∷ []) = refl
-five-at a b c d e (v ∷ w ∷ x ∷ y ∷ z ∷ l) = refl
-
-pub stored-five : (l : List ℕ) (a b c d e : ℕ) (p q r s t : List ℕ) → p ≡ set l 0 a → q ≡ set p 1 b → r ≡ set q 2 c → s ≡ set r 3 d → t ≡ set s 4 e → t ≡ stored (a ∷ b ∷ c ∷ d ∷ e ∷ []) l
-stored-five l a b c d e p q r s t ep eq er es et = et ∙ rw (es, er, eq, ep) (five-at a b c d e l)
-
-one-at : (a : ℕ) (l : List ℕ) → set l 0 a ≡ stored (a ∷ []) l
-unfolding stored
-one-at a [] = refl
-one-at a (x ∷ l) = refl
-
-pub stored-one : (l : List ℕ) (a : ℕ) (p : List ℕ) → p ≡ set l 0 a → p ≡ stored (a ∷ []) l
-stored-one l a p e = e ∙ one-at a l
-
--- ---- an answer told case by case
-
-module _ {X : Type 0} (tell : X → Answer) (u x : X) (e : u ≡ x) (v : List ℕ) where
-  pub tells-none : (n : ℕ) → tell x ≡ refused n [] → Tells (tell u) v n v
-  unfolding stored
-  tells-none n q = rw (e, q) (record { number = refl; values = refl })
-
-  pub tells-one : (n a r : ℕ) (v′ : List ℕ) → tell x ≡ refused n (a ∷ []) → r ≡ n → v′ ≡ stored (a ∷ []) v → Tells (tell u) v r v′
-  tells-one n a r v′ q p s = rw (e, q) (record { number = p; values = s })
-
-  pub tells-given : (vs v′ : List ℕ) → tell x ≡ accepted vs → v′ ≡ stored vs v → Tells (tell u) v 0 v′
-  tells-given vs v′ q s = rw (e, q) (record { number = refl; values = s })

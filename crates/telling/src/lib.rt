@@ -2,107 +2,141 @@
 // room for.
 ghost use mathlib.Core.Path.{_≡_};
 ghost use mathlib.Core.List.{[], _∷_};
-ghost use Prim.Native.Nat.{_≤_};
-ghost use lib.ListN.{set, take};
 ghost use Rattle.btsnoop.specs.Listing.{toldListed};
 ghost use Rattle.fixtures.specs.Told.{toldPlanned};
 ghost use Rattle.mdr.specs.Told.{told, toldPacked};
 ghost use Rattle.names.specs.Told.{toldNamed};
 ghost use Rattle.order.specs.Order.{toldOrdered};
-ghost use Rattle.telling.specs.Telling.{numberOf, valuesOf, stored, Shows, Tells};
+ghost use Rattle.telling.specs.Telling.{numberOf, valuesOf, putAt, Shows, Tells};
 
-// ---- values stored
-
-// Stores a value at a place that is there.
-fn put(values: &mut [u64], at: usize, x: u64)
-    ensures { λ _. ⌜ now (values .exit) ≡ set (now (values .entry)) at x ⌝ }
-{
-    if at < values.len() {
-        values[at] = x;
-    }
-}
-
-pub fn store(values: &mut [u64], count: usize, a: u64, b: u64, c: u64)
-    requires { ⌜ count ≤ 3 ⌝ }
-    ensures { λ _. ⌜ now (values .exit) ≡ stored (take count (a ∷ b ∷ c ∷ [])) (now (values .entry)) ⌝ }
-{
-    if count == 0 {
-        return;
-    }
-    put(values, 0, a);
-    if count == 1 {
-        return;
-    }
-    put(values, 1, b);
-    if count == 2 {
-        return;
-    }
-    put(values, 2, c);
-}
-
-// Stores five values, as many as there is room for.
-pub fn store_five(values: &mut [u64], a: u64, b: u64, c: u64, d: u64, e: u64)
-    ensures { λ _. ⌜ now (values .exit) ≡ stored (a ∷ b ∷ c ∷ d ∷ e ∷ []) (now (values .entry)) ⌝ }
-{
-    put(values, 0, a);
-    put(values, 1, b);
-    put(values, 2, c);
-    put(values, 3, d);
-    put(values, 4, e);
-}
-
-// Stores one value, if there is room, and returns the number.
-pub fn tell_one(number: u32, values: &mut [u64], a: u64) -> u32
-    ensures { λ r. ⌜ (r ≡ number) × (now (values .exit) ≡ stored (a ∷ []) (now (values .entry))) ⌝ }
-{
-    put(values, 0, a);
-    number
-}
-
-// ---- answers as numbers
-
-// An answer's number, and its values: the first count of a, b and c.
+// An answer's number, and its values: the first count of a to e.
 pub struct Shown {
     pub number: u32,
     pub count: usize,
     pub a: u64,
     pub b: u64,
     pub c: u64,
+    pub d: u64,
+    pub e: u64,
 }
 
-fn show(number: u32, count: usize, a: u64, b: u64, c: u64) -> Shown
-    requires { ⌜ count ≤ 3 ⌝ }
-    ensures { λ r. ⌜ Shows number (take count (a ∷ b ∷ c ∷ [])) r ⌝ }
+// Stores a value at a place before the count, if the list has it.
+fn put(values: &mut [u64], count: usize, at: usize, x: u64)
+    ensures { λ _. ⌜ now (values .exit) ≡ putAt count at x (now (values .entry)) ⌝ }
+{
+    if count <= at {
+        return;
+    }
+    if at < values.len() {
+        values[at] = x;
+    }
+}
+
+// Stores the values of an answer, and returns its number.
+pub fn tell(s: Shown, values: &mut [u64]) -> u32
+    ensures { λ r. ⌜ Tells s (now (values .entry)) r (now (values .exit)) ⌝ }
+{
+    let count = s.count;
+    put(values, count, 0, s.a);
+    put(values, count, 1, s.b);
+    put(values, count, 2, s.c);
+    put(values, count, 3, s.d);
+    put(values, count, 4, s.e);
+    s.number
+}
+
+// ---- so many values
+
+pub fn alone(number: u32) -> Shown
+    ensures { λ r. ⌜ Shows number [] r ⌝ }
 {
     Shown {
         number,
-        count,
+        count: 0,
+        a: 0,
+        b: 0,
+        c: 0,
+        d: 0,
+        e: 0,
+    }
+}
+
+pub fn with_one(number: u32, a: u64) -> Shown
+    ensures { λ r. ⌜ Shows number (a ∷ []) r ⌝ }
+{
+    Shown {
+        number,
+        count: 1,
+        a,
+        b: 0,
+        c: 0,
+        d: 0,
+        e: 0,
+    }
+}
+
+pub fn with_two(number: u32, a: u64, b: u64) -> Shown
+    ensures { λ r. ⌜ Shows number (a ∷ b ∷ []) r ⌝ }
+{
+    Shown {
+        number,
+        count: 2,
+        a,
+        b,
+        c: 0,
+        d: 0,
+        e: 0,
+    }
+}
+
+pub fn with_three(number: u32, a: u64, b: u64, c: u64) -> Shown
+    ensures { λ r. ⌜ Shows number (a ∷ b ∷ c ∷ []) r ⌝ }
+{
+    Shown {
+        number,
+        count: 3,
         a,
         b,
         c,
+        d: 0,
+        e: 0,
     }
 }
+
+pub fn with_five(number: u32, a: u64, b: u64, c: u64, d: u64, e: u64) -> Shown
+    ensures { λ r. ⌜ Shows number (a ∷ b ∷ c ∷ d ∷ e ∷ []) r ⌝ }
+{
+    Shown {
+        number,
+        count: 5,
+        a,
+        b,
+        c,
+        d,
+        e,
+    }
+}
+
+// ---- each answer
 
 pub fn shown_unpacked(u: mdr::Unpacked) -> Shown
     ensures { λ r. ⌜ Shows (numberOf (told u)) (valuesOf (told u)) r ⌝ }
 {
     match u {
-        mdr::Unpacked::Frame(t, q, n) => show(0, 3, t as u64, q as u64, n as u64),
-        mdr::Unpacked::TooShort => show(10, 0, 0, 0, 0),
-        mdr::Unpacked::NoStart => show(11, 0, 0, 0, 0),
-        mdr::Unpacked::NoEnd => show(12, 0, 0, 0, 0),
-        mdr::Unpacked::TrailingSentry => show(13, 0, 0, 0, 0),
-        mdr::Unpacked::BadEscapee(b) => show(14, 1, b as u64, 0, 0),
-        mdr::Unpacked::BodyTooShort => show(15, 0, 0, 0, 0),
-        mdr::Unpacked::LengthMismatch(declared, actual) => show(16, 2, declared, actual, 0),
-        mdr::Unpacked::BadChecksum(declared, computed) => show(
+        mdr::Unpacked::Frame(t, q, n) => with_three(0, t as u64, q as u64, n as u64),
+        mdr::Unpacked::TooShort => alone(10),
+        mdr::Unpacked::NoStart => alone(11),
+        mdr::Unpacked::NoEnd => alone(12),
+        mdr::Unpacked::TrailingSentry => alone(13),
+        mdr::Unpacked::BadEscapee(b) => with_one(14, b as u64),
+        mdr::Unpacked::BodyTooShort => alone(15),
+        mdr::Unpacked::LengthMismatch(declared, actual) => with_two(16, declared, actual),
+        mdr::Unpacked::BadChecksum(declared, computed) => with_two(
             17,
-            2,
             declared as u64,
             computed as u64,
-            0,
         ),
-        mdr::Unpacked::OutShort(needed) => show(7, 1, needed as u64, 0, 0),
+        mdr::Unpacked::OutShort(needed) => with_one(7, needed as u64),
     }
 }
 
@@ -110,9 +144,9 @@ pub fn shown_packed(p: mdr::Packed) -> Shown
     ensures { λ r. ⌜ Shows (numberOf (toldPacked p)) (valuesOf (toldPacked p)) r ⌝ }
 {
     match p {
-        mdr::Packed::Wrote(n) => show(0, 1, n as u64, 0, 0),
-        mdr::Packed::TooLong => show(18, 0, 0, 0, 0),
-        mdr::Packed::OutShort(needed) => show(7, 1, needed as u64, 0, 0),
+        mdr::Packed::Wrote(n) => with_one(0, n as u64),
+        mdr::Packed::TooLong => alone(18),
+        mdr::Packed::OutShort(needed) => with_one(7, needed as u64),
     }
 }
 
@@ -120,22 +154,20 @@ pub fn shown_named(n: names::Named) -> Shown
     ensures { λ r. ⌜ Shows (numberOf (toldNamed n)) (valuesOf (toldNamed n)) r ⌝ }
 {
     match n {
-        names::Named::Name(len) => show(0, 1, len as u64, 0, 0),
-        names::Named::TooShort => show(10, 0, 0, 0, 0),
-        names::Named::NoStart => show(11, 0, 0, 0, 0),
-        names::Named::NoEnd => show(12, 0, 0, 0, 0),
-        names::Named::TrailingSentry => show(13, 0, 0, 0, 0),
-        names::Named::BadEscapee(b) => show(14, 1, b as u64, 0, 0),
-        names::Named::BodyTooShort => show(15, 0, 0, 0, 0),
-        names::Named::LengthMismatch(declared, actual) => show(16, 2, declared, actual, 0),
-        names::Named::BadChecksum(declared, computed) => show(
+        names::Named::Name(len) => with_one(0, len as u64),
+        names::Named::TooShort => alone(10),
+        names::Named::NoStart => alone(11),
+        names::Named::NoEnd => alone(12),
+        names::Named::TrailingSentry => alone(13),
+        names::Named::BadEscapee(b) => with_one(14, b as u64),
+        names::Named::BodyTooShort => alone(15),
+        names::Named::LengthMismatch(declared, actual) => with_two(16, declared, actual),
+        names::Named::BadChecksum(declared, computed) => with_two(
             17,
-            2,
             declared as u64,
             computed as u64,
-            0,
         ),
-        names::Named::OutShort(needed) => show(7, 1, needed as u64, 0, 0),
+        names::Named::OutShort(needed) => with_one(7, needed as u64),
     }
 }
 
@@ -143,10 +175,10 @@ pub fn shown_planned(p: fixtures::Planned) -> Shown
     ensures { λ r. ⌜ Shows (numberOf (toldPlanned p)) (valuesOf (toldPlanned p)) r ⌝ }
 {
     match p {
-        fixtures::Planned::Wrote(count, len) => show(0, 2, count as u64, len as u64, 0),
-        fixtures::Planned::SpansIll(offset) => show(19, 1, offset as u64, 0, 0),
-        fixtures::Planned::NamesIll(offset) => show(20, 1, offset as u64, 0, 0),
-        fixtures::Planned::OutShort(needed) => show(7, 1, needed as u64, 0, 0),
+        fixtures::Planned::Wrote(count, len) => with_two(0, count as u64, len as u64),
+        fixtures::Planned::SpansIll(offset) => with_one(19, offset as u64),
+        fixtures::Planned::NamesIll(offset) => with_one(20, offset as u64),
+        fixtures::Planned::OutShort(needed) => with_one(7, needed as u64),
     }
 }
 
@@ -154,25 +186,19 @@ pub fn shown_ordered(o: order::Ordered) -> Shown
     ensures { λ r. ⌜ Shows (numberOf (toldOrdered o)) (valuesOf (toldOrdered o)) r ⌝ }
 {
     match o {
-        order::Ordered::Wrote(len) => show(0, 1, len as u64, 0, 0),
-        order::Ordered::IllFormed(offset) => show(20, 1, offset as u64, 0, 0),
-        order::Ordered::OutShort(needed) => show(7, 1, needed as u64, 0, 0),
+        order::Ordered::Wrote(len) => with_one(0, len as u64),
+        order::Ordered::IllFormed(offset) => with_one(20, offset as u64),
+        order::Ordered::OutShort(needed) => with_one(7, needed as u64),
     }
 }
 
-// ---- records
-
-// Tells an answer of a listing of records.
-pub fn tell_records(l: btsnoop::Listed, values: &mut [u64]) -> u32
-    ensures { λ r. ⌜ Tells (toldListed l) (now (values .entry)) r (now (values .exit)) ⌝ }
+pub fn shown_listed(l: btsnoop::Listed) -> Shown
+    ensures { λ r. ⌜ Shows (numberOf (toldListed l)) (valuesOf (toldListed l)) r ⌝ }
 {
     match l {
-        btsnoop::Listed::Records(count, tail) => {
-            store(values, 2, count as u64, tail as u64, 0);
-            0
-        }
-        btsnoop::Listed::FileLong => 1,
-        btsnoop::Listed::NotBtsnoop => 3,
-        btsnoop::Listed::Datalink(n) => tell_one(4, values, n as u64),
+        btsnoop::Listed::Records(count, tail) => with_two(0, count as u64, tail as u64),
+        btsnoop::Listed::FileLong => alone(1),
+        btsnoop::Listed::NotBtsnoop => alone(3),
+        btsnoop::Listed::Datalink(n) => with_one(4, n as u64),
     }
 }

@@ -1,5 +1,4 @@
 use Rattle.telling.proofs.TellLaws.{calls}
-use native.Mathlib.Omega.{arith}
 use borrow.Author.Needs.{needs}
 use Rattle.lumbryth.proofs.lumbryth_capture_order.Statement.{statement}
 use Rattle.lumbryth.proofs.lumbryth_capture_order.Tie as tie
@@ -10,8 +9,8 @@ capture-order-requires c κs = search needs
 shown-ordered-requires : tie.Need-shown-ordered-requires
 shown-ordered-requires c κs = search needs
 
-store-requires : tie.Need-store-requires
-store-requires c κs = search needs
+tell-requires : tie.Need-tell-requires
+tell-requires c κs = search needs
 
 same-length : tie.Need-same-length
 same-length c = search needs
@@ -28,7 +27,7 @@ lumbryth-capture-order-spec =
     (tie.spec
     capture-order-requires
     shown-ordered-requires
-    store-requires
+    tell-requires
     same-length
     same-length-2
     returns)

@@ -1,5 +1,4 @@
 use Rattle.lumbryth.proofs.ImportLaws.{named-calls}
-use native.Mathlib.Omega.{arith}
 use borrow.Author.Needs.{needs}
 use Rattle.lumbryth.proofs.lumbryth_fixture_name.Statement.{statement}
 use Rattle.lumbryth.proofs.lumbryth_fixture_name.Tie as tie
@@ -13,8 +12,8 @@ fixture-name-requires c κs = search needs
 shown-named-requires : tie.Need-shown-named-requires
 shown-named-requires c κs = search needs
 
-store-requires : tie.Need-store-requires
-store-requires c κs = search needs
+tell-requires : tie.Need-tell-requires
+tell-requires c κs = search needs
 
 same-length : tie.Need-same-length
 same-length c = search needs
@@ -32,7 +31,7 @@ lumbryth-fixture-name-spec =
     direction-of-requires
     fixture-name-requires
     shown-named-requires
-    store-requires
+    tell-requires
     same-length
     same-length-2
     returns)

@@ -47,17 +47,18 @@ use Rattle.stretches.proofs.fill as fill
 use Rattle.stretches.proofs.fill.Symbol as fill-def
 use Rattle.stretches.proofs.fill.Symbol.{name as #stretches·fill}
 use Rattle.stretches.proofs.fill.Met as fill-thm
-use Rattle.lumbryth.specs.Imports.{optionsNumber}
-use Rattle.lumbryth.specs.Stretches.{ToldIn, StretchCalls}
-use Rattle.lumbryth.specs.declared.Told.{Told}
-use Rattle.lumbryth.proofs.Told as S
-use Rattle.lumbryth.proofs.Told.Laws as S′
+use Rattle.imports.specs.Numbers.{optionsNumber}
+use Rattle.imports.specs.Places.{ToldIn}
+use Rattle.imports.specs.declared.Told.{Told}
+use Rattle.imports.proofs.Told as S
+use Rattle.imports.proofs.Told.Laws as S′
+use Rattle.lumbryth.specs.Stretches.{StretchCalls}
 use Rattle.lumbryth.proofs.StretchLaws.{stretch-calls}
 use Rattle.lumbryth.proofs.Again.{LentAgain, lends-again, comes-back, shares}
-use Rattle.lumbryth.proofs.import_told as told
-use Rattle.lumbryth.proofs.import_told.Symbol as told-def
-use Rattle.lumbryth.proofs.import_told.Symbol.{name as #lumbryth·import-told}
-use Rattle.lumbryth.proofs.import_told.Met as told-thm
+use Rattle.imports.proofs.import_told as told
+use Rattle.imports.proofs.import_told.Symbol as told-def
+use Rattle.imports.proofs.import_told.Symbol.{name as #imports·import-told}
+use Rattle.imports.proofs.import_told.Met as told-thm
 use Rattle.lumbryth.proofs.lumbryth_import_stretches.Key.{name as #lumbryth·lumbryth-import-stretches}
 use Rattle.lumbryth.proofs.lumbryth_import_stretches as entry
 use Rattle.lumbryth.proofs.lumbryth_import_stretches.Statement as stated
@@ -190,7 +191,7 @@ module _ {M : Type 1} (𝓤 : URA M) (H : Heap 𝓤) (A : Atoms 𝓤) (W : Given
       move ! (4 ∷ 0 ∷ []) $ fjoin ! $ move ! (3 ∷ 0 ∷ []) $ fjoin ! $ move ! (2 ∷ 0 ∷ []) $ fjoin ! $ move ! (1 ∷ 0 ∷ []) $ fjoin ! $ frame ! $
       owned ! u32 (Is u32) (uint-makes 𝓤 H A W w32) (r .number) _ (refl, fits) $ done !
 
-  module _ (C : Calls 𝓤 H) (Λ : Loops 𝓤 H) (fm : FmC 𝓤 H (W .laws) C) (known-told : Triple 𝓤 (C #lumbryth·import-told) (ImportTold 𝓤 H A mem run)) (known-fill : Triple 𝓤 (C #stretches·fill) (Fill 𝓤 H A mem run)) where
+  module _ (C : Calls 𝓤 H) (Λ : Loops 𝓤 H) (fm : FmC 𝓤 H (W .laws) C) (known-told : Triple 𝓤 (C #imports·import-told) (ImportTold 𝓤 H A mem run)) (known-fill : Triple 𝓤 (C #stretches·fill) (Fill 𝓤 H A mem run)) where
     walk : Is (ShrSlice (named 0) κf u8) f (vf ∷ []) → Room u8 (length w) → Room R places → Room u8 (length (xo .now)) → Room u64 (length (xv .now))
         → ent 𝓤 (onEntry 𝓤 H A entry.signature κs (qf, (qw, (qs, (qo, (qv, tt))))) a at) (WpFn 𝓤 H C Λ code.function (vf ∷ vw ∷ vs ∷ vo ∷ vint w32 ch ∷ vint w32 tol ∷ vv ∷ []) Post)
     walk p roomw rooms roomo roomv =
@@ -259,7 +260,7 @@ module _ {M : Type 1} (𝓤 : URA M) (H : Heap 𝓤) (A : Atoms 𝓤) (W : Given
         keep ! (9 ∷ 5 ∷ 3 ∷ 2 ∷ 0 ∷ 13 ∷ 8 ∷ 6 ∷ 12 ∷ 10 ∷ []) $ by ! (exits r zs (ts .1 .0) (number-fits r u is) e e′ samew sames sameo samev)))))))))))))))))))))))))))))))))))))))
 
 module _ {M : Type 1} (𝓤 : URA M) (H : Heap 𝓤) (A : Atoms 𝓤) (W : Given 𝓤 H A) (mem : Memory → SProp 𝓤) (run : Routine → Fun 𝓤) where
-  entry-walks : (C : Calls 𝓤 H) (Λ : Loops 𝓤 H) → FmC 𝓤 H (W .laws) C → Triple 𝓤 (C #lumbryth·import-told) (ImportTold 𝓤 H A mem run) → Triple 𝓤 (C #stretches·fill) (Fill 𝓤 H A mem run)
+  entry-walks : (C : Calls 𝓤 H) (Λ : Loops 𝓤 H) → FmC 𝓤 H (W .laws) C → Triple 𝓤 (C #imports·import-told) (ImportTold 𝓤 H A mem run) → Triple 𝓤 (C #stretches·fill) (Fill 𝓤 H A mem run)
       → Walks 𝓤 H A entry.ended stayed (WpFn 𝓤 H C Λ code.function) (entry.clauses 𝓤 H A mem run)
   entry-walks C Λ fm known-told known-fill = walked 𝓤 H A entry.ended stayed (entry.clauses 𝓤 H A mem run) (WpFn 𝓤 H C Λ code.function)
       (λ κs. (slice-vals, (slice-vals, (slice-vals, (slice-vals, (uint-vals w32, (uint-vals w32, (slice-vals, tt))))))))
@@ -270,7 +271,7 @@ module _ {M : Type 1} (𝓤 : URA M) (H : Heap 𝓤) (A : Atoms 𝓤) (W : Given
       C Λ fm known-told known-fill (are .0) (are .1 .0 .0 .1) (are .1 .1 .0 .0 .1) (are .1 .1 .1 .0 .0 .1) (are .1 .1 .1 .1 .1 .1 .0 .0 .1)))
 
 entry-meets : {M : Type 1} (𝓤 : URA M) (H : Heap 𝓤) (A : Atoms 𝓤) (W : Given 𝓤 H A) (mem : Memory → SProp 𝓤) (run : Routine → Fun 𝓤) (𝓣 : Tables 𝓤 H)
-    → Triple 𝓤 (𝓣 .C #lumbryth·import-told) (ImportTold 𝓤 H A mem run) → Triple 𝓤 (𝓣 .C #stretches·fill) (Fill 𝓤 H A mem run)
+    → Triple 𝓤 (𝓣 .C #imports·import-told) (ImportTold 𝓤 H A mem run) → Triple 𝓤 (𝓣 .C #stretches·fill) (Fill 𝓤 H A mem run)
     → Meets 𝓤 H A entry.signature (WpFn 𝓤 H (𝓣 .C) (𝓣 .Λ) code.function) (entry.spec 𝓤 H A mem run)
 entry-meets 𝓤 H A W mem run 𝓣 known-told known-fill = walk-meets 𝓤 H A entry.ended stayed W
     (goes-none-slice 𝓤 H A W 5 (0 ∷ []) tt (plain (λ _. u8)) yes, (goes-gave-slice 𝓤 H A W 5 1 tt (plain (λ _. u8)), (goes-gave-slice 𝓤 H A W 5 2 tt (plain (λ _. R)), (goes-gave-slice 𝓤 H A W 5 3 tt (plain (λ _. u8)), (goes-none 𝓤 H A W 5 (λ _. u32) yes (λ κs x f. refl), (goes-none 𝓤 H A W 5 (λ _. u32) yes (λ κs x f. refl), (goes-gave-slice 𝓤 H A W 5 4 tt (plain (λ _. u64)), tt)))))))
@@ -283,5 +284,5 @@ lumbryth-import-stretches-spec 𝓤 H 𝓜 𝓖 𝓡 =
     entered 𝓤 H (tripleOf 𝓤 H (𝓖 .A) entry.signature (entry.spec 𝓤 H (𝓖 .A) (𝓜 .mem) (𝓡 .run)))
     (tables 𝓤 H 𝓜 𝓡 code.env .C) (tables 𝓤 H 𝓜 𝓡 code.env .Λ) #lumbryth·lumbryth-import-stretches code.function (code.unfolded 𝓤 H 𝓜 𝓡)
     (entry-meets 𝓤 H (𝓖 .A) (givenOf 𝓤 H 𝓜 𝓖) (𝓜 .mem) (𝓡 .run) (tablesOf 𝓤 H 𝓜 (tables 𝓤 H 𝓜 𝓡 code.env))
-    (cited 𝓤 H (ImportTold 𝓤 H (𝓖 .A) (𝓜 .mem) (𝓡 .run)) 𝓜 𝓡 code.env #lumbryth·import-told told-def.routine code.calls-lumbryth·import-told (told-thm.met 𝓤 H 𝓜 𝓖 𝓡))
+    (cited 𝓤 H (ImportTold 𝓤 H (𝓖 .A) (𝓜 .mem) (𝓡 .run)) 𝓜 𝓡 code.env #imports·import-told told-def.routine code.calls-imports·import-told (told-thm.met 𝓤 H 𝓜 𝓖 𝓡))
     (cited 𝓤 H (Fill 𝓤 H (𝓖 .A) (𝓜 .mem) (𝓡 .run)) 𝓜 𝓡 code.env #stretches·fill fill-def.routine code.calls-stretches·fill (fill-thm.met 𝓤 H 𝓜 𝓖 𝓡)))

@@ -1,5 +1,4 @@
 use Rattle.lumbryth.proofs.ImportLaws.{import-calls}
-use native.Mathlib.Omega.{arith}
 use borrow.Author.Needs.{needs}
 use Rattle.lumbryth.proofs.lumbryth_import_with.Statement.{statement}
 use Rattle.lumbryth.proofs.lumbryth_import_with.Tie as tie
@@ -10,8 +9,11 @@ options-in-requires c κs = search needs
 import-requires : tie.Need-import-requires
 import-requires c κs = search needs
 
-tell-import-requires : tie.Need-tell-import-requires
-tell-import-requires c κs = search needs
+shown-imported-requires : tie.Need-shown-imported-requires
+shown-imported-requires c κs = search needs
+
+tell-requires : tie.Need-tell-requires
+tell-requires c κs = search needs
 
 same-length : tie.Need-same-length
 same-length c = search needs
@@ -31,7 +33,8 @@ lumbryth-import-with-spec =
     (tie.spec
     options-in-requires
     import-requires
-    tell-import-requires
+    shown-imported-requires
+    tell-requires
     same-length
     same-length-2
     same-length-3

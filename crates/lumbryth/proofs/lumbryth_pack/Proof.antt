@@ -9,8 +9,8 @@ pack-requires c κs = search needs
 shown-packed-requires : tie.Need-shown-packed-requires
 shown-packed-requires c κs = search needs
 
-store-requires : tie.Need-store-requires
-store-requires c κs = search needs
+tell-requires : tie.Need-tell-requires
+tell-requires c κs = search needs
 
 same-length : tie.Need-same-length
 same-length c = search needs
@@ -24,4 +24,4 @@ returns c = search calls
 pub lumbryth-pack-spec : {M : Type 1} → statement M
 lumbryth-pack-spec =
     tie.close
-    (tie.spec pack-requires shown-packed-requires store-requires same-length same-length-2 returns)
+    (tie.spec pack-requires shown-packed-requires tell-requires same-length same-length-2 returns)

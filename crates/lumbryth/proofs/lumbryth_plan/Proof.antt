@@ -1,5 +1,4 @@
 use Rattle.telling.proofs.TellLaws.{calls}
-use native.Mathlib.Omega.{arith}
 use borrow.Author.Needs.{needs}
 use Rattle.lumbryth.proofs.lumbryth_plan.Statement.{statement}
 use Rattle.lumbryth.proofs.lumbryth_plan.Tie as tie
@@ -10,8 +9,8 @@ plan-requires c κs = search needs
 shown-planned-requires : tie.Need-shown-planned-requires
 shown-planned-requires c κs = search needs
 
-store-requires : tie.Need-store-requires
-store-requires c κs = search needs
+tell-requires : tie.Need-tell-requires
+tell-requires c κs = search needs
 
 same-length : tie.Need-same-length
 same-length c = search needs
@@ -25,10 +24,4 @@ returns c = search calls
 pub lumbryth-plan-spec : {M : Type 1} → statement M
 lumbryth-plan-spec =
     tie.close
-    (tie.spec
-    plan-requires
-    shown-planned-requires
-    store-requires
-    same-length
-    same-length-2
-    returns)
+    (tie.spec plan-requires shown-planned-requires tell-requires same-length same-length-2 returns)

@@ -9,8 +9,8 @@ unpack-requires c κs = search needs
 shown-unpacked-requires : tie.Need-shown-unpacked-requires
 shown-unpacked-requires c κs = search needs
 
-store-requires : tie.Need-store-requires
-store-requires c κs = search needs
+tell-requires : tie.Need-tell-requires
+tell-requires c κs = search needs
 
 same-length : tie.Need-same-length
 same-length c = search needs
@@ -27,7 +27,7 @@ lumbryth-unpack-spec =
     (tie.spec
     unpack-requires
     shown-unpacked-requires
-    store-requires
+    tell-requires
     same-length
     same-length-2
     returns)

@@ -1,6 +1,5 @@
-use Rattle.telling.proofs.TellLaws.{shows-as}
 use Rattle.order.specs.Order.{toldOrdered}
-use native.Mathlib.Omega.{arith}
+use Rattle.telling.proofs.TellLaws.{shows-as}
 use borrow.Author.Needs.{needs}
 use Rattle.telling.proofs.shown_ordered.Statement.{statement}
 use Rattle.telling.proofs.shown_ordered.Tie as tie
@@ -8,20 +7,20 @@ use Rattle.telling.proofs.shown_ordered.Tie as tie
 enum-known-o : tie.Need-enum-known-o
 enum-known-o c = search needs
 
-show-requires : tie.Need-show-requires
-show-requires c κs = search needs
+with-one-requires : tie.Need-with-one-requires
+with-one-requires c κs = search needs
 
 enum-known-o-2 : tie.Need-enum-known-o-2
 enum-known-o-2 c = search needs
 
-show-requires-2 : tie.Need-show-requires-2
-show-requires-2 c κs = search needs
+with-one-requires-2 : tie.Need-with-one-requires-2
+with-one-requires-2 c κs = search needs
 
 enum-known-o-3 : tie.Need-enum-known-o-3
 enum-known-o-3 c = search needs
 
-show-requires-3 : tie.Need-show-requires-3
-show-requires-3 c κs = search needs
+with-one-requires-3 : tie.Need-with-one-requires-3
+with-one-requires-3 c κs = search needs
 
 returns : tie.Need-returns
 unfolding toldOrdered
@@ -40,11 +39,11 @@ shown-ordered-spec =
     tie.close
     (tie.spec
     enum-known-o
-    show-requires
+    with-one-requires
     enum-known-o-2
-    show-requires-2
+    with-one-requires-2
     enum-known-o-3
-    show-requires-3
+    with-one-requires-3
     returns
     returns-2
     returns-3)

@@ -7,20 +7,20 @@ use Rattle.telling.proofs.shown_packed.Tie as tie
 enum-known-p : tie.Need-enum-known-p
 enum-known-p c = search needs
 
-show-requires : tie.Need-show-requires
-show-requires c κs = search needs
+with-one-requires : tie.Need-with-one-requires
+with-one-requires c κs = search needs
 
 enum-told : tie.Need-enum-told
 enum-told c = search needs
 
-show-requires-2 : tie.Need-show-requires-2
-show-requires-2 c κs = search needs
+alone-requires : tie.Need-alone-requires
+alone-requires c κs = search needs
 
 enum-known-p-2 : tie.Need-enum-known-p-2
 enum-known-p-2 c = search needs
 
-show-requires-3 : tie.Need-show-requires-3
-show-requires-3 c κs = search needs
+with-one-requires-2 : tie.Need-with-one-requires-2
+with-one-requires-2 c κs = search needs
 
 returns : tie.Need-returns
 returns c = search (shows-as toldPacked)
@@ -36,11 +36,11 @@ shown-packed-spec =
     tie.close
     (tie.spec
     enum-known-p
-    show-requires
+    with-one-requires
     enum-told
-    show-requires-2
+    alone-requires
     enum-known-p-2
-    show-requires-3
+    with-one-requires-2
     returns
     returns-2
     returns-3)

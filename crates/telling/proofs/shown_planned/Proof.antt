@@ -1,6 +1,5 @@
-use Rattle.telling.proofs.TellLaws.{shows-as}
 use Rattle.fixtures.specs.Told.{toldPlanned}
-use native.Mathlib.Omega.{arith}
+use Rattle.telling.proofs.TellLaws.{shows-as}
 use borrow.Author.Needs.{needs}
 use Rattle.telling.proofs.shown_planned.Statement.{statement}
 use Rattle.telling.proofs.shown_planned.Tie as tie
@@ -8,26 +7,26 @@ use Rattle.telling.proofs.shown_planned.Tie as tie
 enum-known-p : tie.Need-enum-known-p
 enum-known-p c = search needs
 
-show-requires : tie.Need-show-requires
-show-requires c κs = search needs
+with-two-requires : tie.Need-with-two-requires
+with-two-requires c κs = search needs
 
 enum-known-p-2 : tie.Need-enum-known-p-2
 enum-known-p-2 c = search needs
 
-show-requires-2 : tie.Need-show-requires-2
-show-requires-2 c κs = search needs
+with-one-requires : tie.Need-with-one-requires
+with-one-requires c κs = search needs
 
 enum-known-p-3 : tie.Need-enum-known-p-3
 enum-known-p-3 c = search needs
 
-show-requires-3 : tie.Need-show-requires-3
-show-requires-3 c κs = search needs
+with-one-requires-2 : tie.Need-with-one-requires-2
+with-one-requires-2 c κs = search needs
 
 enum-known-p-4 : tie.Need-enum-known-p-4
 enum-known-p-4 c = search needs
 
-show-requires-4 : tie.Need-show-requires-4
-show-requires-4 c κs = search needs
+with-one-requires-3 : tie.Need-with-one-requires-3
+with-one-requires-3 c κs = search needs
 
 returns : tie.Need-returns
 returns c = search (shows-as toldPlanned)
@@ -46,13 +45,13 @@ shown-planned-spec =
     tie.close
     (tie.spec
     enum-known-p
-    show-requires
+    with-two-requires
     enum-known-p-2
-    show-requires-2
+    with-one-requires
     enum-known-p-3
-    show-requires-3
+    with-one-requires-2
     enum-known-p-4
-    show-requires-4
+    with-one-requires-3
     returns
     returns-2
     returns-3

@@ -7,77 +7,77 @@ use Rattle.telling.proofs.shown_unpacked.Tie as tie
 enum-known-u : tie.Need-enum-known-u
 enum-known-u c = search needs
 
-cast-show : tie.Need-cast-show
-cast-show c = search needs
+cast-with-three : tie.Need-cast-with-three
+cast-with-three c = search needs
 
-cast-show-2 : tie.Need-cast-show-2
-cast-show-2 c = search needs
+cast-with-three-2 : tie.Need-cast-with-three-2
+cast-with-three-2 c = search needs
 
-show-requires : tie.Need-show-requires
-show-requires c κs = search needs
+with-three-requires : tie.Need-with-three-requires
+with-three-requires c κs = search needs
 
 enum-told : tie.Need-enum-told
 enum-told c = search needs
 
-show-requires-2 : tie.Need-show-requires-2
-show-requires-2 c κs = search needs
+alone-requires : tie.Need-alone-requires
+alone-requires c κs = search needs
 
 enum-told-2 : tie.Need-enum-told-2
 enum-told-2 c = search needs
 
-show-requires-3 : tie.Need-show-requires-3
-show-requires-3 c κs = search needs
+alone-requires-2 : tie.Need-alone-requires-2
+alone-requires-2 c κs = search needs
 
 enum-told-3 : tie.Need-enum-told-3
 enum-told-3 c = search needs
 
-show-requires-4 : tie.Need-show-requires-4
-show-requires-4 c κs = search needs
+alone-requires-3 : tie.Need-alone-requires-3
+alone-requires-3 c κs = search needs
 
 enum-told-4 : tie.Need-enum-told-4
 enum-told-4 c = search needs
 
-show-requires-5 : tie.Need-show-requires-5
-show-requires-5 c κs = search needs
+alone-requires-4 : tie.Need-alone-requires-4
+alone-requires-4 c κs = search needs
 
 enum-known-u-2 : tie.Need-enum-known-u-2
 enum-known-u-2 c = search needs
 
-cast-show-3 : tie.Need-cast-show-3
-cast-show-3 c = search needs
+cast-with-one : tie.Need-cast-with-one
+cast-with-one c = search needs
 
-show-requires-6 : tie.Need-show-requires-6
-show-requires-6 c κs = search needs
+with-one-requires : tie.Need-with-one-requires
+with-one-requires c κs = search needs
 
 enum-told-5 : tie.Need-enum-told-5
 enum-told-5 c = search needs
 
-show-requires-7 : tie.Need-show-requires-7
-show-requires-7 c κs = search needs
+alone-requires-5 : tie.Need-alone-requires-5
+alone-requires-5 c κs = search needs
 
 enum-known-u-3 : tie.Need-enum-known-u-3
 enum-known-u-3 c = search needs
 
-show-requires-8 : tie.Need-show-requires-8
-show-requires-8 c κs = search needs
+with-two-requires : tie.Need-with-two-requires
+with-two-requires c κs = search needs
 
 enum-known-u-4 : tie.Need-enum-known-u-4
 enum-known-u-4 c = search needs
 
-cast-show-4 : tie.Need-cast-show-4
-cast-show-4 c = search needs
+cast-with-two : tie.Need-cast-with-two
+cast-with-two c = search needs
 
-cast-show-5 : tie.Need-cast-show-5
-cast-show-5 c = search needs
+cast-with-two-2 : tie.Need-cast-with-two-2
+cast-with-two-2 c = search needs
 
-show-requires-9 : tie.Need-show-requires-9
-show-requires-9 c κs = search needs
+with-two-requires-2 : tie.Need-with-two-requires-2
+with-two-requires-2 c κs = search needs
 
 enum-known-u-5 : tie.Need-enum-known-u-5
 enum-known-u-5 c = search needs
 
-show-requires-10 : tie.Need-show-requires-10
-show-requires-10 c κs = search needs
+with-one-requires-2 : tie.Need-with-one-requires-2
+with-one-requires-2 c κs = search needs
 
 returns : tie.Need-returns
 returns c = search (shows-as told)
@@ -114,30 +114,30 @@ shown-unpacked-spec =
     tie.close
     (tie.spec
     enum-known-u
-    cast-show
-    cast-show-2
-    show-requires
+    cast-with-three
+    cast-with-three-2
+    with-three-requires
     enum-told
-    show-requires-2
+    alone-requires
     enum-told-2
-    show-requires-3
+    alone-requires-2
     enum-told-3
-    show-requires-4
+    alone-requires-3
     enum-told-4
-    show-requires-5
+    alone-requires-4
     enum-known-u-2
-    cast-show-3
-    show-requires-6
+    cast-with-one
+    with-one-requires
     enum-told-5
-    show-requires-7
+    alone-requires-5
     enum-known-u-3
-    show-requires-8
+    with-two-requires
     enum-known-u-4
-    cast-show-4
-    cast-show-5
-    show-requires-9
+    cast-with-two
+    cast-with-two-2
+    with-two-requires-2
     enum-known-u-5
-    show-requires-10
+    with-one-requires-2
     returns
     returns-2
     returns-3
