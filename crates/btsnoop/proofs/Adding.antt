@@ -1,10 +1,9 @@
 -- The table of packets, one packet more, and the loop over the records.
-use Prim.Native.Nat.{ℕ, zero, suc, _+_, _-_, _*_, _/_, _<_, _≤_}
+use Prim.Native.Nat.{ℕ, suc, _+_, _-_, _*_, _/_, _<_, _≤_}
 use mathlib.Core.Path.{_≡_, refl, sym, _∙_}
 use mathlib.Core.Bool.{Bool, true, false}
-use mathlib.Core.List.{List, [], _∷_, _++_, append-assoc, append-nil}
+use mathlib.Core.List.{List, [], _++_, append-assoc, append-nil}
 use mathlib.Core.Option.{Option, none, some}
-use native.Mathlib.Nat.{add-zero}
 use native.Mathlib.Omega.{arith}
 use native.Mathlib.Numerals.{add-one}
 use lib.ListN.{length, getD, drop, length-drop}
@@ -20,6 +19,7 @@ use Rattle.btsnoop.specs.Records.{recordsIn, records, tailOffset}
 use Rattle.container.specs.Packets.{Packet, orNone, packets}
 use Rattle.btsnoop.specs.Packets.{milliseconds, packetOf}
 use Rattle.btsnoop.specs.PacketTable.{packetAt, packetsFrom, dataOf}
+use Rattle.btsnoop.proofs.PacketFrames.{packets-front, packets-snoc, data-front}
 use Rattle.btsnoop.proofs.Parts.{be64-part}
 use Rattle.btsnoop.proofs.Laws.{packet-none}
 use Rattle.btsnoop.specs.Walk.{RecordAt, isEmpty}
@@ -48,34 +48,7 @@ pub put-all : (w : List ℕ) (i : ℕ) (g : Fragment) (t : ℕ) (a b c d u : Lis
 unfolding putPacket
 put-all w i g t a b c d u p q r s e = e ∙ rw (s, r, q, p) (put-is w (6 * i) g t)
 
--- ---- the table under a frame
-
-packet-front : (n : ℕ) (f u w : List ℕ) (i : ℕ) → 24 * i + 24 ≤ n → Front n u w → packetAt f u i ≡ packetAt f w i
-unfolding packetAt long
-packet-front n f u w i h a =
-    rw (
-      front-word n u w (6 * i) (omega arith) a,
-      front-word n u w (6 * i + 1) (omega arith) a,
-      front-word n u w (6 * i + 2) (omega arith) a,
-      front-word n u w (6 * i + 3) (omega arith) a,
-      front-word n u w (6 * i + 4) (omega arith) a,
-      front-word n u w (6 * i + 4 + 1) (omega arith) a,
-    )
-
-packets-front : (n : ℕ) (f u w : List ℕ) (i m : ℕ) → 24 * (i + m) ≤ n → Front n u w → packetsFrom f u i m ≡ packetsFrom f w i m
-unfolding packetsFrom
-packets-front n f u w i zero h a = refl
-packets-front n f u w i (suc m) h a = rw (packet-front n f u w i (omega arith) a, packets-front n f u w (suc i) m (omega arith) a)
-
-packets-snoc : (f w : List ℕ) (i m : ℕ) → packetsFrom f w i (suc m) ≡ packetsFrom f w i m ++ (packetAt f w (i + m) ∷ [])
-unfolding packetsFrom
-packets-snoc f w i zero = rw add-zero
-packets-snoc f w i (suc m) = let z : i + suc m ≡ suc i + m = omega arith in rw (z, packets-snoc f w (suc i) m)
-
-data-front : (n : ℕ) (u w : List ℕ) (i : ℕ) → 24 * i ≤ n → Front n u w → dataOf u i ≡ dataOf w i
-unfolding dataOf
-data-front n u w zero h a = refl
-data-front n u w (suc i) h a = rw (data-front n u w i (omega arith) a, front-word n u w (6 * i + 3) (omega arith) a)
+-- ---- one packet more
 
 module _ (f w : List ℕ) (at end dl count : ℕ) (pre : AddPre f w at end count) (x : Acl) (is : RecordIs f at end dl x) where
   pub add-none : x ≡ Skipped → Added f w at end dl count w count
@@ -200,7 +173,11 @@ module _ (f w₀ : List ℕ) (p : ReadPre f w₀) (w : List ℕ) (at count : ℕ
           size = a .size ∙ v .size;
           fits = a .fits;
           total = omega (arith, a .total, v .total, here .least);
-          same = rw (l, append-assoc, orNone-append (packetOf (be32 f 12) (between f at e)) (packets (packetOf (be32 f 12)) (recordsIn (drop e f)))) (rw (here .list) at (v .same));
+          same = rw (
+            l,
+            append-assoc,
+            orNone-append (packetOf (be32 f 12) (between f at e)) (packets (packetOf (be32 f 12)) (recordsIn (drop e f))),
+          ) (rw (here .list) at (v .same));
           tail = sym (flat-step f at e here) ∙ v .tail;
         }
 

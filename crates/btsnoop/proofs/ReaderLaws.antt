@@ -17,7 +17,7 @@ use Rattle.btsnoop.specs.Records.{recordSize, isWhole, recordsIn, record
 use Rattle.btsnoop.proofs.Records.{records-eq}
 use Rattle.btsnoop.specs.Reading.{between}
 use Rattle.btsnoop.specs.Walk.{RecordAt, NextIs, isEmpty}
-use Rattle.btsnoop.proofs.Walk.{next-as, flat-step}
+use Rattle.btsnoop.proofs.Walk.{next-as, size-least, flat-step}
 use Rattle.btsnoop.specs.declared.Next.{Next}
 use Rattle.btsnoop.specs.declared.Next.the-variants.{Record as Whole, End as NoneWhole}
 use Rattle.btsnoop.specs.declared.Step.{Step}
@@ -29,10 +29,6 @@ abbrev endOf : Step → ℕ
 endOf (Record e) = e
 endOf (Cut at) = at
 endOf End = 0
-
-size-least : (b : List ℕ) → 24 ≤ recordSize b
-unfolding recordSize
-size-least b = omega arith
 
 none-left : recordsIn [] ≡ []
 unfolding container.isWhole recordSize be32

@@ -29,7 +29,7 @@ size-drop f at n e =
     let c : at + 7 ≡ at + 4 + 3 = omega arith in
     rw (getD-drop at f 4 0, getD-drop at f 5 0, getD-drop at f 6 0, getD-drop at f 7 0, a, b, c, e)
 
-size-least : (b : List ℕ) → 24 ≤ recordSize b
+pub size-least : (b : List ℕ) → 24 ≤ recordSize b
 unfolding recordSize
 size-least b = omega arith
 
@@ -65,7 +65,9 @@ module _ (f : List ℕ) (at : ℕ) (h : at ≤ length f) where
   pub empty-is : (n : ℕ) → n ≡ be32 f (at + 4) → 24 ≤ length f - at → eqb n 0 ≡ isEmpty (drop at f)
   unfolding isEmpty container.isWhole
   empty-is n e s = rw (size-drop f at n e) (splitB (eqb n 0)
-      (λ q. let z : n ≡ 0 = eqb-true n 0 q in rw (q, eq-eqb (24 + n) 24 (omega arith), le-leb (24 + n) (length (drop at f)) (simp length-drop (omega arith))))
+      (λ q.
+      let z : n ≡ 0 = eqb-true n 0 q in
+      rw (q, eq-eqb (24 + n) 24 (omega arith), le-leb (24 + n) (length (drop at f)) (simp length-drop (omega arith))))
       (λ q. rw (q, ne-eqb (24 + n) 24 (λ z. eqb-false n 0 q (omega arith)))))
 
 -- the bytes of the records still to come

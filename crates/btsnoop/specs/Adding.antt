@@ -40,7 +40,7 @@ pub record Added (f w : List ℕ) (at end datalink count : ℕ) (u : List ℕ) (
 
 -- ---- records without a packet
 
--- what is still to come from one place is what is still to come from another
+-- from one place the same packets are still to come as from another, and the whole records end at the same place
 pub record Passed (f : List ℕ) (at to : ℕ) : Type 0 where
   pub least : at ≤ to
   pub most : to ≤ length f

@@ -349,7 +349,7 @@ fn is_empty(file: &[u8], at: usize) -> bool
 }
 
 // The place after the records without bytes that stand at a place: they hold no packets.
-// Their size is known before it is read, so passing them does not wait for it.
+// Each has 24 bytes, so the next place does not wait for a length that is read, as that of a reader does.
 fn pass_empty(file: &[u8], at: usize) -> usize
     requires { ⌜ at ≤ length (now file) ⌝ }
     ensures { λ r. ⌜ Passed (now (file .entry)) at r ⌝ }
