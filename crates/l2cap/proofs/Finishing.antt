@@ -15,11 +15,12 @@ use Rattle.words.specs.Words.{word, long}
 use Rattle.words.specs.Front.{Front, front-refl, front-then, front-part, front-sets, part-take}
 use Rattle.table.specs.Table.{Agree}
 use Rattle.btsnoop.specs.PacketTable.{packetAt}
+use Rattle.fragments.specs.Bytes.{begun, Gather}
+use Rattle.fragments.proofs.Walking.{since-one, piece-own, word-behind}
 use Rattle.l2cap.specs.Pdus.{Pdu, pduOf}
 use Rattle.l2cap.specs.PduTable.{pduAt, pdusFrom, paysOf, Inside}
 use Rattle.l2cap.specs.PduFrames.{Placed, pdus-snoc, pays-next, placed-agree, pdus-agree, pays-agree}
-use Rattle.l2cap.specs.Steps.{begun, Gather, putPdu, PutPdu, Finish, Finished}
-use Rattle.l2cap.proofs.Walking.{since-one, piece-own, word-behind}
+use Rattle.l2cap.specs.Steps.{putPdu, PutPdu, Finish, Finished}
 use Rattle.l2cap.proofs.Rows.{row-outside, row-length, row-front, row-len, row-new, row-inside}
 
 -- ---- one row more, whose payload lies in d

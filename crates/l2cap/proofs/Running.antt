@@ -16,13 +16,14 @@ use Rattle.table.specs.Table.{lookup}
 use Rattle.container.specs.Packets.{Packet}
 use Rattle.btsnoop.specs.PacketTable.{packetAt, packetsFrom, dataOf, Tabled}
 use Rattle.btsnoop.specs.PacketFrames.{packets-next, packets-none, data-mono, tabled-less, two-ways, packet-front, packets-front, tabled-front}
+use Rattle.fragments.specs.Bytes.{numberOf}
 use Rattle.l2cap.specs.Pdus.{Pdu, packetKey, reassembly, pdus}
 use Rattle.l2cap.specs.PduTable.{pdusFrom, paysOf, Reassembled}
 use Rattle.l2cap.specs.PduFrames.{inside-top}
 use Rattle.l2cap.specs.Rekeyed.{runBy, rekey, run-by}
 use Rattle.fragments.specs.Links.{Linked, Seats, LinkRoom, LinkedTo}
 use Rattle.fragments.proofs.Chains.{linked-less, linked-agree}
-use Rattle.l2cap.specs.Steps.{numberOf, openAt, heldOf, mapOf, Ready, Step, Stepped, Run}
+use Rattle.l2cap.specs.Steps.{openAt, heldOf, mapOf, Ready, Step, Stepped, Run}
 use Rattle.l2cap.specs.declared.Open.the-variants.{Closed}
 use Rattle.l2cap.specs.declared.Tables.{Tables}
 use Rattle.l2cap.proofs.Opens.{never, as-blank}

@@ -17,15 +17,16 @@ use Rattle.table.specs.declared.Row.the-variants.{At}
 use Rattle.tree.specs.Tree.{find-agree}
 use Rattle.btsnoop.specs.PacketTable.{packetAt, dataOf}
 use Rattle.btsnoop.specs.PacketFrames.{data-next, data-front}
+use Rattle.fragments.specs.Bytes.{since, begun, Walk}
+use Rattle.fragments.proofs.Walking.{number-at, bytes-length, piece-own, piece-other, since-one, since-snoc, since-front}
 use Rattle.l2cap.specs.Pdus.{joined, isComplete, stillOpen, completed}
 use Rattle.l2cap.specs.PduTable.{pdusFrom, paysOf}
 use Rattle.l2cap.specs.PduFrames.{Placed, placed-agree, pdus-agree, pays-agree}
 use Rattle.l2cap.specs.Rekeyed.{putBy}
-use Rattle.l2cap.specs.Steps.{since, begun, Walk, Need, rowAt, RowPre, asOpen, openAt, longer, grown, nextAt, nextBy, Arrive, putOpen, Finish, Finished, heldOf, mapOf, Sound, Step, after, Stepped}
+use Rattle.l2cap.specs.Steps.{Need, rowAt, RowPre, asOpen, openAt, longer, grown, nextAt, nextBy, Arrive, putOpen, Finish, Finished, heldOf, mapOf, Sound, Step, after, Stepped}
 use Rattle.l2cap.specs.declared.Open.{Open}
 use Rattle.l2cap.specs.declared.Open.the-variants.{Closed, From}
 use Rattle.l2cap.specs.declared.Tables.{Tables}
-use Rattle.l2cap.proofs.Walking.{number-at, bytes-length, piece-own, piece-other, since-one, since-snoc, since-front}
 use Rattle.l2cap.proofs.Opens.{never, as-zero, as-pos, open-row, set-other, set-stored, set-finds, arrive-got, arrive-none}
 
 -- ---- what is open once a packet is read

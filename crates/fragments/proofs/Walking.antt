@@ -15,9 +15,9 @@ use Rattle.words.specs.Front.{Front, front-then, front-sets, front-refl}
 use Rattle.container.specs.Packets.{Packet}
 use Rattle.btsnoop.specs.PacketTable.{packetAt, packetsFrom}
 use Rattle.btsnoop.specs.PacketFrames.{packets-next, packets-none, packets-snoc, packet-front, packets-front, tabled-less, tabled-front}
 use Rattle.fragments.specs.Links.{soonest, tagAt, Linked}
 use Rattle.fragments.proofs.Chains.{soonest-from, soonest-tag, soonest-skip, tag-full, tag-key}
-use Rattle.l2cap.specs.Steps.{numberOf, pieceOf, gathered, since, begun, Next, Walk, Paste, Gather}
+use Rattle.fragments.specs.Bytes.{numberOf, pieceOf, gathered, since, begun, Next, Walk, Paste, Gather}
 
 -- ---- one packet
 
