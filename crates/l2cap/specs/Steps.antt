@@ -1,17 +1,17 @@
--- What the functions of the pass ask and promise: the bytes of a key among the packets, what is open, a PDU's row, a step.
-use Prim.Native.Nat.{ℕ, zero, suc, _+_, _-_, _*_, _/_, _%_, _<_, _≤_}
+-- What the functions of the pass ask and promise: what a PDU needs, what is open, a PDU's row, a step.
+use Prim.Native.Nat.{ℕ, zero, suc, _+_, _*_, _/_, _%_, _<_, _≤_}
 use mathlib.Core.Path.{_≡_}
 use mathlib.Core.Bool.{cond}
 use mathlib.Core.List.{List, [], _∷_, _++_}
 use mathlib.Core.Option.{Option, none, some}
 use lib.ListN.{length}
-use lib.Dec.{eqb, ltb}
+use lib.Dec.{eqb}
 use Rattle.laws.specs.Numbers.{le16}
 use Rattle.words.specs.Words.{word, putWord}
 use Rattle.words.specs.Front.{Front}
+use Rattle.words.specs.Rows.{putWords}
 use Rattle.table.specs.Table.{Slot, none as no-row, some as row, findIn, lookup, sumOf}
-use Rattle.container.specs.Packets.{Packet}
-use Rattle.btsnoop.specs.PacketTable.{packetAt, packetsFrom, dataOf, Tabled}
+use Rattle.btsnoop.specs.PacketTable.{packetAt, dataOf, Tabled}
 use Rattle.l2cap.specs.Pdus.{joined, stillOpen, completed, pduOf}
 use Rattle.l2cap.specs.PduTable.{pdusFrom, paysOf}
 use Rattle.l2cap.specs.PduFrames.{Placed}
@@ -75,11 +75,6 @@ unfoldable pub putOpen : List ℕ → ℕ → ℕ → ℕ → List ℕ
 putOpen w at y z = putWord (putWord w (at + 2) y) (at + 3) z
 
 -- ---- a PDU's row
-
--- words one after another
-unfoldable pub putWords : List ℕ → ℕ → List ℕ → List ℕ
-putWords w at [] = w
-putWords w at (x ∷ xs) = putWords (putWord w at x) (suc at) xs
 
 unfoldable pub putPdu : List ℕ → ℕ → ℕ → ℕ → ℕ → ℕ → ℕ → ℕ → List ℕ
 putPdu w at k c p s l t = putWords w at (k ∷ c ∷ p ∷ s ∷ l ∷ t % 4294967296 ∷ t / 4294967296 ∷ [])
@@ -153,7 +148,9 @@ pub record Stepped (f w : List ℕ) (q : ℕ) (t : Tables) (i : ℕ) (u : List �
   pub finds : (k : ℕ) → findIn u (3 * q) k (r .live) ≡ findIn w (3 * q) k (t .live)
   pub size : length u ≡ length w
   pub list : pdusFrom f u (2 * q) 0 (r .made) ≡ pdusFrom f w (2 * q) 0 (t .made) ++ completed (after f w (3 * q) (t .live) i) (packetAt f w i)
-  pub map : _≡_ {A = ℕ → Option (List ℕ)} (mapOf f u (3 * q) (r .live) (i + 1)) (putBy eqb (mapOf f w (3 * q) (t .live) i) (numberOf (packetAt f w i)) (stillOpen (after f w (3 * q) (t .live) i)))
+  pub map :
+      _≡_ {A = ℕ → Option (List ℕ)} (mapOf f u (3 * q) (r .live) (i + 1))
+      (putBy eqb (mapOf f w (3 * q) (t .live) i) (numberOf (packetAt f w i)) (stillOpen (after f w (3 * q) (t .live) i)))
 
 -- ---- all steps
 
