@@ -22,7 +22,9 @@ pub soonest-tag : (b : ℕ → ℕ) (h i m : ℕ) → soonest b h i m < i + m �
 unfolding soonest
 soonest-tag b h i zero l = absurd (omega arith)
 soonest-tag b h i (suc m) l = go (eqb (b i) h) refl l (soonest-tag b h (suc i) m) where
-  go : (t : Bool) → eqb (b i) h ≡ t → cond t i (soonest b h (suc i) m) < i + suc m → (soonest b h (suc i) m < suc i + m → b (soonest b h (suc i) m) ≡ h) → b (cond t i (soonest b h (suc i) m)) ≡ h
+  go :
+      (t : Bool) → eqb (b i) h ≡ t → cond t i (soonest b h (suc i) m) < i + suc m →
+      (soonest b h (suc i) m < suc i + m → b (soonest b h (suc i) m) ≡ h) → b (cond t i (soonest b h (suc i) m)) ≡ h
   go true e k ih = eqb-true (b i) h e
   go false e k ih = ih (omega arith)
 
@@ -57,7 +59,9 @@ pub linked-less : (w : List ℕ) (q m n : ℕ) → m ≤ n → Linked w q n → 
 linked-less w q m n h l = record { count = l .count; most = omega (arith, l .most); low = l .low; next = l .next }
 
 -- links do not see what is written between the packets and them
-pub linked-agree : (u w : List ℕ) (q n : ℕ) → ((j : ℕ) → j < q → word u j ≡ word w j) → ((j : ℕ) → 7 * q ≤ j → word u j ≡ word w j) → Linked w q n → Linked u q n
+pub linked-agree :
+    (u w : List ℕ) (q n : ℕ) → ((j : ℕ) → j < q → word u j ≡ word w j) → ((j : ℕ) → 7 * q ≤ j → word u j ≡ word w j) →
+    Linked w q n → Linked u q n
 unfolding tagAt
 linked-agree u w q n a b l = record {
   count = l .count;
@@ -65,7 +69,10 @@ linked-agree u w q n a b l = record {
   low = l .low;
   next = λ i h.
       b (7 * q + 2 * i) (omega arith) ∙ l .next i h
-      ∙ ap suc (rw (a (6 * i) (omega (arith, l .low))) (soonest-agree (tagAt w (word w (6 * i))) (tagAt u (word w (6 * i))) (word w (6 * i)) (suc i) (l .count - suc i) (λ j lo hi. tag-agree (word w (6 * i)) j (omega (arith, l .low)))));
+      ∙ ap suc (rw (a (6 * i) (omega (arith, l .low))) (same (word w (6 * i)) i h));
 } where
   tag-agree : (h j : ℕ) → 6 * j + 6 ≤ q → tagAt w h j ≡ tagAt u h j
   tag-agree h j l = rw (a (6 * j) (omega arith), a (6 * j + 3) (omega arith))
+
+  same : (k i : ℕ) → i < l .count → soonest (tagAt w k) k (suc i) (l .count - suc i) ≡ soonest (tagAt u k) k (suc i) (l .count - suc i)
+  same k i h = soonest-agree (tagAt w k) (tagAt u k) k (suc i) (l .count - suc i) (λ j lo hi. tag-agree k j (omega (arith, l .low)))

@@ -2,23 +2,23 @@
 use mathlib.Core.Path.{_≡_, refl, sym, ap, _∙_}
 use mathlib.Core.List.{List}
 use mathlib.Core.Bool.{Bool, true, false, cond}
-use Prim.Native.Nat.{ℕ, zero, suc, _+_, _-_, _*_, _<_, _≤_}
+use Prim.Native.Nat.{ℕ, suc, _+_, _-_, _*_, _<_, _≤_}
 use native.Mathlib.Omega.{arith}
 use lib.ListN.{length}
 use lib.Dec.{eqb}
 use borrow.Author.Tests.{eq-eqb, ne-eqb}
 use Rattle.laws.specs.Choice.{split≡}
 use Rattle.words.specs.Words.{word, long, putWord, length-put, word-put-same, word-put-other}
-use Rattle.words.specs.Front.{Front, front-refl, front-put, front-then, front-less, front-word}
-use Rattle.table.specs.Table.{findIn, lookup, upd, second, sumOf, Slot, some, find-below, lookup-agree, long-agree, sum-agree}
-use Rattle.table.specs.declared.Row.{Row}
+use Rattle.words.specs.Front.{Front, front-refl, front-put, front-then, front-word}
+use Rattle.table.specs.Table.{findIn, lookup, upd, sumOf, some, find-below, lookup-agree, long-agree, sum-agree}
 use Rattle.table.specs.declared.Row.the-variants.{At, Nothing}
-use Rattle.tree.specs.Tree.{Indexed, EnterPre, Entered, indexed-none, indexed-agree, find-agree, found-key}
+use Rattle.tree.specs.Tree.{Indexed, EnterPre, indexed-none, indexed-agree, find-agree, found-key}
 use Rattle.tree.specs.Seats.{Seated}
-use Rattle.tree.proofs.Seats.{split-row, same-row}
+use Rattle.tree.proofs.Seats.{split-row}
 use Rattle.tree.specs.declared.Tree.{Tree}
 use Rattle.tree.specs.declared.Seating.{Seating}
-use Rattle.fragments.specs.Links.{soonest, tagAt, Blank, firstOf, indexOf, SeatKey, headIn, headAt, headOf, headWith, Head, noted, Note, LinkStep, LinkedStep, LinkRoom, LinkedTo}
+use Rattle.fragments.specs.Links.{soonest, tagAt, Blank, firstOf, indexOf, SeatKey, headIn, headAt, headOf, headWith, Head, noted, Note}
+use Rattle.fragments.specs.Links.{LinkStep, LinkedStep, LinkRoom, LinkedTo}
 use Rattle.fragments.proofs.Chains.{soonest-agree, tag-empty, tag-full}
 
 -- ---- the row of a key
@@ -56,13 +56,21 @@ module _ (w : List ℕ) (q i y a h : ℕ) (p : Note w q i a) (u : List ℕ) (e :
   noted-link =
       let n1 : 7 * q + 2 * i + 1 ≡ 7 * q + 2 * i → ⊥ = λ t. omega arith in
       let n2 : 6 * q + a ≡ 7 * q + 2 * i → ⊥ = λ t. omega (arith, p .low) in
-      rw e (word-put-other _ (6 * q + a) h (7 * q + 2 * i) n2 ∙ word-put-other _ (7 * q + 2 * i + 1) a (7 * q + 2 * i) n1 ∙ word-put-same w (7 * q + 2 * i) y (omega (arith, p .room)))
+      rw e
+      (word-put-other _ (6 * q + a) h (7 * q + 2 * i) n2
+      ∙ word-put-other _ (7 * q + 2 * i + 1) a (7 * q + 2 * i) n1
+      ∙ word-put-same w (7 * q + 2 * i) y (omega (arith, p .room)))
 
   pub noted-front : (m : ℕ) → m ≤ 4 * (6 * q) → Front m u w
   unfolding noted
-  noted-front m l = rw e (front-then m _ _ w (front-put m _ (6 * q + a) h (omega arith)) (front-then m _ _ w (front-put m _ (7 * q + 2 * i + 1) a (omega arith)) (front-put m w (7 * q + 2 * i) y (omega arith))))
+  noted-front m l =
+      rw e
+      (front-then m _ _ w (front-put m _ (6 * q + a) h (omega arith))
+      (front-then m _ _ w (front-put m _ (7 * q + 2 * i + 1) a (omega arith)) (front-put m w (7 * q + 2 * i) y (omega arith))))
 
-pub note-is : (w : List ℕ) (q i y a h c : ℕ) → c ≡ a → (u v t : List ℕ) → v ≡ putWord w (7 * q + 2 * i) y → t ≡ putWord v (7 * q + 2 * i + 1) c → u ≡ putWord t (6 * q + a) h → u ≡ noted w q i y a h
+pub note-is :
+    (w : List ℕ) (q i y a h c : ℕ) → c ≡ a → (u v t : List ℕ) →
+    v ≡ putWord w (7 * q + 2 * i) y → t ≡ putWord v (7 * q + 2 * i + 1) c → u ≡ putWord t (6 * q + a) h → u ≡ noted w q i y a h
 unfolding noted
 note-is w q i y a h c ec u v t ev et eu = rw (eu, et, ev, ec)
 
@@ -108,7 +116,9 @@ blank-seated w x n k u r s b = split-row (findIn w (x .rows) k n) old new where
 blank-agree : (u w : List ℕ) (b n : ℕ) → ((j : ℕ) → b ≤ j → j < b + 4 * n → word u j ≡ word w j) → Blank w b n → Blank u b n
 blank-agree u w b n a s = record { says = λ k. ap firstOf (lookup-agree u w b n k a) ∙ s .says k; sum = sum-agree u w b n a ∙ s .sum }
 
-module _ (w : List ℕ) (q n i x : ℕ) (p : LinkStep w q n i) (key : ℕ) (ek : key ≡ word w (6 * i)) (v : List ℕ) (t : Seating) (s : Seated w (indexOf q) n key 0 0 v t) where
+module _
+    (w : List ℕ) (q n i x : ℕ) (p : LinkStep w q n i) (key : ℕ) (ek : key ≡ word w (6 * i))
+    (v : List ℕ) (t : Seating) (s : Seated w (indexOf q) n key 0 0 v t) where
   pub link-head : Head v q (t .at)
   link-head = record { room = omega (arith, p .few, p .room, s .few, s .most, s .size); small = p .seat .small }
 
@@ -129,8 +139,12 @@ module _ (w : List ℕ) (q n i x : ℕ) (p : LinkStep w q n i) (key : ℕ) (ek :
         (λ e. let h = s .fresh e in rw (e, h .1 .1, eq-eqb n n refl))
 
     module _ (z : ℕ) (ez : z ≡ word w (6 * i + 3)) (h : ℕ) (eh : h ≡ headWith z i y) (u : List ℕ) (eu : u ≡ noted v q i y (t .at) h) where
+      -- below the packets' words, and but for the row's head
+      keeps : (j : ℕ) → j < 7 * q → (6 * q + t .at ≡ j → ⊥) → word u j ≡ word v j
+      keeps j l d = noted-other v q i y (t .at) h link-note u eu j (λ e. omega arith) (λ e. omega arith) d
+
       off : (j : ℕ) → j < 6 * q → word u j ≡ word v j
-      off j l = noted-other v q i y (t .at) h link-note u eu j (λ e. omega arith) (λ e. omega arith) (λ e. omega arith)
+      off j l = keeps j (omega arith) (λ e. omega arith)
 
       rows : (j : ℕ) → 3 * q ≤ j → j < 3 * q + 4 * t .rows → word u j ≡ word v j
       rows j a b = off j (omega (arith, p .few, s .most))
@@ -150,7 +164,7 @@ module _ (w : List ℕ) (q n i x : ℕ) (p : LinkStep w q n i) (key : ℕ) (ek :
       other-head : (k : ℕ) → (key ≡ k → ⊥) → headAt u q x (t .rows) k ≡ headAt w q x n k
       unfolding headIn
       other-head k d = ap (headIn u q x) (finds k ∙ s .others k d) ∙ split-row (findIn w (3 * q) k n)
-          (λ a e. rw e (noted-other v q i y (t .at) h link-note u eu (6 * q + a) (λ r. omega (arith, below a e)) (λ r. omega (arith, below a e)) (λ r. d (same a e (omega arith))) ∙ high (6 * q + a) (omega arith)))
+          (λ a e. rw e (keeps (6 * q + a) (omega (arith, below a e)) (λ r. d (same a e (omega arith))) ∙ high (6 * q + a) (omega arith)))
           (λ e. rw e) where
             below : (a : ℕ) → findIn w (3 * q) k n ≡ At a → a < q
             below a e = omega (arith, find-below w (3 * q) k n a e, p .few)
@@ -192,7 +206,9 @@ module _ (w : List ℕ) (q n i x : ℕ) (p : LinkStep w q n i) (key : ℕ) (ek :
         size = noted-size v q i y (t .at) h link-note u eu ∙ s .size;
       } where
         beside : (j : ℕ) {m : ℕ} → i < m → 7 * q + 2 * m ≤ j → word u j ≡ word w j
-        beside j l g = noted-other v q i y (t .at) h link-note u eu j (λ e. omega arith) (λ e. omega arith) (λ e. omega (arith, link-note .low)) ∙ high j (omega arith)
+        beside j l g =
+            noted-other v q i y (t .at) h link-note u eu j (λ e. omega arith) (λ e. omega arith) (λ e. omega (arith, link-note .low))
+            ∙ high j (omega arith)
 
 -- ---- all packets
 
@@ -234,7 +250,11 @@ module _ (w₀ : List ℕ) (q count : ℕ) (g : LinkRoom w₀ q count) where
     linking-step = record {
       seat = record {
         enter = record {
-          stands = record { rows = omega (arith, v .few, g .low); room = omega (arith, v .few, g .low, g .room, v .size); few = omega (arith, v .few, g .low, g .small) };
+          stands = record {
+            rows = omega (arith, v .few, g .low);
+            room = omega (arith, v .few, g .low, g .room, v .size);
+            few = omega (arith, v .few, g .low, g .small);
+          };
           indexed = v .indexed;
         };
         small = g .small;
@@ -315,5 +335,10 @@ module _ (w₀ : List ℕ) (q count : ℕ) (g : LinkRoom w₀ q count) where
     tag : (k j : ℕ) → j < count → tagAt w₀ k j ≡ tagAt w k j
     tag k j l = rw (key j l, sym (front-word (4 * (3 * q)) w w₀ (6 * j + 3) (omega (arith, g .low)) (v .front)))
 
-    same : (j : ℕ) → j < count → soonest (tagAt w₀ (keyIn w₀ j)) (keyIn w₀ j) (suc j) (count - suc j) ≡ soonest (tagAt w (keyIn w j)) (keyIn w j) (suc j) (count - suc j)
-    same j l = rw (← key j l) (soonest-agree (tagAt w₀ (keyIn w₀ j)) (tagAt w (keyIn w₀ j)) (keyIn w₀ j) (suc j) (count - suc j) (λ k lo hi. tag (keyIn w₀ j) k (omega arith)))
+    tags : (k j : ℕ) → soonest (tagAt w₀ k) k (suc j) (count - suc j) ≡ soonest (tagAt w k) k (suc j) (count - suc j)
+    tags k j = soonest-agree (tagAt w₀ k) (tagAt w k) k (suc j) (count - suc j) (λ i lo hi. tag k i (omega arith))
+
+    same :
+        (j : ℕ) → j < count →
+        soonest (tagAt w₀ (keyIn w₀ j)) (keyIn w₀ j) (suc j) (count - suc j) ≡ soonest (tagAt w (keyIn w j)) (keyIn w j) (suc j) (count - suc j)
+    same j l = rw (← key j l) (tags (keyIn w₀ j) j)

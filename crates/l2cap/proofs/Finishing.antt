@@ -15,11 +15,12 @@ use Rattle.words.specs.Words.{word, long}
 use Rattle.words.specs.Front.{Front, front-refl, front-then, front-part, front-sets, part-take}
 use Rattle.table.specs.Table.{Agree}
 use Rattle.btsnoop.specs.PacketTable.{packetAt}
+use Rattle.fragments.specs.Bytes.{begun, Gather}
+use Rattle.fragments.proofs.Walking.{since-one, piece-own, word-behind}
 use Rattle.l2cap.specs.Pdus.{Pdu, pduOf}
 use Rattle.l2cap.specs.PduTable.{pduAt, pdusFrom, paysOf, Inside}
 use Rattle.l2cap.specs.PduFrames.{Placed, pdus-snoc, pays-next, placed-agree, pdus-agree, pays-agree}
-use Rattle.l2cap.specs.Steps.{begun, Gather, putPdu, PutPdu, Finish, Finished}
-use Rattle.l2cap.proofs.Walking.{since-one, piece-own, word-behind}
+use Rattle.l2cap.specs.Steps.{putPdu, PutPdu, Finish, Finished}
 use Rattle.l2cap.proofs.Rows.{row-outside, row-length, row-front, row-len, row-new, row-inside}
 
 -- ---- one row more, whose payload lies in d
@@ -38,7 +39,8 @@ row-more :
 row-more f v u w b made top r k c p s l t room low up hc e ag fr pl d de ins =
     let frp : Front top u w = front-then top u v w (rw e (row-front v (b + 7 * made) k c p s l t top (omega arith))) fr in
     let agp : Agree b (b + 7 * made) u w = (λ j lo hi. (rw e (row-outside v (b + 7 * made) k c p s l t j (inl hi))) ∙ ag j lo hi) in
-    let new : pduAt f u (b + 7 * made) ≡ record { link = k / 2; rx = k % 2; time = t; cid = c; payload = take l (drop s d) } = rw e (row-new v (b + 7 * made) k c p s l t room f d (rw e at de)) in
+    let new : pduAt f u (b + 7 * made) ≡ record { link = k / 2; rx = k % 2; time = t; cid = c; payload = take l (drop s d) } =
+    rw e (row-new v (b + 7 * made) k c p s l t room f d (rw e at de)) in
     let ini : Inside f u (b + 7 * made) r = rw e (row-inside v (b + 7 * made) k c p s l t room f r hc ins) in
     let len : word u (b + 7 * made + 4) ≡ l = rw e (row-len v (b + 7 * made) k c p s l t room) in
     let old : Placed f u b made r = placed-agree f u w b made top r up agp pl in
@@ -54,7 +56,8 @@ row-more f v u w b made top r k c p s l t room low up hc e ag fr pl d de ins =
 part-sets : (vs l : List ℕ) (at a m : ℕ) → at + length vs ≤ length l → a + m ≤ length vs → take m (drop (at + a) (sets l at vs)) ≡ take m (drop a vs)
 part-sets vs l at a m h g =
     let d : drop at (sets l at vs) ≡ vs ++ drop (at + length vs) l =
-    ap (drop at) (sets-eq vs l at h ∙ append-assoc (take at l) vs (drop (at + length vs) l)) ∙ drop-at (take at l) (vs ++ drop (at + length vs) l) at (length-take-le at l (omega arith)) in
+    ap (drop at) (sets-eq vs l at h ∙ append-assoc (take at l) vs (drop (at + length vs) l))
+    ∙ drop-at (take at l) (vs ++ drop (at + length vs) l) at (length-take-le at l (omega arith)) in
     ap (take m) (sym (drop-drop a at (sets l at vs)) ∙ ap (drop a) d ∙ drop-append-le a vs (drop (at + length vs) l) (omega arith))
     ∙ take-append-le m (drop a vs) (drop (at + length vs) l) (simp length-drop (omega arith))
 
@@ -96,7 +99,9 @@ module _ (f w : List ℕ) (q made top i first need : ℕ) (pre : Finish f w q ma
       (ap (take (le16 B 0)) (sym (drop-drop 4 (word w (6 * i + 2)) f))
       ∙ part-take 4 (le16 B 0) (word w (6 * i + 3)) (drop (word w (6 * i + 2)) f) (omega (arith, pre .needs, pre .there))
       ∙ ap (λ (l : List ℕ). take (le16 B 0) (drop 4 l)) (sym (since-single fe))) in
-      let z = row-more f w u w (2 * q) made top top key c 0 (s + 4) (need - 4) t (pre .room) (omega (arith, pre .mid)) (omega arith) (ce .1) e (λ j lo hi. refl) (front-refl top w) (pre .placed) f refl (omega (arith, pre .needs, pre .there, pre .walk .tabled .fits .fits i (omega arith))) in
+      let z =
+      row-more f w u w (2 * q) made top top key c 0 (s + 4) (need - 4) t (pre .room) (omega (arith, pre .mid)) (omega arith) (ce .1) e
+      (λ j lo hi. refl) (front-refl top w) (pre .placed) f refl (omega (arith, pre .needs, pre .there, pre .walk .tabled .fits .fits i (omega arith))) in
       record {
         list = z .list ∙ rw (pay, ce .0, te, ke);
         placed = z .placed;
@@ -122,13 +127,16 @@ module _ (f w : List ℕ) (q made top i first need : ℕ) (pre : Finish f w q ma
       let lv : length v ≡ length w = writes-long w top (take need B) r v g in
       let re : r ≡ top + need = omega (arith, g .next) in
       let pay : take (need - 4) (drop (top + 4) u) ≡ take (le16 B 0) (drop 4 B) =
-      front-part (top + need) u v (top + 4) (need - 4) (omega (arith, pre .needs)) (rw e (row-front v (2 * q + 7 * made) key c 1 (top + 4) (need - 4) t (top + need) (omega (arith, pre .mid))))
+      front-part (top + need) u v (top + 4) (need - 4) (omega (arith, pre .needs))
+      (rw e (row-front v (2 * q + 7 * made) key c 1 (top + 4) (need - 4) t (top + need) (omega (arith, pre .mid))))
       ∙ (rw (g .writes) (part-sets (take need B) w top 4 (need - 4) (omega (arith, pre .mid, pre .room)) (omega (arith, pre .needs))))
       ∙ sym (part-take 4 (need - 4) need B (omega (arith, pre .needs)))
       ∙ ap (λ (n : ℕ). take n (drop 4 B)) m in
       let ag : (j : ℕ) → 2 * q ≤ j → word v j ≡ word w j = (λ j lo. rw (g .writes) (word-behind (take need B) w top j (omega (arith, pre .mid)))) in
       let fr : Front top v w = rw (g .writes) (front-sets top (take need B) w top (omega arith)) in
-      let z = row-more f v u w (2 * q) made top r key c 1 (top + 4) (need - 4) t (omega (arith, pre .room)) (omega (arith, pre .mid)) (omega arith) (ce .1) e (λ j lo hi. ag j lo) fr (pre .placed) u refl (omega (arith, pre .needs)) in
+      let z =
+      row-more f v u w (2 * q) made top r key c 1 (top + 4) (need - 4) t (omega (arith, pre .room)) (omega (arith, pre .mid)) (omega arith) (ce .1) e
+      (λ j lo hi. ag j lo) fr (pre .placed) u refl (omega (arith, pre .needs)) in
       record {
         list = z .list ∙ rw (pay, ce .0, te, ke);
         placed = z .placed;

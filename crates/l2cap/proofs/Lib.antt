@@ -1,4 +1,3 @@
-pub mod Walking
 pub mod Opens
 pub mod Rows
 pub mod Finishing

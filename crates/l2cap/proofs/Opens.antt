@@ -114,7 +114,10 @@ module _ (w : List ℕ) (b n k r : ℕ) (e : findIn w b k n ≡ At r) where
     set-last = rw eu (word-put-same _ (b + 4 * r + 3) z (simp length-put (omega (arith, less))))
 
     keys : (j : ℕ) → j < n → long u (b + 4 * j) ≡ long w (b + 4 * j)
-    keys j h = long-agree u w (b + 4 * j) (set-other (b + 4 * j) (λ t. omega arith) (λ t. omega arith)) (set-other (b + 4 * j + 1) (λ t. omega arith) (λ t. omega arith))
+    keys j h =
+        long-agree u w (b + 4 * j)
+        (set-other (b + 4 * j) (λ t. omega arith) (λ t. omega arith))
+        (set-other (b + 4 * j + 1) (λ t. omega arith) (λ t. omega arith))
 
     pub set-stored : Stored w b n k y z u n
     set-stored = store-old w u b n k r y z e (record {
@@ -133,8 +136,13 @@ module _ (w : List ℕ) (b n k r : ℕ) (e : findIn w b k n ≡ At r) where
 -- no more is held than was, and what came
 pub arrive-got : (w : List ℕ) (b live i a g : ℕ) → nextAt w b live i ≡ From a g → g ≤ second (lookup w b live (word w (6 * i))) + word w (6 * i + 3)
 unfolding nextAt grown longer openAt
-arrive-got w b live i a g e = go (asOpen (lookup w b live (word w (6 * i)))) (λ x y q. as-got (lookup w b live (word w (6 * i))) x y q) (eqb (word w (6 * i + 1)) 1) e where
-  go : (o : Open) → ((x y : ℕ) → o ≡ From x y → second (lookup w b live (word w (6 * i))) ≡ y) → (t : Bool) → cond t (From i (word w (6 * i + 3))) (longer o (word w (6 * i + 3))) ≡ From a g → g ≤ second (lookup w b live (word w (6 * i))) + word w (6 * i + 3)
+arrive-got w b live i a g e = go (asOpen was) (λ x y q. as-got was x y q) (eqb (word w (6 * i + 1)) 1) e where
+  was : Slot
+  was = lookup w b live (word w (6 * i))
+
+  go :
+      (o : Open) → ((x y : ℕ) → o ≡ From x y → second was ≡ y) → (t : Bool) →
+      cond t (From i (word w (6 * i + 3))) (longer o (word w (6 * i + 3))) ≡ From a g → g ≤ second was + word w (6 * i + 3)
   go o h true q = let y : word w (6 * i + 3) ≡ g = cc in omega arith
   go Closed h false q = never q
   go (From x y) h false q = let n : y + word w (6 * i + 3) ≡ g = cc in omega (arith, h x y refl)

@@ -1,51 +1,26 @@
 -- A PDU's row: what is written, and what a payload lent from it is.
-use mathlib.Core.Path.{_≡_, refl, sym, _∙_}
+use mathlib.Core.Path.{_≡_, sym, _∙_}
 use mathlib.Core.Bool.{cond}
-use mathlib.Core.Logic.{⊎-elim, _⊎_, inl, inr}
+use mathlib.Core.Logic.{⊎-elim, _⊎_}
 use mathlib.Core.List.{List, [], _∷_}
-use Prim.Native.Nat.{ℕ, zero, suc, _+_, _-_, _*_, _/_, _%_, _<_, _≤_}
+use Prim.Native.Nat.{ℕ, suc, _+_, _*_, _/_, _%_, _<_, _≤_}
 use native.Mathlib.Nat.{add-zero}
 use native.Mathlib.Omega.{arith}
 use native.Mathlib.Numerals.{add-one}
 use lib.ListN.{length, getD, take, drop}
 use lib.Dec.{eqb}
-use Rattle.words.specs.Words.{word, long, putWord, putLong, length-put, word-put-same, word-put-other}
-use Rattle.words.specs.Front.{Front, front-refl, front-put, front-then}
+use Rattle.words.specs.Words.{word, long, putWord, putLong}
+use Rattle.words.specs.Front.{Front}
+use Rattle.words.specs.Rows.{putWords, length-puts, front-puts, puts-below, puts-above, word-puts}
 use Rattle.l2cap.specs.PduTable.{pduAt, Inside}
 use Rattle.l2cap.specs.PduFrames.{payload-work, payload-file}
-use Rattle.l2cap.specs.Steps.{putWords, putPdu}
-
--- ---- words one after another
-
-pub words-length : (vs w : List ℕ) (at : ℕ) → length (putWords w at vs) ≡ length w
-unfolding putWords
-words-length [] w at = refl
-words-length (x ∷ vs) w at = words-length vs (putWord w at x) (suc at) ∙ length-put w at x
-
-pub words-outside : (vs w : List ℕ) (at j : ℕ) → ((j < at) ⊎ (at + length vs ≤ j)) → word (putWords w at vs) j ≡ word w j
-unfolding putWords
-words-outside [] w at j h = refl
-words-outside (x ∷ vs) w at j h =
-    words-outside vs (putWord w at x) (suc at) j (⊎-elim (λ l. inl (omega arith)) (λ l. inr (omega arith)) h)
-    ∙ word-put-other w at x j (λ e. ⊎-elim (λ l. omega arith) (λ l. omega arith) h)
-
-pub words-front : (n : ℕ) (vs w : List ℕ) (at : ℕ) → n ≤ 4 * at → Front n (putWords w at vs) w
-unfolding putWords
-words-front n [] w at h = front-refl n w
-words-front n (x ∷ vs) w at h = front-then n (putWords (putWord w at x) (suc at) vs) (putWord w at x) w (words-front n vs (putWord w at x) (suc at) (omega arith)) (front-put n w at x h)
-
-pub words-at : (vs w : List ℕ) (at j : ℕ) → 4 * (at + length vs) ≤ length w → j < length vs → word (putWords w at vs) (at + j) ≡ getD vs j 0
-unfolding putWords
-words-at [] w at j room h = absurd (omega arith)
-words-at (x ∷ vs) w at zero room h =
-    rw add-zero (words-outside vs (putWord w at x) (suc at) at (inl (omega arith)) ∙ word-put-same w at x (omega arith))
-words-at (x ∷ vs) w at (suc j) room h =
-    let z : at + suc j ≡ suc at + j = omega arith in
-    rw z (words-at vs (putWord w at x) (suc at) j (rw (length-put w at x) (omega arith)) (omega arith))
+use Rattle.l2cap.specs.Steps.{putPdu}
 
 -- ---- the row
 
-pub row-is : (w : List ℕ) (at k c p s l t : ℕ) (w1 w2 w3 w4 w5 w6 : List ℕ) → w1 ≡ putWord w at k → w2 ≡ putWord w1 (at + 1) c → w3 ≡ putWord w2 (at + 2) p → w4 ≡ putWord w3 (at + 3) s → w5 ≡ putWord w4 (at + 4) l → w6 ≡ putLong w5 (at + 5) t → w6 ≡ putPdu w at k c p s l t
+pub row-is :
+    (w : List ℕ) (at k c p s l t : ℕ) (w1 w2 w3 w4 w5 w6 : List ℕ) → w1 ≡ putWord w at k → w2 ≡ putWord w1 (at + 1) c →
+    w3 ≡ putWord w2 (at + 2) p → w4 ≡ putWord w3 (at + 3) s → w5 ≡ putWord w4 (at + 4) l → w6 ≡ putLong w5 (at + 5) t → w6 ≡ putPdu w at k c p s l t
 unfolding putPdu putWords putLong
 row-is w at k c p s l t w1 w2 w3 w4 w5 w6 e1 e2 e3 e4 e5 e6 =
     let z1 : at + 1 ≡ suc at = omega arith in
@@ -58,20 +33,22 @@ row-is w at k c p s l t w1 w2 w3 w4 w5 w6 e1 e2 e3 e4 e5 e6 =
 module _ (w : List ℕ) (at k c p s l t : ℕ) where
   pub row-outside : (j : ℕ) → ((j < at) ⊎ (at + 7 ≤ j)) → word (putPdu w at k c p s l t) j ≡ word w j
   unfolding putPdu
-  row-outside j h = words-outside (k ∷ c ∷ p ∷ s ∷ l ∷ t % 4294967296 ∷ t / 4294967296 ∷ []) w at j h
+  row-outside j h =
+      let vs : List ℕ = k ∷ c ∷ p ∷ s ∷ l ∷ t % 4294967296 ∷ t / 4294967296 ∷ [] in
+      ⊎-elim (λ g. puts-below vs w at j g) (λ g. puts-above vs w at j g) h
 
   pub row-length : length (putPdu w at k c p s l t) ≡ length w
   unfolding putPdu
-  row-length = words-length (k ∷ c ∷ p ∷ s ∷ l ∷ t % 4294967296 ∷ t / 4294967296 ∷ []) w at
+  row-length = length-puts (k ∷ c ∷ p ∷ s ∷ l ∷ t % 4294967296 ∷ t / 4294967296 ∷ []) w at
 
   pub row-front : (n : ℕ) → n ≤ 4 * at → Front n (putPdu w at k c p s l t) w
   unfolding putPdu
-  row-front n h = words-front n (k ∷ c ∷ p ∷ s ∷ l ∷ t % 4294967296 ∷ t / 4294967296 ∷ []) w at h
+  row-front n h = front-puts n (k ∷ c ∷ p ∷ s ∷ l ∷ t % 4294967296 ∷ t / 4294967296 ∷ []) w at h
 
   module _ (room : 4 * at + 28 ≤ length w) where
     row-at : (j : ℕ) → j < 7 → word (putPdu w at k c p s l t) (at + j) ≡ getD (k ∷ c ∷ p ∷ s ∷ l ∷ t % 4294967296 ∷ t / 4294967296 ∷ []) j 0
     unfolding putPdu
-    row-at j h = words-at (k ∷ c ∷ p ∷ s ∷ l ∷ t % 4294967296 ∷ t / 4294967296 ∷ []) w at j (omega arith) h
+    row-at j h = word-puts (k ∷ c ∷ p ∷ s ∷ l ∷ t % 4294967296 ∷ t / 4294967296 ∷ []) w at j (omega arith) h
 
     row-key : word (putPdu w at k c p s l t) at ≡ k
     row-key = rw add-zero at (row-at 0 (omega arith))
@@ -86,7 +63,9 @@ module _ (w : List ℕ) (at k c p s l t : ℕ) where
         rw (z, row-at 5 (omega arith), row-at 6 (omega arith)) (omega arith)
 
     -- what the new row says; d is where its payload lies
-    pub row-new : (f d : List ℕ) → cond (eqb p 1) (putPdu w at k c p s l t) f ≡ d → pduAt f (putPdu w at k c p s l t) at ≡ record { link = k / 2; rx = k % 2; time = t; cid = c; payload = take l (drop s d) }
+    pub row-new :
+        (f d : List ℕ) → cond (eqb p 1) (putPdu w at k c p s l t) f ≡ d →
+        pduAt f (putPdu w at k c p s l t) at ≡ record { link = k / 2; rx = k % 2; time = t; cid = c; payload = take l (drop s d) }
     unfolding pduAt
     row-new f d e = rw (row-key, row-at 1 (omega arith), row-at 2 (omega arith), row-at 3 (omega arith), row-at 4 (omega arith), row-time, e)
 
@@ -95,8 +74,10 @@ module _ (w : List ℕ) (at k c p s l t : ℕ) where
 
 -- ---- a payload lent
 
-pub got-work : (f w : List ℕ) (at p x s y n : ℕ) (r : List ℕ) → p ≡ word w (at + 2) → x ≡ word w (at + 3) → s ≡ x → y ≡ word w (at + 4) → n ≡ y → p ≡ 1 → r ≡ take n (drop s w) → r ≡ pduAt f w at .payload
+pub got-work :
+    (f w : List ℕ) (at p x s y n : ℕ) (r : List ℕ) → p ≡ word w (at + 2) → x ≡ word w (at + 3) → s ≡ x → y ≡ word w (at + 4) → n ≡ y → p ≡ 1 → r ≡ take n (drop s w) → r ≡ pduAt f w at .payload
 got-work f w at p x s y n r pe xe se ye ne e q = q ∙ (rw (ne, ye, se, xe) (sym (payload-work f w at (sym pe ∙ e))))
 
-pub got-file : (f w : List ℕ) (at p x s y n : ℕ) (r : List ℕ) → p ≡ word w (at + 2) → x ≡ word w (at + 3) → s ≡ x → y ≡ word w (at + 4) → n ≡ y → (p ≡ 1 → ⊥) → r ≡ take n (drop s f) → r ≡ pduAt f w at .payload
+pub got-file :
+    (f w : List ℕ) (at p x s y n : ℕ) (r : List ℕ) → p ≡ word w (at + 2) → x ≡ word w (at + 3) → s ≡ x → y ≡ word w (at + 4) → n ≡ y → (p ≡ 1 → ⊥) → r ≡ take n (drop s f) → r ≡ pduAt f w at .payload
 got-file f w at p x s y n r pe xe se ye ne e q = q ∙ (rw (ne, ye, se, xe) (sym (payload-file f w at (λ z. e (pe ∙ z)))))

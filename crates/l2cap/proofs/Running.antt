@@ -16,13 +16,14 @@ use Rattle.table.specs.Table.{lookup}
 use Rattle.container.specs.Packets.{Packet}
 use Rattle.btsnoop.specs.PacketTable.{packetAt, packetsFrom, dataOf, Tabled}
 use Rattle.btsnoop.proofs.PacketFrames.{packets-next, packets-none, data-mono, tabled-less, two-ways, packet-front, packets-front, tabled-front}
+use Rattle.fragments.specs.Bytes.{numberOf}
 use Rattle.l2cap.specs.Pdus.{Pdu, packetKey, reassembly, pdus}
 use Rattle.l2cap.specs.PduTable.{pdusFrom, paysOf, Reassembled}
 use Rattle.l2cap.specs.PduFrames.{inside-top}
 use Rattle.l2cap.specs.Rekeyed.{runBy, rekey, run-by}
 use Rattle.fragments.specs.Links.{Linked, Seats, LinkRoom, LinkedTo}
 use Rattle.fragments.proofs.Chains.{linked-less, linked-agree}
-use Rattle.l2cap.specs.Steps.{numberOf, openAt, heldOf, mapOf, Ready, Step, Stepped, Run}
+use Rattle.l2cap.specs.Steps.{openAt, heldOf, mapOf, Ready, Step, Stepped, Run}
 use Rattle.l2cap.specs.declared.Open.the-variants.{Closed}
 use Rattle.l2cap.specs.declared.Tables.{Tables}
 use Rattle.l2cap.proofs.Opens.{never, as-blank}
@@ -96,7 +97,12 @@ module _ (f w₀ : List ℕ) (q n count : ℕ) (pre : Run f w₀ q n count) wher
     low = omega (arith, pre .tabled .total, v .ready .quarter)
 
     pub run-step : i < count → Step f w q t i
-    run-step h = record { ready = v .ready; tabled = tabled-less f w (i + 1) count (omega arith) (tabled-front (4 * q) f w w₀ count low (v .front) (v .size) (pre .tabled)); linked = linked-less w q (i + 1) count (omega arith) (v .linked); seats = record { row = λ j l. v .seats .row j (omega arith) } }
+    run-step h = record {
+      ready = v .ready;
+      tabled = tabled-less f w (i + 1) count (omega arith) (tabled-front (4 * q) f w w₀ count low (v .front) (v .size) (pre .tabled));
+      linked = linked-less w q (i + 1) count (omega arith) (v .linked);
+      seats = record { row = λ j l. v .seats .row j (omega arith) };
+    }
 
     pub run-turn : i < count → (u : List ℕ) (r : Tables) → Stepped f w q t i u r → Running f w₀ q count u r (i + 1)
     unfolding runBy
@@ -121,9 +127,10 @@ module _ (f w₀ : List ℕ) (q n count : ℕ) (pre : Run f w₀ q n count) wher
     run-end h =
         let tb : Tabled f w count = tabled-front (4 * q) f w w₀ count low (v .front) (v .size) (pre .tabled) in
         let dm : dataOf w i ≤ dataOf w count = data-mono w i count (v .within) in
+        let full : t .top ≤ 8 * q = omega (arith, v .ready .ends, v .ready .few, tb .total, v .ready .quarter) in
         record {
           list = rw (← v .ready .quarter) (sym (append-nil (pdusFrom f w (2 * q) 0 (t .made))) ∙ (rw (packets-none f w₀ i count h) at (v .same)));
-          placed = rw (← v .ready .quarter) (λ j l. inside-top f w (2 * q + 7 * j) (t .top) (8 * q) (omega (arith, v .ready .ends, v .ready .few, tb .total, v .ready .quarter)) (v .ready .placed j l));
+          placed = rw (← v .ready .quarter) (λ j l. inside-top f w (2 * q + 7 * j) (t .top) (8 * q) full (v .ready .placed j l));
           few = rw (← v .ready .quarter) (omega (arith, v .ready .few, v .ready .made, v .within, tb .total));
           small = tb .small;
           room = tb .room;

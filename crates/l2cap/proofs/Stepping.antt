@@ -12,20 +12,23 @@ use Rattle.laws.specs.Choice.{split≡}
 use Rattle.laws.specs.Numbers.{le16}
 use Rattle.words.specs.Words.{word, long}
 use Rattle.words.specs.Front.{Front, front-then, front-word, front-less, front-refl}
-use Rattle.table.specs.Table.{some as row, findIn, lookup, upd, second, sumOf, Stored, Agree, find-below, lookup-found, lookup-agree, long-agree, sum-agree, second-le}
+use Rattle.table.specs.Table.{some as row, findIn, lookup, upd, second, sumOf, Stored, Agree}
+use Rattle.table.specs.Table.{find-below, lookup-found, lookup-agree, long-agree, sum-agree, second-le}
 use Rattle.table.specs.declared.Row.the-variants.{At}
 use Rattle.tree.specs.Tree.{find-agree}
 use Rattle.btsnoop.specs.PacketTable.{packetAt, dataOf}
 use Rattle.btsnoop.proofs.PacketFrames.{data-next, data-front}
+use Rattle.fragments.specs.Bytes.{since, begun, Walk}
+use Rattle.fragments.proofs.Walking.{number-at, bytes-length, piece-own, piece-other, since-one, since-snoc, since-front}
 use Rattle.l2cap.specs.Pdus.{joined, isComplete, stillOpen, completed}
 use Rattle.l2cap.specs.PduTable.{pdusFrom, paysOf}
 use Rattle.l2cap.specs.PduFrames.{Placed, placed-agree, pdus-agree, pays-agree}
 use Rattle.l2cap.specs.Rekeyed.{putBy}
-use Rattle.l2cap.specs.Steps.{since, begun, Walk, Need, rowAt, RowPre, asOpen, openAt, longer, grown, nextAt, nextBy, Arrive, putOpen, Finish, Finished, heldOf, mapOf, Sound, Step, after, Stepped}
+use Rattle.l2cap.specs.Steps.{Need, rowAt, RowPre, asOpen, openAt, longer, grown, nextAt, nextBy, Arrive, putOpen}
+use Rattle.l2cap.specs.Steps.{Finish, Finished, heldOf, mapOf, Sound, Step, after, Stepped}
 use Rattle.l2cap.specs.declared.Open.{Open}
 use Rattle.l2cap.specs.declared.Open.the-variants.{Closed, From}
 use Rattle.l2cap.specs.declared.Tables.{Tables}
-use Rattle.l2cap.proofs.Walking.{number-at, bytes-length, piece-own, piece-other, since-one, since-snoc, since-front}
 use Rattle.l2cap.proofs.Opens.{never, as-zero, as-pos, open-row, set-other, set-stored, set-finds, arrive-got, arrive-none}
 
 -- ---- what is open once a packet is read
@@ -72,7 +75,9 @@ module _ (f w : List ℕ) (b live i : ℕ) (s : Sound f w b live i) where
     go (From x y) h false q = let m : x ≡ a = cc in rw (← m) (h x y refl)
 
   -- and its bytes are counted right
-  pub arrive-sound : word w (6 * i + 2) + word w (6 * i + 3) ≤ length f → (a g : ℕ) → nextAt w b live i ≡ From a g → (a ≤ i) × (g ≡ length (since f w (word w (6 * i)) a (i + 1)))
+  pub arrive-sound :
+      word w (6 * i + 2) + word w (6 * i + 3) ≤ length f → (a g : ℕ) → nextAt w b live i ≡ From a g →
+      (a ≤ i) × (g ≡ length (since f w (word w (6 * i)) a (i + 1)))
   unfolding nextAt grown longer
   arrive-sound fit a g e = go (openAt w b live (word w (6 * i))) (λ x y q. s .sound (word w (6 * i)) x y q) (eqb (word w (6 * i + 1)) 1) e where
     own : length (packetAt f w i .bytes) ≡ word w (6 * i + 3)
@@ -242,7 +247,8 @@ module _ (f w : List ℕ) (q : ℕ) (t : Tables) (i : ℕ) (p : Step f w q t i) 
         let fro : Front (8 * q) u v = front-less (8 * q) (4 * (3 * q)) u v (omega arith) (so .front) in
         let frn : Front (4 * q) u w = front-then (4 * q) u v w (front-less (4 * q) (8 * q) u v (omega arith) fro) (b .front) in
         let frt : Front top u v = front-less top (8 * q) u v (omega (arith, b .ends, b .few, second-le w (3 * q) c k, p .tabled .total, p .ready .quarter)) fro in
-        let ag : Agree (2 * q) (2 * q + 7 * made) u v = (λ j lo hi. front-word (4 * (3 * q)) u v j (omega (arith, b .most, p .tabled .total, p .ready .quarter)) (so .front)) in
+        let ag : Agree (2 * q) (2 * q + 7 * made) u v =
+        (λ j lo hi. front-word (4 * (3 * q)) u v j (omega (arith, b .most, p .tabled .total, p .ready .quarter)) (so .front)) in
         let py : paysOf u (2 * q) made ≡ paysOf v (2 * q) made = pays-agree u v (2 * q) made ag in
         let dt : dataOf u (i + 1) ≡ dataOf w (i + 1) = data-front (4 * q) u w (i + 1) (omega (arith, low)) frn in
         record {
@@ -321,7 +327,9 @@ module _ (f w : List ℕ) (q : ℕ) (t : Tables) (i : ℕ) (p : Step f w q t i) 
         held-next = (rw e at (arrive-held f w (3 * q) (t .live) i (p .ready .sound)))
 
         -- what is made and open, with the new bytes in place of the key's old ones
-        step-got : 4 * t .made + paysOf w (2 * q) (t .made) + sumOf w (3 * q) (t .live) + got ≤ dataOf w (i + 1) + second (lookup w (3 * q) (t .live) (word w (6 * i)))
+        step-got :
+            4 * t .made + paysOf w (2 * q) (t .made) + sumOf w (3 * q) (t .live) + got
+            ≤ dataOf w (i + 1) + second (lookup w (3 * q) (t .live) (word w (6 * i)))
         step-got = omega (arith, arrive-got w (3 * q) (t .live) i first got e, data-next w i, p .ready .few)
 
         step-small : got + 4 * t .made + paysOf w (2 * q) (t .made) ≤ dataOf w (i + 1)
@@ -356,7 +364,8 @@ module _ (f w : List ℕ) (q : ℕ) (t : Tables) (i : ℕ) (p : Step f w q t i) 
         step-hold need ni lt x y xe ye u eu =
             let s = step-first in
             let B : List ℕ = since f w (word w (6 * i)) first (i + 1) in
-            let cmp : leb (4 + le16 B 0) (length B) ≡ false = lt-leb (4 + le16 B 0) (length B) (let g : got < 4 + le16 B 0 = (rw step-begun at (ni .short lt)) in omega (arith, s .1)) in
+            let g : got < 4 + le16 B 0 = (rw step-begun at (ni .short lt)) in
+            let cmp : leb (4 + le16 B 0) (length B) ≡ false = lt-leb (4 + le16 B 0) (length B) (omega (arith, s .1)) in
             let va : asOpen (row x y) ≡ From first got = as-pos x y (λ z. omega arith) ∙ (let z : x - 1 ≡ first = omega arith in rw (z, ye)) in
             step-set w (t .made) (t .top) (From first got) x y (record {
               front = front-refl (4 * q) w;

@@ -1,5 +1,5 @@
 -- Laws on the table of PDUs, for the passes that read it: one PDU at a time, its payload, and what a write behind the table leaves.
-use mathlib.Core.Path.{_≡_, refl, sym, ap, _∙_}
+use mathlib.Core.Path.{_≡_, refl, ap, _∙_}
 use mathlib.Core.Bool.{Bool, true, false, cond}
 use mathlib.Core.List.{List, [], _∷_, _++_}
 use Prim.Native.Nat.{ℕ, zero, suc, _+_, _-_, _*_, _/_, _%_, _<_, _≤_}
@@ -11,7 +11,7 @@ use lib.Seq.{length-take-le}
 use lib.Dec.{eqb}
 use borrow.Author.Tests.{eq-eqb, ne-eqb}
 use Rattle.laws.specs.Choice.{split≤}
-use Rattle.words.specs.Words.{word, long}
+use Rattle.words.specs.Words.{word}
 use Rattle.words.specs.Front.{Front, front-word, front-less, front-part}
 use Rattle.table.specs.Table.{Agree, long-agree}
 use Rattle.l2cap.specs.Pdus.{Pdu}

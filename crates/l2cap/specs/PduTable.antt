@@ -35,7 +35,7 @@ pub record Inside (f w : List ℕ) (at top : ℕ) : Type 0 where
 
 -- Where the tables lie, for a file of n bytes, in words, with q = n / 4:
 -- packets from 0, joined payloads from q, PDUs from 2 * q, open PDUs and then channels from 3 * q, the index of open PDUs and then pieces from 5 * q,
--- its buckets and then counts and held lengths from 6 * q, what links the packets and then the area of spans from 7 * q.
+-- the first packet of each key and then counts and held lengths from 6 * q, the packets' links and rows and then the area of spans from 7 * q.
 -- The PDUs that a list holds, as the passes after reassembly find them.
 pub record Reassembled (f w : List ℕ) (made : ℕ) (ps : List Pdu) : Type 0 where
   pub list : pdusFrom f w (2 * (length f / 4)) 0 made ≡ ps

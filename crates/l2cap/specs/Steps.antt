@@ -1,69 +1,28 @@
--- What the functions of the pass ask and promise: the bytes of a key among the packets, what is open, a PDU's row, a step.
-use Prim.Native.Nat.{ℕ, zero, suc, _+_, _-_, _*_, _/_, _%_, _<_, _≤_}
+-- What the functions of the pass ask and promise: what a PDU needs, what is open, a PDU's row, a step.
+use Prim.Native.Nat.{ℕ, zero, suc, _+_, _*_, _/_, _%_, _<_, _≤_}
 use mathlib.Core.Path.{_≡_}
 use mathlib.Core.Bool.{cond}
 use mathlib.Core.List.{List, [], _∷_, _++_}
 use mathlib.Core.Option.{Option, none, some}
 use lib.ListN.{length}
-use lib.Dec.{eqb, ltb}
+use lib.Dec.{eqb}
 use Rattle.laws.specs.Numbers.{le16}
 use Rattle.words.specs.Words.{word, putWord}
 use Rattle.words.specs.Front.{Front}
+use Rattle.words.specs.Rows.{putWords}
 use Rattle.table.specs.Table.{Slot, none as no-row, some as row, findIn, lookup, sumOf}
-use Rattle.container.specs.Packets.{Packet}
-use Rattle.btsnoop.specs.PacketTable.{packetAt, packetsFrom, dataOf, Tabled}
+use Rattle.btsnoop.specs.PacketTable.{packetAt, dataOf, Tabled}
 use Rattle.l2cap.specs.Pdus.{joined, stillOpen, completed, pduOf}
 use Rattle.l2cap.specs.PduTable.{pdusFrom, paysOf}
 use Rattle.l2cap.specs.PduFrames.{Placed}
 use Rattle.l2cap.specs.Rekeyed.{putBy}
 use Rattle.fragments.specs.Links.{Linked, Seats, Blank}
+use Rattle.fragments.specs.Bytes.{numberOf, since, begun, Walk}
 use Rattle.l2cap.specs.declared.Open.{Open}
 use Rattle.l2cap.specs.declared.Open.the-variants.{Closed, From}
 use Rattle.l2cap.specs.declared.Tables.{Tables}
 
--- ---- the bytes of a key
-
--- a link and a direction as the one number that the tables keep
-abbrev pub numberOf : Packet → ℕ
-numberOf p = 2 * p .link + p .rx
-
-unfoldable pub pieceOf : ℕ → Packet → List ℕ
-pieceOf k p = cond (eqb (numberOf p) k) (p .bytes) []
-
--- the data of the packets of a key, joined
-unfoldable pub gathered : ℕ → List Packet → List ℕ
-gathered k [] = []
-gathered k (p ∷ ps) = pieceOf k p ++ gathered k ps
-
--- what a key has from the packets first .. upto - 1
-unfoldable pub since : List ℕ → List ℕ → ℕ → ℕ → ℕ → List ℕ
-since f w k first upto = gathered k (packetsFrom f w first (upto - first))
-
--- what the key of packet first has from there on
-abbrev pub begun : List ℕ → List ℕ → ℕ → ℕ → List ℕ
-begun f w first upto = since f w (word w (6 * first)) first upto
-
--- the link of packet i can be read
-pub record Next (w : List ℕ) (q i : ℕ) : Type 0 where
-  pub room : 4 * (7 * q + 2 * i) + 4 ≤ length w
-  pub some : 0 < word w (7 * q + 2 * i)
-
--- the packets are linked
-pub record Walk (f w : List ℕ) (q first upto : ℕ) : Type 0 where
-  pub tabled : Tabled f w upto
-  pub quarter : q ≡ length f / 4
-  pub linked : Linked w q upto
-  pub before : first < upto
-
-pub record Paste (f w : List ℕ) (i left to : ℕ) : Type 0 where
-  pub tabled : Tabled f w (i + 1)
-  pub room : to + left ≤ length w
-
-pub record Gather (f w : List ℕ) (q first upto need to : ℕ) : Type 0 where
-  pub walk : Walk f w q first upto
-  pub low : 24 * upto ≤ to
-  pub high : to + need ≤ 28 * q
-  pub room : to + need ≤ length w
+-- ---- what a PDU needs
 
 -- r bytes make the PDU complete whose bytes so far are B, got of them
 pub record Need (B : List ℕ) (got r : ℕ) : Type 0 where
@@ -116,11 +75,6 @@ unfoldable pub putOpen : List ℕ → ℕ → ℕ → ℕ → List ℕ
 putOpen w at y z = putWord (putWord w (at + 2) y) (at + 3) z
 
 -- ---- a PDU's row
-
--- words one after another
-unfoldable pub putWords : List ℕ → ℕ → List ℕ → List ℕ
-putWords w at [] = w
-putWords w at (x ∷ xs) = putWords (putWord w at x) (suc at) xs
 
 unfoldable pub putPdu : List ℕ → ℕ → ℕ → ℕ → ℕ → ℕ → ℕ → ℕ → List ℕ
 putPdu w at k c p s l t = putWords w at (k ∷ c ∷ p ∷ s ∷ l ∷ t % 4294967296 ∷ t / 4294967296 ∷ [])
@@ -194,7 +148,9 @@ pub record Stepped (f w : List ℕ) (q : ℕ) (t : Tables) (i : ℕ) (u : List �
   pub finds : (k : ℕ) → findIn u (3 * q) k (r .live) ≡ findIn w (3 * q) k (t .live)
   pub size : length u ≡ length w
   pub list : pdusFrom f u (2 * q) 0 (r .made) ≡ pdusFrom f w (2 * q) 0 (t .made) ++ completed (after f w (3 * q) (t .live) i) (packetAt f w i)
-  pub map : _≡_ {A = ℕ → Option (List ℕ)} (mapOf f u (3 * q) (r .live) (i + 1)) (putBy eqb (mapOf f w (3 * q) (t .live) i) (numberOf (packetAt f w i)) (stillOpen (after f w (3 * q) (t .live) i)))
+  pub map :
+      _≡_ {A = ℕ → Option (List ℕ)} (mapOf f u (3 * q) (r .live) (i + 1))
+      (putBy eqb (mapOf f w (3 * q) (t .live) i) (numberOf (packetAt f w i)) (stillOpen (after f w (3 * q) (t .live) i)))
 
 -- ---- all steps
 

@@ -5,7 +5,7 @@ use Rattle.l2cap.proofs.arrive.Statement.{statement}
 use Rattle.l2cap.proofs.arrive.Tie as tie
 use Rattle.l2cap.proofs.arrive.Reads as reads
 use Rattle.l2cap.proofs.arrive.Lts as lts
-use Rattle.l2cap.proofs.len_of.Reads as len-of-reads
+use Rattle.fragments.proofs.len_of.Reads as len-of-reads
 use Rattle.l2cap.proofs.look.Reads as look-reads
 use Rattle.words.proofs.get32.Reads as get32-reads
 

@@ -5,9 +5,9 @@ use Rattle.l2cap.proofs.finish.Statement.{statement}
 use Rattle.l2cap.proofs.finish.Tie as tie
 use Rattle.l2cap.proofs.finish.Reads as reads
 use Rattle.l2cap.proofs.finish.Lts as lts
-use Rattle.l2cap.proofs.gather.Reads as gather-reads
-use Rattle.l2cap.proofs.half.Reads as half-reads
-use Rattle.l2cap.proofs.place_of.Reads as place-of-reads
+use Rattle.fragments.proofs.gather.Reads as gather-reads
+use Rattle.fragments.proofs.half.Reads as half-reads
+use Rattle.fragments.proofs.place_of.Reads as place-of-reads
 use Rattle.l2cap.proofs.put_pdu.Reads as put-pdu-reads
 use Rattle.words.proofs.get32.Reads as get32-reads
 use Rattle.words.proofs.get64.Reads as get64-reads

@@ -1,15 +1,15 @@
 use Rattle.laws.specs.Numbers.{le16}
-use Rattle.l2cap.proofs.Walking.{half-inside, half-first, half-fits, half-next, half-here}
+use Rattle.fragments.proofs.Walking.{half-inside, half-first, half-fits, half-next, half-here}
 use native.Mathlib.Omega.{arith}
 use borrow.Author.Needs.{needs}
-use Rattle.l2cap.proofs.half.Statement.{statement}
-use Rattle.l2cap.proofs.half.Tie as tie
-use Rattle.l2cap.proofs.half.Reads as reads
-use Rattle.l2cap.proofs.half.Lts as lts
-use Rattle.l2cap.proofs.byte_of.Reads as byte-of-reads
-use Rattle.l2cap.proofs.len_of.Reads as len-of-reads
-use Rattle.l2cap.proofs.pair.Reads as pair-reads
-use Rattle.l2cap.proofs.place_of.Reads as place-of-reads
+use Rattle.fragments.proofs.half.Statement.{statement}
+use Rattle.fragments.proofs.half.Tie as tie
+use Rattle.fragments.proofs.half.Reads as reads
+use Rattle.fragments.proofs.half.Lts as lts
+use Rattle.fragments.proofs.byte_of.Reads as byte-of-reads
+use Rattle.fragments.proofs.len_of.Reads as len-of-reads
+use Rattle.fragments.proofs.pair.Reads as pair-reads
+use Rattle.fragments.proofs.place_of.Reads as place-of-reads
 
 -- src/lib.rt:93:8
 add-if1 : tie.Need-add-if1

@@ -1,14 +1,14 @@
 use Prim.Native.Nat.{_-_}
-use Rattle.l2cap.proofs.Walking.{Seeking, seek-start, seek-row, seek-next, seek-less, seek-turn, seek-inside, seek-fits, seek-here, seek-end}
+use Rattle.fragments.proofs.Walking.{Seeking, seek-start, seek-row, seek-next, seek-less, seek-turn, seek-inside, seek-fits, seek-here, seek-end}
 use borrow.Author.Needs.{needs}
 use native.Mathlib.Omega.{arith}
-use Rattle.l2cap.proofs.byte_of.Statement.{statement}
-use Rattle.l2cap.proofs.byte_of.Tie as tie
-use Rattle.l2cap.proofs.byte_of.Reads as reads
-use Rattle.l2cap.proofs.byte_of.Lts as lts
-use Rattle.l2cap.proofs.later.Reads as later-reads
-use Rattle.l2cap.proofs.len_of.Reads as len-of-reads
-use Rattle.l2cap.proofs.place_of.Reads as place-of-reads
+use Rattle.fragments.proofs.byte_of.Statement.{statement}
+use Rattle.fragments.proofs.byte_of.Tie as tie
+use Rattle.fragments.proofs.byte_of.Reads as reads
+use Rattle.fragments.proofs.byte_of.Lts as lts
+use Rattle.fragments.proofs.later.Reads as later-reads
+use Rattle.fragments.proofs.len_of.Reads as len-of-reads
+use Rattle.fragments.proofs.place_of.Reads as place-of-reads
 
 abbrev Inv-loop : tie.InvT-loop
 Inv-loop file w q first upto at i₀ j₀ i j = Seeking file w q first upto at i j

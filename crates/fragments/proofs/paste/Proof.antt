@@ -1,14 +1,14 @@
-use Rattle.l2cap.proofs.Walking.{paste-part, paste-room, paste-is}
+use Rattle.fragments.proofs.Walking.{paste-part, paste-room, paste-is}
 use native.Mathlib.Omega.{arith}
 use borrow.Author.Needs.{needs}
-use Rattle.l2cap.proofs.paste.Statement.{statement}
-use Rattle.l2cap.proofs.paste.Tie as tie
-use Rattle.l2cap.proofs.paste.Reads as reads
-use Rattle.l2cap.proofs.paste.Lts as lts
-use Rattle.l2cap.proofs.least.Reads as least-reads
-use Rattle.l2cap.proofs.len_of.Reads as len-of-reads
-use Rattle.l2cap.proofs.part.Reads as part-reads
-use Rattle.l2cap.proofs.place_of.Reads as place-of-reads
+use Rattle.fragments.proofs.paste.Statement.{statement}
+use Rattle.fragments.proofs.paste.Tie as tie
+use Rattle.fragments.proofs.paste.Reads as reads
+use Rattle.fragments.proofs.paste.Lts as lts
+use Rattle.fragments.proofs.least.Reads as least-reads
+use Rattle.fragments.proofs.len_of.Reads as len-of-reads
+use Rattle.fragments.proofs.part.Reads as part-reads
+use Rattle.fragments.proofs.place_of.Reads as place-of-reads
 use Rattle.words.proofs.copy_to.Reads as copy-to-reads
 
 -- src/lib.rt:137:19

@@ -1,13 +1,13 @@
 use Prim.Native.Nat.{_-_}
-use Rattle.l2cap.proofs.Walking.{Gathering, gather-start, gather-paste, gather-next, gather-less, gather-turn, gather-end}
+use Rattle.fragments.proofs.Walking.{Gathering, gather-start, gather-paste, gather-next, gather-less, gather-turn, gather-end}
 use borrow.Author.Needs.{needs}
 use native.Mathlib.Omega.{arith}
-use Rattle.l2cap.proofs.gather.Statement.{statement}
-use Rattle.l2cap.proofs.gather.Tie as tie
-use Rattle.l2cap.proofs.gather.Reads as reads
-use Rattle.l2cap.proofs.gather.Lts as lts
-use Rattle.l2cap.proofs.later.Reads as later-reads
-use Rattle.l2cap.proofs.paste.Reads as paste-reads
+use Rattle.fragments.proofs.gather.Statement.{statement}
+use Rattle.fragments.proofs.gather.Tie as tie
+use Rattle.fragments.proofs.gather.Reads as reads
+use Rattle.fragments.proofs.gather.Lts as lts
+use Rattle.fragments.proofs.later.Reads as later-reads
+use Rattle.fragments.proofs.paste.Reads as paste-reads
 
 abbrev Inv-loop : tie.InvT-loop
 Inv-loop file w₀ q first upto need to end i₀ pos₀ w i pos = Gathering file w₀ q first upto need to w i pos

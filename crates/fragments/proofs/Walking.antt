@@ -15,9 +15,9 @@ use Rattle.words.specs.Front.{Front, front-then, front-sets, front-refl}
 use Rattle.container.specs.Packets.{Packet}
 use Rattle.btsnoop.specs.PacketTable.{packetAt, packetsFrom}
 use Rattle.btsnoop.proofs.PacketFrames.{packets-next, packets-none, packets-snoc, packet-front, packets-front, tabled-less, tabled-front}
 use Rattle.fragments.specs.Links.{soonest, tagAt, Linked}
 use Rattle.fragments.proofs.Chains.{soonest-from, soonest-tag, soonest-skip, tag-full, tag-key}
-use Rattle.l2cap.specs.Steps.{numberOf, pieceOf, gathered, since, begun, Next, Walk, Paste, Gather}
+use Rattle.fragments.specs.Bytes.{numberOf, pieceOf, gathered, since, begun, Next, Walk, Paste, Gather}
 
 -- ---- one packet
 
@@ -98,7 +98,9 @@ module _ (w : List ℕ) (q upto : ℕ) (l : Linked w q upto) (i : ℕ) where
     link-more = omega (arith, link-to, soonest-from (tagAt w (word w (6 * i))) (word w (6 * i)) (suc i) (l .count - suc i))
 
     pub link-key : (k : ℕ) → word w (6 * i) ≡ k → r < upto → word w (6 * r) ≡ k
-    link-key k m u = tag-key w (word w (6 * i)) r (rw link-to (soonest-tag (tagAt w (word w (6 * i))) (word w (6 * i)) (suc i) (l .count - suc i) (rw (← link-to) (omega (arith, l .most))))) ∙ m
+    link-key k m u =
+        let h : ℕ = word w (6 * i) in
+        tag-key w h r (rw link-to (soonest-tag (tagAt w h) h (suc i) (l .count - suc i) (rw (← link-to) (omega (arith, l .most))))) ∙ m
 
 -- packets in between do not have the key
 pub since-jump :
@@ -181,7 +183,9 @@ module _ (f w : List ℕ) (q first upto at : ℕ) (pre : Walk f w q first upto) 
     seek-end h = sym (rw (since-stop f w (word w (6 * first)) i upto h)) ∙ s .same
 
 -- both bytes of a number lie in the first packet
-module _ (f w : List ℕ) (q first upto at : ℕ) (pre : Walk f w q first upto) (n s : ℕ) (ne : n ≡ word w (6 * first + 3)) (le : at + 2 ≤ n) (se : s ≡ word w (6 * first + 2)) where
+module _
+    (f w : List ℕ) (q first upto at : ℕ) (pre : Walk f w q first upto)
+    (n s : ℕ) (ne : n ≡ word w (6 * first + 3)) (le : at + 2 ≤ n) (se : s ≡ word w (6 * first + 2)) where
   fit₀ : word w (6 * first + 2) + word w (6 * first + 3) ≤ length f
   fit₀ = pre .tabled .fits .fits first (pre .before)
 
@@ -200,11 +204,13 @@ module _ (f w : List ℕ) (q first upto at : ℕ) (pre : Walk f w q first upto) 
   pub half-here : (r : ℕ) → ((r ≡ getD f (s + at) 0 + 256 * getD f (s + at + 1) 0) × (r < 65536)) → ((r ≡ le16 (begun f w first upto) at) × (r < 65536))
   unfolding le16
   half-here r e =
-      let z : s + at + 1 ≡ s + (at + 1) = omega arith in
-      (e .0 ∙ rw (z, se) (rw (
-        byte-here f w (word w (6 * first)) first upto at (pre .before) refl fit₀ (omega arith),
-        byte-here f w (word w (6 * first)) first upto (at + 1) (pre .before) refl fit₀ (omega arith),
-      )), e .1)
+      let z : s + at + 1 ≡ s + (at + 1) = omega arith in (
+        e .0 ∙ rw (z, se) (rw (
+          byte-here f w (word w (6 * first)) first upto at (pre .before) refl fit₀ (omega arith),
+          byte-here f w (word w (6 * first)) first upto (at + 1) (pre .before) refl fit₀ (omega arith),
+        )),
+        e .1,
+      )
 
 -- ---- one packet's bytes stored
 
@@ -214,16 +220,21 @@ take-min a b l =
     (λ h. let z : min b a ≡ a = omega arith in rw z (take-take a b l h))
     (λ h. let z : min b a ≡ b = omega arith in rw z (take-all a (take b l) (simp length-take (omega arith))))
 
-pub paste-room : (f w : List ℕ) (i left to : ℕ) → Paste f w i left to → (b n s : ℕ) → n ≡ min b left → (p : List ℕ) → p ≡ take n (drop s f) → to + length p ≤ length w
+pub paste-room :
+    (f w : List ℕ) (i left to : ℕ) → Paste f w i left to → (b n s : ℕ) → n ≡ min b left → (p : List ℕ) → p ≡ take n (drop s f) →
+    to + length p ≤ length w
 paste-room f w i left to pre b n s ne p e = rw e (simp length-take (omega (arith, pre .room)))
 
-module _ (f w : List ℕ) (i left to : ℕ) (pre : Paste f w i left to) (b n s : ℕ) (be : b ≡ word w (6 * i + 3)) (ne : n ≡ min b left) (se : s ≡ word w (6 * i + 2)) where
+module _
+    (f w : List ℕ) (i left to : ℕ) (pre : Paste f w i left to)
+    (b n s : ℕ) (be : b ≡ word w (6 * i + 3)) (ne : n ≡ min b left) (se : s ≡ word w (6 * i + 2)) where
   pub paste-part : s + n ≤ length f
   paste-part = omega (arith, pre .tabled .fits .fits i (omega arith))
 
   pub paste-is : (p : List ℕ) → p ≡ take n (drop s f) → (r : ℕ) (u : List ℕ) → Writes w to p r u → Writes w to (take left (packetAt f w i .bytes)) r u
   paste-is p e r u v =
-      let q : p ≡ take left (packetAt f w i .bytes) = e ∙ sym (ap (take left) (bytes-are f w i) ∙ take-min left (word w (6 * i + 3)) (drop (word w (6 * i + 2)) f) ∙ rw (ne, be, se)) in
+      let q : p ≡ take left (packetAt f w i .bytes) =
+      e ∙ sym (ap (take left) (bytes-are f w i) ∙ take-min left (word w (6 * i + 3)) (drop (word w (6 * i + 2)) f) ∙ rw (ne, be, se)) in
       rw q at v
 
 -- ---- joining
@@ -285,7 +296,9 @@ module _ (f w₀ : List ℕ) (q first upto need to : ℕ) (pre : Gather f w₀ q
 
       pub gather-next : Next u q i
       gather-next = record {
-        room = omega (arith, writes-long w pos (take (to + need - pos) (packetAt f w i .bytes)) r u v, g .emits .long, pre .walk .quarter, pre .walk .tabled .total, pre .walk .tabled .room);
+        room =
+            let l : length u ≡ length w = writes-long w pos (take (to + need - pos) (packetAt f w i .bytes)) r u v in
+            omega (arith, l, g .emits .long, pre .walk .quarter, pre .walk .tabled .total, pre .walk .tabled .room);
         some = rw link₁ (link-some w₀ q upto (pre .walk .linked) i h);
       }
 
@@ -296,16 +309,26 @@ module _ (f w₀ : List ℕ) (q first upto need to : ℕ) (pre : Gather f w₀ q
         pub gather-turn : Gathering f w₀ q first upto need to u x r
         gather-turn =
             let lf : to + need - pos - length (packetAt f w₀ i .bytes) ≡ to + need - r = omega (arith, wrote .next, short, g .ends) in
-            let eq : take (to + need - pos) (since f w₀ (word w₀ (6 * first)) i upto) ≡ take (to + need - pos) (packetAt f w₀ i .bytes) ++ take (to + need - r) (since f w₀ (word w₀ (6 * first)) x upto) =
-            ap (take (to + need - pos)) (since-own f w₀ (word w₀ (6 * first)) i upto h (g .mine h) ∙ rw (since-jump f w₀ q upto (word w₀ (6 * first)) (pre .walk .linked) i x h (sym link₁ ∙ e) (g .mine h))) ∙ take-app (to + need - pos) (packetAt f w₀ i .bytes) (since f w₀ (word w₀ (6 * first)) x upto) ∙ rw lf in
+            let k : ℕ = word w₀ (6 * first) in
+            let n : ℕ = to + need - pos in
+            let eq : take n (since f w₀ k i upto) ≡ take n (packetAt f w₀ i .bytes) ++ take (to + need - r) (since f w₀ k x upto) =
+            ap (take n) (since-own f w₀ k i upto h (g .mine h) ∙ rw (since-jump f w₀ q upto k (pre .walk .linked) i x h (sym link₁ ∙ e) (g .mine h)))
+            ∙ take-app n (packetAt f w₀ i .bytes) (since f w₀ k x upto)
+            ∙ rw lf in
+            let fr : Front (24 * upto) u w = rw (wrote .writes) (front-sets (24 * upto) (take n (packetAt f w₀ i .bytes)) w pos (omega (arith, pre .low, g .low))) in
             record {
               mine = link-key w₀ q upto (pre .walk .linked) i x h (sym link₁ ∙ e) (word w₀ (6 * first)) (g .mine h);
               low = omega (arith, wrote .next, g .low);
               ends = omega (arith, wrote .next, short, g .ends);
-              front = front-then (24 * upto) u w w₀ (rw (wrote .writes) (front-sets (24 * upto) (take (to + need - pos) (packetAt f w₀ i .bytes)) w pos (omega (arith, pre .low, g .low)))) (g .front);
+              front = front-then (24 * upto) u w w₀ fr (g .front);
               behind = behind₁;
-              emits = emit-turn w₀ to (take need (begun f w₀ first upto)) w pos (take (to + need - pos) (since f w₀ (word w₀ (6 * first)) i upto)) (g .emits) (take (to + need - pos) (packetAt f w₀ i .bytes)) (take (to + need - r) (since f w₀ (word w₀ (6 * first)) x upto)) r u eq wrote;
+              emits =
+                  emit-turn w₀ to (take need (begun f w₀ first upto)) w pos (take n (since f w₀ k i upto)) (g .emits)
+                  (take n (packetAt f w₀ i .bytes)) (take (to + need - r) (since f w₀ k x upto)) r u eq wrote;
             }
 
     pub gather-end : upto ≤ i → Writes w₀ to (take need (begun f w₀ first upto)) pos w
-    gather-end h = emit-end w₀ to (take need (begun f w₀ first upto)) w pos (take (to + need - pos) (since f w₀ (word w₀ (6 * first)) i upto)) (g .emits) (rw (since-stop f w₀ (word w₀ (6 * first)) i upto h) (take-nil (to + need - pos)))
+    gather-end h =
+        let k : ℕ = word w₀ (6 * first) in
+        emit-end w₀ to (take need (begun f w₀ first upto)) w pos (take (to + need - pos) (since f w₀ k i upto)) (g .emits)
+        (rw (since-stop f w₀ k i upto h) (take-nil (to + need - pos)))
