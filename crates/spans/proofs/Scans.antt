@@ -7,13 +7,14 @@ use native.Mathlib.Omega.{arith}
 use lib.ListN.{length, getD, take, drop, length-append, length-drop}
 use lib.Seq.{length-take-le, take-all}
 use lib.Dec.{eqb, ltb}
-use borrow.Author.Tests.{eqb-true, lt-ltb, le-ltb}
+use borrow.Author.Tests.{eqb-true, eq-eqb, ne-eqb, lt-ltb, le-ltb}
 use Rattle.laws.specs.Choice.{splitB, split≡, no-way}
 use Rattle.laws.specs.Lists.{drop-end}
+use Rattle.mdr.specs.Frame.{unpacksOf}
 use Rattle.spans.specs.Scan.{seek, begun, end, ended, spansN, restN, spansOf, restOf}
 use Rattle.spans.specs.Scanning.{shorter, rest-more}
 use Rattle.spans.specs.Bytewise.{Quiet, no-end, no-start, closes-first}
-use Rattle.spans.specs.Parts.{Sought, tallyOne, tallyAll, Room, CountedIs}
+use Rattle.spans.specs.Parts.{Sought, bit, tallyOne, tallyAll, Room, CountedIs}
 use Rattle.spans.specs.Scans.{ScanPre, Begins, AddedIs, FirstPre, FirstIs, FromPre, OpenPre, OpenIs, ScannedIs}
 use Rattle.spans.specs.declared.Tally.{Tally}
 use Rattle.spans.specs.declared.Counted.{Counted}
@@ -39,17 +40,26 @@ begins-self x h g = record { yes = λ e z. eqb-true (getD x 0 0) 0x3E e; no = λ
 
 -- ---- one span more
 
+module _ (x : List ℕ) (t : Tally) where
+  pub one-first : t .frame ≡ 0 → (b : Bool) → b ≡ unpacksOf x → (r : ℕ) → r ≡ bit b → record { count = t .count + 1; bytes = t .bytes + 14 + length x; frame = r } ≡ tallyOne t x
+  unfolding tallyOne
+  one-first e b eb r er = rw (eq-eqb (t .frame) 0 e, er, eb)
+
+  pub one-known : (t .frame ≡ 0 → ⊥) → record { count = t .count + 1; bytes = t .bytes + 14 + length x; frame = t .frame } ≡ tallyOne t x
+  unfolding tallyOne
+  one-known e = rw (ne-eqb (t .frame) 0 e)
+
 module _ (x : List ℕ) (h : ℕ) (t : Tally) where
-  pub added-known : t .frame ≡ true → AddedIs x h t (record { count = t .count + 1; bytes = t .bytes + 14 + h + length x; frame = true })
+  pub added-known : (t .frame ≡ 0 → ⊥) → AddedIs x h t (record { count = t .count + 1; bytes = t .bytes + 14 + h + length x; frame = t .frame })
   unfolding tallyOne
   added-known e = record {
-    is = λ b l. (let k : t .bytes + 14 + length (b ++ x) ≡ t .bytes + 14 + h + length x = omega (arith, length-append b x) in rw (k, e));
+    is = λ b l. (let k : t .bytes + 14 + length (b ++ x) ≡ t .bytes + 14 + h + length x = omega (arith, length-append b x) in rw (k, ne-eqb (t .frame) 0 e));
   }
 
-  pub added-first : ScanPre x h t → t .frame ≡ false → (r : Tally) → r ≡ tallyOne t x → AddedIs x h t r
+  pub added-first : ScanPre x h t → t .frame ≡ 0 → (r : Tally) → r ≡ tallyOne t x → AddedIs x h t r
   added-first q e r er = record { is = λ b l. er ∙ rw (nil b (l ∙ none)) } where
     none : h ≡ 0
-    none = split≡ h 0 (λ z. z) (λ z. no-way (q .known (omega arith)) e)
+    none = split≡ h 0 (λ z. z) (λ z. absurd (q .known (omega arith) e))
 
 -- ---- the first span
 

@@ -14,7 +14,7 @@ use Rattle.spans.specs.declared.Scanned.{Scanned}
 -- behind h bytes held, which closed are counted by their length
 pub record ScanPre (x : List ℕ) (h : ℕ) (t : Tally) : Type 0 where
   pub room : Room t (h + length x)
-  pub known : 0 < h → t .frame ≡ true
+  pub known : 0 < h → t .frame ≡ 0 → ⊥
 
 -- something is held, or the part begins with 3E
 pub record Begins (x : List ℕ) (h : ℕ) (r : Bool) : Type 0 where

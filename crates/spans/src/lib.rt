@@ -5,7 +5,7 @@ ghost use lib.ListN.{length, drop};
 ghost use Rattle.items.specs.Items.{rxOf};
 ghost use mathlib.Core.Bool.{cond};
 ghost use Rattle.spans.specs.Scan.{seek};
-ghost use Rattle.spans.specs.Parts.{OneIf, Without, Among, Short, Passed, Sought, NextIs, Room, tallyOne, CountedIs, WritePre, WroteIs};
+ghost use Rattle.spans.specs.Parts.{OneIf, Without, Among, Short, Passed, Sought, NextIs, Room, bit, tallyOne, CountedIs, WritePre, WroteIs};
 ghost use Rattle.spans.specs.Scans.{Begins, ScanPre, AddedIs, FirstPre, FirstIs, FromPre, OpenPre, OpenIs, ScannedIs};
 use items::Direction;
 use items::put_span;
@@ -191,11 +191,12 @@ pub fn next_span(buffer: &[u8], pos: usize) -> Next
     Next::Rest(start)
 }
 
-// What is counted of spans: how many, the bytes of their list, and whether one of them unpacks.
+// What is counted of spans: how many, the bytes of their list, and 1 if one of them unpacks. All fields are of one width,
+// so that no padding is copied with them.
 pub struct Tally {
     pub count: usize,
     pub bytes: usize,
-    pub frame: bool,
+    pub frame: usize,
 }
 
 // What is counted of a buffer, and how long the rest of it is.
@@ -204,23 +205,30 @@ pub struct Counted {
     pub rest: usize,
 }
 
+// 1 if so, else 0.
+fn bit_of(b: bool) -> usize
+    ensures { λ r. ⌜ r ≡ bit b ⌝ }
+{
+    if b { 1 } else { 0 }
+}
+
 // One span more.
 fn add_span(t: Tally, wire: &[u8]) -> Tally
     requires { ⌜ Room t (length (now wire)) ⌝ }
     ensures { λ r. ⌜ r ≡ tallyOne t (now (wire .entry)) ⌝ }
 {
     let n = wire.len();
-    if t.frame {
+    if t.frame == 0 {
         return Tally {
             count: t.count + 1,
             bytes: t.bytes + 14 + n,
-            frame: true,
+            frame: bit_of(unpacks(wire)),
         };
     }
     Tally {
         count: t.count + 1,
         bytes: t.bytes + 14 + n,
-        frame: unpacks(wire),
+        frame: t.frame,
     }
 }
 
@@ -279,14 +287,14 @@ fn add_behind(t: Tally, h: usize, part: &[u8]) -> Tally
     requires { ⌜ ScanPre (now part) h t ⌝ }
     ensures { λ r. ⌜ AddedIs (now (part .entry)) h t r ⌝ }
 {
-    if t.frame {
-        return Tally {
-            count: t.count + 1,
-            bytes: t.bytes + 14 + h + part.len(),
-            frame: true,
-        };
+    if t.frame == 0 {
+        return add_span(t, part);
     }
-    add_span(t, part)
+    Tally {
+        count: t.count + 1,
+        bytes: t.bytes + 14 + h + part.len(),
+        frame: t.frame,
+    }
 }
 
 // Counts the span that the first 3C closes, at e.
