@@ -9,13 +9,13 @@ use lib.Seq.{length-take-le, take-all}
 use lib.Dec.{eqb, ltb}
 use borrow.Author.Tests.{eqb-true, eq-eqb, ne-eqb, lt-ltb, le-ltb}
 use Rattle.laws.specs.Choice.{splitB, split≡, no-way}
-use Rattle.laws.specs.Lists.{drop-end}
+use Rattle.laws.specs.Lists.{drop-step, drop-end}
 use Rattle.mdr.specs.Frame.{unpacksOf}
 use Rattle.spans.specs.Scan.{seek, begun, end, ended, spansN, restN, spansOf, restOf}
 use Rattle.spans.specs.Scanning.{shorter, rest-more}
 use Rattle.spans.specs.Bytewise.{Quiet, no-end, no-start, closes-first}
 use Rattle.spans.specs.Parts.{Sought, bit, tallyOne, tallyAll, Room, CountedIs}
-use Rattle.spans.specs.Scans.{ScanPre, Begins, AddedIs, FirstPre, FirstIs, FromPre, OpenPre, OpenIs, ScannedIs}
+use Rattle.spans.specs.Scans.{UpTo, ScanPre, Begins, AddedIs, FirstPre, FirstIs, FromPre, OpenPre, OpenIs, ScannedIs}
 use Rattle.spans.specs.declared.Tally.{Tally}
 use Rattle.spans.specs.declared.Counted.{Counted}
 use Rattle.spans.specs.declared.First.{First}
@@ -29,6 +29,45 @@ pub seek-le : (x : ℕ) (l : List ℕ) → seek x l ≤ length l
 unfolding seek
 seek-le x [] = omega arith
 seek-le x (y ∷ l) = splitB (eqb y x) (λ e. rw e (omega arith)) (λ e. rw e (omega (arith, seek-le x l)))
+
+-- ---- the first 3C
+
+-- what is still to be searched, from i on
+pub record Ending (l : List ℕ) (i : ℕ) : Type 0 where
+  pub high : i ≤ length l
+  pub same : i + seek 0x3C (drop i l) ≡ seek 0x3C l
+
+pub ending-start : (l : List ℕ) → Ending l 0
+ending-start l = record { high = omega arith; same = omega arith }
+
+module _ (l : List ℕ) (i : ℕ) (v : Ending l i) where
+  pub ending-hit : i < length l → getD l i 0 ≡ 0x3C → i ≡ seek 0x3C l
+  unfolding seek
+  ending-hit h e = omega (arith, rw (drop-step l i h, eq-eqb (getD l i 0) 0x3C e) at (v .same))
+
+  pub ending-miss : i < length l → (getD l i 0 ≡ 0x3C → ⊥) → Ending l (i + 1)
+  unfolding seek
+  ending-miss h e = record { high = omega arith; same = omega (arith, rw (drop-step l i h, ne-eqb (getD l i 0) 0x3C e) at (v .same)) }
+
+  pub ending-end : length l ≤ i → i ≡ seek 0x3C l
+  unfolding seek
+  ending-end h = omega (arith, rw (drop-end l i h) at (v .same))
+
+-- what stands before an x says where the first is
+seek-before : (x : ℕ) (l : List ℕ) (m : ℕ) → m < length l → getD l m 0 ≡ x → seek x (take m l) ≡ seek x l
+unfolding seek
+seek-before x [] m h e = absurd (omega arith)
+seek-before x (y ∷ l) zero h e = rw (eq-eqb y x e)
+seek-before x (y ∷ l) (suc m) h e = rw (seek-before x l m (omega arith) e)
+
+pub up-to-last : (l : List ℕ) → 0 < length l → getD l (length l - 1) 0 ≡ 0x3C → UpTo l (length l - 1)
+up-to-last l h e = record { high = omega arith; same = seek-before 0x3C l (length l - 1) (omega arith) e }
+
+pub up-to-all : (l : List ℕ) → 0 < length l → UpTo l (length l - 1 + 1)
+up-to-all l h = let z : length l - 1 + 1 ≡ length l = omega arith in rw z (record { high = omega arith; same = rw (take-all (length l) l (omega arith)) })
+
+pub up-to-found : (l : List ℕ) (m : ℕ) → UpTo l m → (r : ℕ) → Sought (take (m - 0) l) 0 0x3C r → r ≡ seek 0x3C l
+up-to-found l m u r s = let z : m - 0 ≡ m = omega arith in (rw z at (s .at)) ∙ omega (arith, u .same)
 
 -- ---- whether a part begins a span
 

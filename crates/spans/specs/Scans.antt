@@ -3,13 +3,18 @@ use Prim.Native.Nat.{ℕ, _+_, _-_, _*_, _<_, _≤_}
 use mathlib.Core.Path.{_≡_}
 use mathlib.Core.Bool.{Bool, true, false}
 use mathlib.Core.List.{List, [], _∷_, _++_}
-use lib.ListN.{length, getD, drop}
+use lib.ListN.{length, getD, take, drop}
 use Rattle.spans.specs.Scan.{seek, spansOf, restOf}
 use Rattle.spans.specs.Bytewise.{Quiet}
 use Rattle.spans.specs.Parts.{tallyOne, tallyAll, Room}
 use Rattle.spans.specs.declared.Tally.{Tally}
 use Rattle.spans.specs.declared.First.{First}
 use Rattle.spans.specs.declared.Scanned.{Scanned}
+
+-- the first 3C, if there is one, is one of the first r bytes or the one behind them
+pub record UpTo (x : List ℕ) (r : ℕ) : Type 0 where
+  pub high : r ≤ length x
+  pub same : seek 0x3C (take r x) ≡ seek 0x3C x
 
 -- behind h bytes held, which closed are counted by their length
 pub record ScanPre (x : List ℕ) (h : ℕ) (t : Tally) : Type 0 where

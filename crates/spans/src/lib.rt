@@ -6,7 +6,7 @@ ghost use Rattle.items.specs.Items.{rxOf};
 ghost use mathlib.Core.Bool.{cond};
 ghost use Rattle.spans.specs.Scan.{seek};
 ghost use Rattle.spans.specs.Parts.{OneIf, Without, Among, Short, Passed, Sought, NextIs, Room, bit, tallyOne, CountedIs, WritePre, WroteIs};
-ghost use Rattle.spans.specs.Scans.{Begins, ScanPre, AddedIs, FirstPre, FirstIs, FromPre, OpenPre, OpenIs, ScannedIs};
+ghost use Rattle.spans.specs.Scans.{UpTo, Begins, ScanPre, AddedIs, FirstPre, FirstIs, FromPre, OpenPre, OpenIs, ScannedIs};
 use items::Direction;
 use items::put_span;
 use mdr::unpacks;
@@ -152,13 +152,6 @@ fn find_byte(s: &[u8], from: usize, x: u8) -> usize
     find_in_32(s, at, x)
 }
 
-// The place of the first 3C; the length, if there is none.
-pub fn first_end(s: &[u8]) -> usize
-    ensures { λ r. ⌜ r ≡ seek 0x3C (now (s .entry)) ⌝ }
-{
-    find_byte(s, 0, 0x3C)
-}
-
 // The same. Two bytes are looked at before the rest: spans may be short, and many follow one another.
 fn find_soon(s: &[u8], from: usize, x: u8) -> usize
     requires { ⌜ from ≤ length (now s) ⌝ }
@@ -174,6 +167,46 @@ fn find_soon(s: &[u8], from: usize, x: u8) -> usize
         }
     }
     find_byte(s, from, x)
+}
+
+// ---- the first 3C
+
+// The place of the first 3C in a few bytes; their number, if there is none.
+fn few_end(s: &[u8]) -> usize
+    ensures { λ r. ⌜ r ≡ seek 0x3C (now (s .entry)) ⌝ }
+{
+    let mut i = 0;
+    while i < s.len() {
+        if s[i] == 0x3C {
+            return i;
+        }
+        i += 1;
+    }
+    i
+}
+
+// How many bytes are to be searched for the first 3C: not the last, if it is one.
+fn before_end(s: &[u8]) -> usize
+    requires { ⌜ 0 < length (now s) ⌝ }
+    ensures { λ r. ⌜ UpTo (now (s .entry)) r ⌝ }
+{
+    let last = s.len() - 1;
+    if s[last] == 0x3C {
+        return last;
+    }
+    last + 1
+}
+
+// The place of the first 3C; the length, if there is none. A piece often ends with its only 3C, and then no place is looked
+// for in a block.
+pub fn first_end(s: &[u8]) -> usize
+    ensures { λ r. ⌜ r ≡ seek 0x3C (now (s .entry)) ⌝ }
+{
+    if s.len() < 16 {
+        return few_end(s);
+    }
+    let m = before_end(s);
+    find_byte(&s[0..m], 0, 0x3C)
 }
 
 // ---- what stands next
