@@ -7,16 +7,17 @@ use native.Mathlib.Omega.{arith}
 use lib.ListN.{length, getD, take, drop, length-append, length-drop}
 use lib.Seq.{length-take-le, take-all}
 use lib.Dec.{eqb, ltb}
-use borrow.Author.Tests.{eqb-true, lt-ltb, le-ltb}
+use borrow.Author.Tests.{eqb-true, eq-eqb, ne-eqb, lt-ltb, le-ltb}
 use Rattle.laws.specs.Choice.{splitB, split≡, no-way}
-use Rattle.laws.specs.Lists.{drop-end}
+use Rattle.laws.specs.Lists.{drop-step, drop-end}
+use Rattle.mdr.specs.Frame.{unpacksOf}
 use Rattle.spans.specs.Scan.{begun, end, ended, spansN, restN, spansOf, restOf}
 use Rattle.search.specs.Seek.{seek}
 use Rattle.spans.specs.Scanning.{shorter, rest-more}
 use Rattle.spans.specs.Bytewise.{Quiet, no-end, no-start, closes-first}
-use Rattle.spans.specs.Parts.{tallyOne, tallyAll, Room, CountedIs}
+use Rattle.spans.specs.Parts.{bit, tallyOne, tallyAll, Room, CountedIs}
 use Rattle.search.specs.Steps.{Sought}
-use Rattle.spans.specs.Scans.{ScanPre, Begins, AddedIs, FirstPre, FirstIs, FromPre, OpenPre, OpenIs, ScannedIs}
+use Rattle.spans.specs.Scans.{UpTo, ScanPre, Begins, AddedIs, FirstPre, FirstIs, FromPre, OpenPre, OpenIs, ScannedIs}
 use Rattle.spans.specs.declared.Tally.{Tally}
 use Rattle.spans.specs.declared.Counted.{Counted}
 use Rattle.spans.specs.declared.First.{First}
@@ -31,6 +32,45 @@ unfolding seek
 seek-le x [] = omega arith
 seek-le x (y ∷ l) = splitB (eqb y x) (λ e. rw e (omega arith)) (λ e. rw e (omega (arith, seek-le x l)))
 
+-- ---- the first 3C
+
+-- what is still to be searched, from i on
+pub record Ending (l : List ℕ) (i : ℕ) : Type 0 where
+  pub high : i ≤ length l
+  pub same : i + seek 0x3C (drop i l) ≡ seek 0x3C l
+
+pub ending-start : (l : List ℕ) → Ending l 0
+ending-start l = record { high = omega arith; same = omega arith }
+
+module _ (l : List ℕ) (i : ℕ) (v : Ending l i) where
+  pub ending-hit : i < length l → getD l i 0 ≡ 0x3C → i ≡ seek 0x3C l
+  unfolding seek
+  ending-hit h e = omega (arith, rw (drop-step l i h, eq-eqb (getD l i 0) 0x3C e) at (v .same))
+
+  pub ending-miss : i < length l → (getD l i 0 ≡ 0x3C → ⊥) → Ending l (i + 1)
+  unfolding seek
+  ending-miss h e = record { high = omega arith; same = omega (arith, rw (drop-step l i h, ne-eqb (getD l i 0) 0x3C e) at (v .same)) }
+
+  pub ending-end : length l ≤ i → i ≡ seek 0x3C l
+  unfolding seek
+  ending-end h = omega (arith, rw (drop-end l i h) at (v .same))
+
+-- what stands before an x says where the first is
+seek-before : (x : ℕ) (l : List ℕ) (m : ℕ) → m < length l → getD l m 0 ≡ x → seek x (take m l) ≡ seek x l
+unfolding seek
+seek-before x [] m h e = absurd (omega arith)
+seek-before x (y ∷ l) zero h e = rw (eq-eqb y x e)
+seek-before x (y ∷ l) (suc m) h e = rw (seek-before x l m (omega arith) e)
+
+pub up-to-last : (l : List ℕ) → 0 < length l → getD l (length l - 1) 0 ≡ 0x3C → UpTo l (length l - 1)
+up-to-last l h e = record { high = omega arith; same = seek-before 0x3C l (length l - 1) (omega arith) e }
+
+pub up-to-all : (l : List ℕ) → 0 < length l → UpTo l (length l - 1 + 1)
+up-to-all l h = let z : length l - 1 + 1 ≡ length l = omega arith in rw z (record { high = omega arith; same = rw (take-all (length l) l (omega arith)) })
+
+pub up-to-found : (l : List ℕ) (m : ℕ) → UpTo l m → (r : ℕ) → Sought (take (m - 0) l) 0 0x3C r → r ≡ seek 0x3C l
+up-to-found l m u r s = let z : m - 0 ≡ m = omega arith in (rw z at (s .at)) ∙ omega (arith, u .same)
+
 -- ---- whether a part begins a span
 
 pub begins-held : (x : List ℕ) (h : ℕ) → 0 < h → Begins x h true
@@ -41,17 +81,26 @@ begins-self x h g = record { yes = λ e z. eqb-true (getD x 0 0) 0x3E e; no = λ
 
 -- ---- one span more
 
+module _ (x : List ℕ) (t : Tally) where
+  pub one-first : t .frame ≡ 0 → (b : Bool) → b ≡ unpacksOf x → (r : ℕ) → r ≡ bit b → record { count = t .count + 1; bytes = t .bytes + 14 + length x; frame = r } ≡ tallyOne t x
+  unfolding tallyOne
+  one-first e b eb r er = rw (eq-eqb (t .frame) 0 e, er, eb)
+
+  pub one-known : (t .frame ≡ 0 → ⊥) → record { count = t .count + 1; bytes = t .bytes + 14 + length x; frame = t .frame } ≡ tallyOne t x
+  unfolding tallyOne
+  one-known e = rw (ne-eqb (t .frame) 0 e)
+
 module _ (x : List ℕ) (h : ℕ) (t : Tally) where
-  pub added-known : t .frame ≡ true → AddedIs x h t (record { count = t .count + 1; bytes = t .bytes + 14 + h + length x; frame = true })
+  pub added-known : (t .frame ≡ 0 → ⊥) → AddedIs x h t (record { count = t .count + 1; bytes = t .bytes + 14 + h + length x; frame = t .frame })
   unfolding tallyOne
   added-known e = record {
-    is = λ b l. (let k : t .bytes + 14 + length (b ++ x) ≡ t .bytes + 14 + h + length x = omega (arith, length-append b x) in rw (k, e));
+    is = λ b l. (let k : t .bytes + 14 + length (b ++ x) ≡ t .bytes + 14 + h + length x = omega (arith, length-append b x) in rw (k, ne-eqb (t .frame) 0 e));
   }
 
-  pub added-first : ScanPre x h t → t .frame ≡ false → (r : Tally) → r ≡ tallyOne t x → AddedIs x h t r
+  pub added-first : ScanPre x h t → t .frame ≡ 0 → (r : Tally) → r ≡ tallyOne t x → AddedIs x h t r
   added-first q e r er = record { is = λ b l. er ∙ rw (nil b (l ∙ none)) } where
     none : h ≡ 0
-    none = split≡ h 0 (λ z. z) (λ z. no-way (q .known (omega arith)) e)
+    none = split≡ h 0 (λ z. z) (λ z. absurd (q .known (omega arith) e))
 
 -- ---- the first span
 

@@ -4,6 +4,7 @@ use mathlib.Core.Path.{_≡_}
 use mathlib.Core.Bool.{true, cond}
 use mathlib.Core.List.{List, [], _∷_, map}
 use lib.ListN.{length, take, drop}
+use lib.Dec.{eqb}
 use Rattle.laws.specs.Stores.{Writes}
 use Rattle.items.specs.Items.{Span, span, spanList}
 use Rattle.mdr.specs.Frame.{unpacksOf}
@@ -37,9 +38,12 @@ pub record NextIs (b : List ℕ) (pos : ℕ) (r : Next) : Type 0 where
 
 -- ---- counting
 
+abbrev pub bit : Bool → ℕ
+bit b = cond b 1 0
+
 -- one span more, of the wire w
 unfoldable pub tallyOne : Tally → List ℕ → Tally
-tallyOne t w = record { count = t .count + 1; bytes = t .bytes + 14 + length w; frame = cond (t .frame) true (unpacksOf w) }
+tallyOne t w = record { count = t .count + 1; bytes = t .bytes + 14 + length w; frame = cond (eqb (t .frame) 0) (bit (unpacksOf w)) (t .frame) }
 
 unfoldable pub tallyAll : Tally → List (List ℕ) → Tally
 tallyAll t [] = t

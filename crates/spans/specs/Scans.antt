@@ -3,7 +3,7 @@ use Prim.Native.Nat.{ℕ, _+_, _-_, _*_, _<_, _≤_}
 use mathlib.Core.Path.{_≡_}
 use mathlib.Core.Bool.{Bool, true, false}
 use mathlib.Core.List.{List, [], _∷_, _++_}
-use lib.ListN.{length, getD, drop}
+use lib.ListN.{length, getD, take, drop}
 use Rattle.spans.specs.Scan.{spansOf, restOf}
 use Rattle.search.specs.Seek.{seek}
 use Rattle.spans.specs.Bytewise.{Quiet}
@@ -12,10 +12,15 @@ use Rattle.spans.specs.declared.Tally.{Tally}
 use Rattle.spans.specs.declared.First.{First}
 use Rattle.spans.specs.declared.Scanned.{Scanned}
 
+-- the first 3C, if there is one, is one of the first r bytes or the one behind them
+pub record UpTo (x : List ℕ) (r : ℕ) : Type 0 where
+  pub high : r ≤ length x
+  pub same : seek 0x3C (take r x) ≡ seek 0x3C x
+
 -- behind h bytes held, which closed are counted by their length
 pub record ScanPre (x : List ℕ) (h : ℕ) (t : Tally) : Type 0 where
   pub room : Room t (h + length x)
-  pub known : 0 < h → t .frame ≡ true
+  pub known : 0 < h → t .frame ≡ 0 → ⊥
 
 -- something is held, or the part begins with 3E
 pub record Begins (x : List ℕ) (h : ℕ) (r : Bool) : Type 0 where

@@ -4,8 +4,8 @@ ghost use Prim.Native.Nat.{_+_, _*_, _≤_, _<_};
 ghost use lib.ListN.{length, drop};
 ghost use Rattle.items.specs.Items.{rxOf};
 ghost use Rattle.search.specs.Seek.{seek};
-ghost use Rattle.spans.specs.Parts.{NextIs, Room, tallyOne, CountedIs, WritePre, WroteIs};
-ghost use Rattle.spans.specs.Scans.{Begins, ScanPre, AddedIs, FirstPre, FirstIs, FromPre, OpenPre, OpenIs, ScannedIs};
+ghost use Rattle.spans.specs.Parts.{NextIs, Room, bit, tallyOne, CountedIs, WritePre, WroteIs};
+ghost use Rattle.spans.specs.Scans.{UpTo, Begins, ScanPre, AddedIs, FirstPre, FirstIs, FromPre, OpenPre, OpenIs, ScannedIs};
 use items::Direction;
 use items::put_span;
 use mdr::unpacks;
@@ -18,14 +18,47 @@ pub enum Next {
     Rest(usize),
 }
 
-// ---- what stands next
+// ---- the first 3C
 
-// The place of the first 3C; the length, if there is none.
+// The place of the first 3C in a few bytes; their number, if there is none.
+fn few_end(s: &[u8]) -> usize
+    ensures { λ r. ⌜ r ≡ seek 0x3C (now (s .entry)) ⌝ }
+{
+    let mut i = 0;
+    while i < s.len() {
+        if s[i] == 0x3C {
+            return i;
+        }
+        i += 1;
+    }
+    i
+}
+
+// How many bytes are to be searched for the first 3C: not the last, if it is one.
+fn before_end(s: &[u8]) -> usize
+    requires { ⌜ 0 < length (now s) ⌝ }
+    ensures { λ r. ⌜ UpTo (now (s .entry)) r ⌝ }
+{
+    let last = s.len() - 1;
+    if s[last] == 0x3C {
+        return last;
+    }
+    last + 1
+}
+
+// The place of the first 3C; the length, if there is none. A piece often ends with its only 3C, and then no place is looked
+// for in a block.
 pub fn first_end(s: &[u8]) -> usize
     ensures { λ r. ⌜ r ≡ seek 0x3C (now (s .entry)) ⌝ }
 {
-    find_byte(s, 0, 0x3C)
+    if s.len() < 16 {
+        return few_end(s);
+    }
+    let m = before_end(s);
+    find_byte(&s[0..m], 0, 0x3C)
 }
+
+// ---- what stands next
 
 // What stands next at or after a place.
 pub fn next_span(buffer: &[u8], pos: usize) -> Next
@@ -40,11 +73,12 @@ pub fn next_span(buffer: &[u8], pos: usize) -> Next
     Next::Rest(start)
 }
 
-// What is counted of spans: how many, the bytes of their list, and whether one of them unpacks.
+// What is counted of spans: how many, the bytes of their list, and 1 if one of them unpacks. All fields are of one width,
+// so that no padding is copied with them.
 pub struct Tally {
     pub count: usize,
     pub bytes: usize,
-    pub frame: bool,
+    pub frame: usize,
 }
 
 // What is counted of a buffer, and how long the rest of it is.
@@ -53,23 +87,30 @@ pub struct Counted {
     pub rest: usize,
 }
 
+// 1 if so, else 0.
+fn bit_of(b: bool) -> usize
+    ensures { λ r. ⌜ r ≡ bit b ⌝ }
+{
+    if b { 1 } else { 0 }
+}
+
 // One span more.
 fn add_span(t: Tally, wire: &[u8]) -> Tally
     requires { ⌜ Room t (length (now wire)) ⌝ }
     ensures { λ r. ⌜ r ≡ tallyOne t (now (wire .entry)) ⌝ }
 {
     let n = wire.len();
-    if t.frame {
+    if t.frame == 0 {
         return Tally {
             count: t.count + 1,
             bytes: t.bytes + 14 + n,
-            frame: true,
+            frame: bit_of(unpacks(wire)),
         };
     }
     Tally {
         count: t.count + 1,
         bytes: t.bytes + 14 + n,
-        frame: unpacks(wire),
+        frame: t.frame,
     }
 }
 
@@ -128,14 +169,14 @@ fn add_behind(t: Tally, h: usize, part: &[u8]) -> Tally
     requires { ⌜ ScanPre (now part) h t ⌝ }
     ensures { λ r. ⌜ AddedIs (now (part .entry)) h t r ⌝ }
 {
-    if t.frame {
-        return Tally {
-            count: t.count + 1,
-            bytes: t.bytes + 14 + h + part.len(),
-            frame: true,
-        };
+    if t.frame == 0 {
+        return add_span(t, part);
     }
-    add_span(t, part)
+    Tally {
+        count: t.count + 1,
+        bytes: t.bytes + 14 + h + part.len(),
+        frame: t.frame,
+    }
 }
 
 // Counts the span that the first 3C closes, at e.

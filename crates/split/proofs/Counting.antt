@@ -6,8 +6,8 @@ use mathlib.Core.List.{List, [], _∷_, _++_, append-nil, append-assoc, map}
 use native.Mathlib.Omega.{arith}
 use native.Mathlib.Numerals.{add-one}
 use lib.ListN.{length, take, drop, length-append}
-use lib.Dec.{ltb}
-use borrow.Author.Tests.{eq-eqb}
+use lib.Dec.{eqb, ltb}
+use borrow.Author.Tests.{eq-eqb, ne-eqb}
 use Rattle.laws.specs.Choice.{splitB, split≡, no-way}
 use Rattle.laws.specs.Keys.{Key}
 use Rattle.laws.specs.Keyed.{step, run, after}
@@ -21,7 +21,7 @@ use Rattle.channels.specs.Channels.{any}
 use Rattle.spans.specs.Scan.{spansOf, restOf}
 use Rattle.search.specs.Seek.{seek}
 use Rattle.spans.specs.Spans.{scanner, emptied, spans, unfinished}
-use Rattle.spans.specs.Parts.{tagged, tallyOne, tallyAll, Room, CountedIs}
+use Rattle.spans.specs.Parts.{tagged, bit, tallyOne, tallyAll, Room, CountedIs}
 use Rattle.spans.specs.Bytewise.{AllQuiet, quiet-emptied}
 use Rattle.spans.specs.Scans.{ScanPre, ScannedIs}
 use Rattle.spans.proofs.Scans.{seek-le, silent, silent-rest}
@@ -47,7 +47,7 @@ tallySpans t [] = t
 tallySpans t (s ∷ ss) = tallySpans (tallyOne t (s .wire)) ss
 
 unfoldable pub nothing : Tally
-nothing = record { count = 0; bytes = 0; frame = false }
+nothing = record { count = 0; bytes = 0; frame = 0 }
 
 tally-tagged : (t : Tally) (rx time : ℕ) (ws : List (List ℕ)) (ss : List Span) → tallySpans t (tagged rx time ws ++ ss) ≡ tallySpans (tallyAll t ws) ss
 unfolding tallySpans tallyAll
@@ -64,18 +64,25 @@ unfolding tallySpans tallyOne
 tally-bytes t [] = rw spans-none (omega arith)
 tally-bytes t (s ∷ ss) = tally-bytes (tallyOne t (s .wire)) ss ∙ rw (spans-more s ss) (omega (arith, length-append (spanItem s) (spanList ss), length-span s))
 
-tally-frame : (t : Tally) (ss : List Span) → tallySpans t ss .frame ≡ cond (t .frame) true (any (λ s. unpacksOf (s .wire)) ss)
+tally-frame : (t : Tally) (ss : List Span) → tallySpans t ss .frame ≡ cond (eqb (t .frame) 0) (bit (any (λ s. unpacksOf (s .wire)) ss)) (t .frame)
 unfolding tallySpans tallyOne any
-tally-frame t [] = splitB (t .frame) (λ e. rw e) (λ e. rw e)
-tally-frame t (s ∷ ss) = tally-frame (tallyOne t (s .wire)) ss ∙ splitB (t .frame) (λ e. rw e) (λ e. rw e (splitB (unpacksOf (s .wire)) (λ g. rw g) (λ g. rw g)))
+tally-frame t [] = split≡ (t .frame) 0 (λ e. rw (eq-eqb (t .frame) 0 e) e) (λ e. rw (ne-eqb (t .frame) 0 e))
+tally-frame t (s ∷ ss) =
+    tally-frame (tallyOne t (s .wire)) ss
+    ∙ split≡ (t .frame) 0
+    (λ e. rw (eq-eqb (t .frame) 0 e) (splitB (unpacksOf (s .wire)) (λ g. rw g) (λ g. rw g)))
+    (λ e. rw (ne-eqb (t .frame) 0 e) (rw (ne-eqb (t .frame) 0 e)))
 
 -- ---- a piece
 
 pub known-none : (h : ℕ) (t : Tally) → h ≡ 0 → Known h t true
 known-none h t e = record { yes = λ z g. absurd (omega arith); no = λ z. no-way refl z }
 
-pub known-frame : (h : ℕ) (t : Tally) → (h ≡ 0 → ⊥) → Known h t (t .frame)
-known-frame h t n = record { yes = λ z g. z; no = λ z. omega arith }
+pub known-not : (h : ℕ) (t : Tally) → (h ≡ 0 → ⊥) → Known h t false
+known-not h t n = record { yes = λ z. no-way z refl; no = λ z. omega arith }
+
+pub known-frame : (h : ℕ) (t : Tally) → (t .frame ≡ 0 → ⊥) → Known h t true
+known-frame h t n = record { yes = λ z g. n; no = λ z. no-way refl z }
 
 module _ (f w : List ℕ) (p : Plan) (i h : ℕ) (t : Tally) (q : CountHeld f w p i h t) where
   -- what is held
@@ -215,7 +222,7 @@ pub record CountingTo (f w₀ : List ℕ) (p : Plan) (w : List ℕ) (i : ℕ) (s
   pub keys : keysTo w p i ++ map (λ x. x .key) (ahead f w p i) ≡ map (λ x. x .key) (all f w₀ p)
   pub told : AllTold f w p i
 
-pub counting-start : (f w : List ℕ) (p : Plan) → Laid f w p → CountingTo f w p w 0 (record { tally = record { count = 0; bytes = 0; frame = false }; unfinished = 0 })
+pub counting-start : (f w : List ℕ) (p : Plan) → Laid f w p → CountingTo f w p w 0 (record { tally = record { count = 0; bytes = 0; frame = 0 }; unfinished = 0 })
 unfolding nothing spans liveTo keysTo nub count heldIn
 counting-start f w p l =
     let z : p .n - 0 ≡ p .n = omega arith in

@@ -10,10 +10,8 @@ use borrow.Author.Tests.{lt-ltb, le-ltb}
 use Rattle.laws.specs.Choice.{splitB, split≤, no-way}
 use Rattle.laws.specs.Keys.{Key, eqK, splitK, eq-eqK, ne-eqK}
 use Rattle.laws.specs.Count.{mem, nub, count}
+use Rattle.spans.specs.Parts.{bit}
 use Rattle.split.specs.Rows.{sign}
-
-abbrev pub bit : Bool → ℕ
-bit b = cond b 1 0
 
 count-cons : (p : Key → Bool) (x : Key) (xs : List Key) → count p (x ∷ xs) ≡ bit (p x) + count p xs
 unfolding count

@@ -15,7 +15,7 @@ use Rattle.rfcomm.specs.Pieces.{Piece}
 use Rattle.spans.specs.Scan.{spansOf, restOf}
 use Rattle.search.specs.Seek.{seek}
 use Rattle.spans.specs.Spans.{spans, unfinished}
-use Rattle.spans.specs.Parts.{tagged, tallyAll, Room}
+use Rattle.spans.specs.Parts.{tagged, bit, tallyAll, Room}
 use Rattle.spans.specs.Bytewise.{Quiet, AllQuiet}
 use Rattle.spans.specs.declared.Tally.{Tally}
 use Rattle.spans.specs.declared.Scanned.{Scanned}
@@ -149,7 +149,7 @@ pub record CountHeld (f w : List ℕ) (p : Plan) (i h : ℕ) (t : Tally) : Type 
 
 -- a span of what is held can be counted by its length
 pub record Known (h : ℕ) (t : Tally) (r : Bool) : Type 0 where
-  pub yes : r ≡ true → 0 < h → t .frame ≡ true
+  pub yes : r ≡ true → 0 < h → t .frame ≡ 0 → ⊥
   pub no : r ≡ false → 0 < h
 
 pub record JoinHeld (f w : List ℕ) (p : Plan) (i h : ℕ) (t : Tally) : Type 0 where
@@ -178,7 +178,7 @@ pub record Stepped (f w : List ℕ) (p : Plan) (i : ℕ) (s : Sums) (u : List �
 pub record CountIs (f w : List ℕ) (p : Plan) (u : List ℕ) (r : Sums) : Type 0 where
   pub count : r .tally .count ≡ length (spans (all f w p))
   pub bytes : r .tally .bytes ≡ length (spanList (spans (all f w p)))
-  pub frame : r .tally .frame ≡ any (λ s. unpacksOf (s .wire)) (spans (all f w p))
+  pub frame : r .tally .frame ≡ bit (any (λ s. unpacksOf (s .wire)) (spans (all f w p)))
   pub live : r .unfinished ≡ unfinished (all f w p)
   pub front : Front (4 * p .held) u w
   pub told : AllTold f u p (p .n)

@@ -249,7 +249,10 @@ fn is_known(h: usize, t: Tally) -> bool
     if h == 0 {
         return true;
     }
-    t.frame
+    if t.frame == 0 {
+        return false;
+    }
+    true
 }
 
 // Counts the spans that piece i brings behind the h bytes held, which are put before it if a 3C closes them.
@@ -317,7 +320,7 @@ pub fn count_spans(file: &[u8], w: &mut [u8], p: Plan) -> Sums
     let none = Tally {
         count: 0,
         bytes: 0,
-        frame: false,
+        frame: 0,
     };
     let mut s = Sums {
         tally: none,

@@ -9,7 +9,7 @@ use native.Mathlib.Numerals.{add-one}
 use lib.ListN.{length, getD, set, replicate, length-set}
 use lib.Seq.{getD-set-other, set-out}
 use lib.Dec.{eqb}
-use Rattle.laws.specs.Choice.{split≡}
+use Rattle.laws.specs.Choice.{splitB, split≡}
 use Rattle.words.specs.Words.{word}
 use Rattle.words.specs.Front.{Front, front-refl, front-then, front-less, front-word}
 use Rattle.items.specs.Items.{spanList}
@@ -18,6 +18,7 @@ use Rattle.channels.specs.Channels.{any}
 use Rattle.rfcomm.specs.Pieces.{Piece}
 use Rattle.rfcomm.specs.PieceTable.{pieceAt, piecesFrom, infosOf, Within, Pieced}
 use Rattle.rfcomm.specs.PieceRows.{pieces-front}
+use Rattle.spans.specs.Parts.{bit}
 use Rattle.spans.specs.Spans.{spans, unfinished, onDlci}
 use Rattle.split.specs.Rows.{all, tailAt, keyAt, Linked, Laid}
 use Rattle.split.specs.Walks.{CountIs}
@@ -158,21 +159,27 @@ module _ (f w₀ : List ℕ) (n : ℕ) (channel : Channel) (w tried : List ℕ) 
           choosing-laid = laid-later f w₀ n t w (v .front) (v .long) p d ep
 
           module _ (u : List ℕ) (s : Sums) (c : CountIs f w p u s) where
-            has-is : hasFrame (tablePieces f w₀ n) d ≡ s .tally .frame
+            has-is : s .tally .frame ≡ bit (hasFrame (tablePieces f w₀ n) d)
             unfolding hasFrame
-            has-is = sym (rw (all-same f w₀ n t w (v .front) p d ep) at (c .frame))
+            has-is = rw (all-same f w₀ n t w (v .front) p d ep) at (c .frame)
 
-            pub choosing-bad : s .tally .frame ≡ false → length u ≡ length w → (o : List ℕ) → o ≡ set tried d 1 → Choosing f w₀ n channel u o (i + 1)
+            has-not : (s .tally .frame ≡ 1 → ⊥) → hasFrame (tablePieces f w₀ n) d ≡ false
+            has-not g = splitB (hasFrame (tablePieces f w₀ n) d) (λ e. absurd (g (rw e at has-is))) (λ e. e)
+
+            has : s .tally .frame ≡ 1 → hasFrame (tablePieces f w₀ n) d ≡ true
+            has g = splitB (hasFrame (tablePieces f w₀ n) d) (λ e. e) (λ e. let z : s .tally .frame ≡ 0 = rw e at has-is in absurd (omega arith))
+
+            pub choosing-bad : (s .tally .frame ≡ 1 → ⊥) → length u ≡ length w → (o : List ℕ) → o ≡ set tried d 1 → Choosing f w₀ n channel u o (i + 1)
             choosing-bad g k o es =
                 rw es (next u (set tried d 1) k (front-plan f u w n d p ep (c .front)) (length-set tried d 1 ∙ v .size)
-                (λ x y. split≡ x d (λ z. rw z (has-is ∙ g)) (λ z. v .bad x (λ b. y (getD-set-other tried d x 1 0 z ∙ b))))
-                (fit false (has-is ∙ g)))
+                (λ x y. split≡ x d (λ z. rw z (has-not g)) (λ z. v .bad x (λ b. y (getD-set-other tried d x 1 0 z ∙ b))))
+                (fit false (has-not g)))
 
-            pub choosing-found : s .tally .frame ≡ true → Chooses f w₀ n channel u (Chosen (record { dlci = d; spans = s .tally .count; bytes = s .tally .bytes; unfinished = s .unfinished }))
+            pub choosing-found : s .tally .frame ≡ 1 → Chooses f w₀ n channel u (Chosen (record { dlci = d; spans = s .tally .count; bytes = s .tally .bytes; unfinished = s .unfinished }))
             unfolding choiceOf streamOf planOf
             choosing-found g =
                 let a : all f w p ≡ onDlci d (tablePieces f w₀ n) = all-same f w₀ n t w (v .front) p d ep in
-                let o : chosen (channelOf channel) (tablePieces f w₀ n) ≡ some d = sym (v .same) ∙ more ∙ rw (fit true (has-is ∙ g)) in
+                let o : chosen (channelOf channel) (tablePieces f w₀ n) ≡ some d = sym (v .same) ∙ more ∙ rw (fit true (has g)) in
                 record {
                   chooses = rw (o, c .count, c .bytes, c .live, a);
                   front = front-then (below f n) u w w₀ (front-plan f u w n d p ep (c .front)) (v .front);

@@ -94,7 +94,7 @@ pub fn choose_dlci(file: &[u8], w: &mut [u8], n: usize, channel: Channel) -> Cho
                 let p = plan(q, n, d);
                 let s = count_spans(file, w, p);
                 let t = s.tally;
-                if t.frame {
+                if t.frame == 1 {
                     let found = Stream {
                         dlci: d as u8,
                         spans: t.count,

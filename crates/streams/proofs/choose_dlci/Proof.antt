@@ -74,23 +74,23 @@ count-spans-requires c κs = choosing-laid _ _ _ _ _ _ _ (c .before .before .bef
 
 -- src/lib.rt:96:31
 cast-t31 : tie.Need-cast-t31 Inv-loop μ-loop
-cast-t31 c = let h = choosing-small _ _ _ _ _ _ _ (c .before .before .before .before .before .before .before .before .before .before .before .before .before .before .before .before .before .before .loop .inv) (c .before .before .before .before .before .before .before .before .before .before .before .before .before .before .before .before .before .before .before .before .before .pre) (c .before .before .before .before .before .before .before .before .before .before .before .before .before .before .before .before .before .loop-test .taken) _ (c .before .before .before .before .before .before .before .before .before .before .before .before .before .before .before .get32 .ensures) in omega arith
+cast-t31 c = let h = choosing-small _ _ _ _ _ _ _ (c .before .before .before .before .before .before .before .before .before .before .before .before .before .before .before .before .before .before .before .loop .inv) (c .before .before .before .before .before .before .before .before .before .before .before .before .before .before .before .before .before .before .before .before .before .before .pre) (c .before .before .before .before .before .before .before .before .before .before .before .before .before .before .before .before .before .before .loop-test .taken) _ (c .before .before .before .before .before .before .before .before .before .before .before .before .before .before .before .before .get32 .ensures) in omega arith
 
 -- src/lib.rt:101:21
 same-length : tie.Need-same-length Inv-loop μ-loop
-same-length c = omega (arith, c .before .before .before .before .before .before .before .before .before .before .before .before .before .before .before .before .before .before .loop .inv .long)
+same-length c = omega (arith, c .before .before .before .before .before .before .before .before .before .before .before .before .before .before .before .before .before .before .before .loop .inv .long)
 
 -- src/lib.rt:101:21
 returns : tie.Need-returns Inv-loop μ-loop
-returns c = choosing-found _ _ _ _ _ _ _ (c .before .before .before .before .before .before .before .before .before .before .before .before .before .before .before .before .before .before .loop .inv) (c .before .before .before .before .before .before .before .before .before .before .before .before .before .before .before .before .before .before .before .before .before .pre) (c .before .before .before .before .before .before .before .before .before .before .before .before .before .before .before .before .before .loop-test .taken) _ (c .before .before .before .before .before .before .before .before .before .before .before .before .before .before .before .get32 .ensures) _ (c .before .before .before .before .before .before .before .before .before .before .before .before .before .before .on-channel .ensures) (c .before .before .before .before .before .before .before .before .before .before .before .before .before .if1 .taken) _ (c .before .before .before .before .before .before .plan .ensures) _ _ (c .before .before .before .before .count-spans .ensures) (c .if3 .taken)
+returns c = choosing-found _ _ _ _ _ _ _ (c .before .before .before .before .before .before .before .before .before .before .before .before .before .before .before .before .before .before .before .loop .inv) (c .before .before .before .before .before .before .before .before .before .before .before .before .before .before .before .before .before .before .before .before .before .before .pre) (c .before .before .before .before .before .before .before .before .before .before .before .before .before .before .before .before .before .before .loop-test .taken) _ (c .before .before .before .before .before .before .before .before .before .before .before .before .before .before .before .before .get32 .ensures) _ (c .before .before .before .before .before .before .before .before .before .before .before .before .before .before .before .on-channel .ensures) (c .before .before .before .before .before .before .before .before .before .before .before .before .before .before .if1 .taken) _ (c .before .before .before .before .before .before .before .plan .ensures) _ _ (c .before .before .before .before .before .count-spans .ensures) (c .if3 .taken)
 
 -- src/lib.rt:85:5
 loop-less : tie.Need-loop-less Inv-loop μ-loop
-loop-less c = omega (arith, c .before .before .before .before .before .before .before .before .before .before .before .before .before .before .before .before .before .loop-test .taken)
+loop-less c = omega (arith, c .before .before .before .before .before .before .before .before .before .before .before .before .before .before .before .before .before .before .loop-test .taken)
 
 -- src/lib.rt:85:5
 loop-again : tie.Need-loop-again Inv-loop μ-loop
-loop-again c = choosing-bad _ _ _ _ _ _ _ (c .before .before .before .before .before .before .before .before .before .before .before .before .before .before .before .before .before .before .loop .inv) (c .before .before .before .before .before .before .before .before .before .before .before .before .before .before .before .before .before .before .before .before .before .pre) (c .before .before .before .before .before .before .before .before .before .before .before .before .before .before .before .before .before .loop-test .taken) _ (c .before .before .before .before .before .before .before .before .before .before .before .before .before .before .before .get32 .ensures) _ (c .before .before .before .before .before .before .before .before .before .before .before .before .before .before .on-channel .ensures) (c .before .before .before .before .before .before .before .before .before .before .before .before .before .if1 .taken) _ (c .before .before .before .before .before .before .plan .ensures) _ _ (c .before .before .before .before .count-spans .ensures) (c .if3 .left) (omega arith) _ (c .before .before .before .before .before .before .before .before .mark .ensures)
+loop-again c = choosing-bad _ _ _ _ _ _ _ (c .before .before .before .before .before .before .before .before .before .before .before .before .before .before .before .before .before .before .before .loop .inv) (c .before .before .before .before .before .before .before .before .before .before .before .before .before .before .before .before .before .before .before .before .before .before .pre) (c .before .before .before .before .before .before .before .before .before .before .before .before .before .before .before .before .before .before .loop-test .taken) _ (c .before .before .before .before .before .before .before .before .before .before .before .before .before .before .before .before .get32 .ensures) _ (c .before .before .before .before .before .before .before .before .before .before .before .before .before .before .before .on-channel .ensures) (c .before .before .before .before .before .before .before .before .before .before .before .before .before .before .if1 .taken) _ (c .before .before .before .before .before .before .before .plan .ensures) _ _ (c .before .before .before .before .before .count-spans .ensures) (c .if3 .left) (omega arith) _ (c .before .before .before .before .before .before .before .before .before .mark .ensures)
 
 -- src/lib.rt:85:5
 loop-less-2 : tie.Need-loop-less-2 Inv-loop μ-loop
