@@ -10,22 +10,18 @@ use Rattle.laws.specs.Choice.{splitB, split≤}
 use Rattle.laws.specs.Lists.{flat-append}
 use Rattle.laws.specs.Numbers.{le32}
 use Rattle.laws.specs.Stores.{Writes, writes-long}
-use Rattle.laws.specs.Answers.{accepted, gives, Meets, meets-refused, meets-short, meets-wrote}
 use Rattle.words.specs.Words.{word, putWord, length-put}
 use Rattle.words.specs.Front.{front-sets, front-word}
-use Rattle.items.specs.Items.{item, Item, endAt, nameItem, nameList, nameTest, readItems}
+use Rattle.items.specs.Items.{item, Item, endAt, nameItem, nameList, nameTest}
 use Rattle.items.specs.Writing.{length-item, length-name}
-use Rattle.items.specs.Walks.{itemsFrom, namesFrom, Walks, Good, items-few, names-in, names-ill, names-end, NameIs, name-is, checkOf, checked-good, checked-ill}
+use Rattle.items.specs.Walks.{itemsFrom, namesFrom, Walks, Good, items-few, names-end, NameIs, name-is}
 use Rattle.items.specs.declared.NamePart.{NamePart}
-use Rattle.items.specs.declared.Checked.{Checked}
-use Rattle.items.specs.declared.Checked.the-variants.{Well, Ill}
-use Rattle.order.specs.declared.Ordered.the-variants.{IllFormed, OutShort}
-use Rattle.order.specs.Counter.{leName}
-use Rattle.order.specs.Sort.{insert, isort}
-use Rattle.order.specs.Order.{inOrder, captureOrder, toldOrdered}
-use Rattle.order.specs.Steps.{nameAt, leAt, words, Sorts, Lent, namesAt, Placed, Fills}
-use Rattle.order.proofs.Sorting.{map-isort}
-use Rattle.order.proofs.Places.{words-same, words-snoc, words-more}
+use Rattle.sorting.specs.Names.{leName}
+use Rattle.sorting.specs.Sort.{insert, isort}
+use Rattle.sorting.specs.Steps.{nameAt, leAt, words, Sorts}
+use Rattle.order.specs.Steps.{Lent, namesAt, Placed, Fills}
+use Rattle.sorting.proofs.Sorting.{map-isort}
+use Rattle.sorting.proofs.Places.{words-same, words-snoc, words-more}
 
 map-append : {A B : Type 0} (f : A → B) (a b : List A) → map f (a ++ b) ≡ map f a ++ map f b
 map-append f [] b = refl
@@ -96,7 +92,13 @@ module _ (l : List ℕ) (n : ℕ) (w₀ w : List ℕ) (i at : ℕ) (c : Placing 
 
 -- ---- writing
 
-list-append : (a b : List (List ℕ)) → nameList (a ++ b) ≡ nameList a ++ nameList b
+-- what stands from the place on where a part was stored before the rest
+pub put-drop : (w : List ℕ) (to : ℕ) (p : List ℕ) (r : ℕ) (u : List ℕ) (next : ℕ) → Writes w to p r u → to + length p ≡ next → next ≤ length w → drop to u ≡ p ++ drop next w
+put-drop w to p r u next v e h =
+    rw (v .writes, sets-eq p w to (omega arith), e, append-assoc (take to w) p (drop next w))
+    (drop-at (take to w) (p ++ drop next w) to (length-take-le to w (omega arith)))
+
+pub list-append : (a b : List (List ℕ)) → nameList (a ++ b) ≡ nameList a ++ nameList b
 unfolding nameList
 list-append a b = rw (map-append nameItem a b) (flat-append (map nameItem a) (map nameItem b))
 
@@ -157,15 +159,12 @@ module _ (l : List ℕ) (n : ℕ) (w₀ w : List ℕ) (i to : ℕ) (c : Writing 
     writing-turn to′ r w′ q v =
         let p : to′ ≡ length (front l (i - 1) w) = omega (arith, writing-left) in
         let long = length-item 3 name in
-        let fits : to′ + length (item 3 name) ≤ length w = omega (arith, writing-left, c .room) in
         let kept : words w′ 0 (i - 1) ≡ words w 0 (i - 1) =
         words-same w w′ 0 (i - 1)
         (λ j a b. rw (v .writes) (front-word to′ (sets w to′ (item 3 name)) w j (omega (arith, front-long l (i - 1) w)) (front-sets to′ (item 3 name) w to′ (omega arith)))) in
         let same : front l (i - 1) w′ ≡ front l (i - 1) w = front-kept l (i - 1) w w′ kept in
         let next : to′ + length (item 3 name) ≡ to = omega (arith, writing-left) in
-        let rest : drop to′ w′ ≡ item 3 name ++ drop to w =
-        rw (v .writes, sets-eq (item 3 name) w to′ fits, next, append-assoc (take to′ w) (item 3 name) (drop to w))
-        (drop-at (take to′ w) (item 3 name ++ drop to w) to′ (length-take-le to′ w (omega arith))) in
+        let rest : drop to′ w′ ≡ item 3 name ++ drop to w = put-drop w to′ (item 3 name) r w′ to v next (c .room) in
         record {
           place = rw same p;
           room = omega (arith, writes-long w to′ (item 3 name) r w′ v);
@@ -232,31 +231,3 @@ module _ (l : List ℕ) (n : ℕ) (w₀ w u : List ℕ) (t : Lent l n w₀) (p :
 
   pub arranged : (o : List ℕ) → o ≡ nameList (namesAt l n u) → o ≡ listed l
   arranged o e = e ∙ ap nameList in-order
-
--- ---- the call
-
-pub order-lent : (l : List ℕ) (r : Checked) (n : ℕ) (w : List ℕ) → r ≡ checkOf (readItems nameTest l) → r ≡ Well n → length w ≡ length l → Lent l n w
-order-lent l r n w e q h = record { good = checked-good nameTest l r n e q; long = h }
-
-module _ (l d : List ℕ) where
-  pub order-ill : (r : Checked) (n : ℕ) → r ≡ checkOf (readItems nameTest l) → r ≡ Ill n → Meets (captureOrder l) d (toldOrdered (IllFormed n)) d
-  unfolding captureOrder inOrder toldOrdered
-  order-ill r n e q = meets-refused (captureOrder l) d 20 (n ∷ []) (rw (names-ill l n (checked-ill nameTest l r n e q)))
-
-  order-gives : (n : ℕ) → Good nameTest l n → captureOrder l ≡ gives (length (listed l) ∷ []) (listed l)
-  unfolding captureOrder inOrder
-  order-gives n g = rw (names-in l n g)
-
-  module _ (r : Checked) (n : ℕ) (e : r ≡ checkOf (readItems nameTest l)) (q : r ≡ Well n) where
-    pub order-short : length d < length l → Meets (captureOrder l) d (toldOrdered (OutShort (length l))) d
-    unfolding toldOrdered
-    order-short h = let g = checked-good nameTest l r n e q in meets-short (captureOrder l) d (length (listed l) ∷ []) (listed l) (length l) (order-gives n g) (sym (listed-long l n g)) h
-
-    pub order-wrote : (o : List ℕ) → length l ≤ length d → o ≡ listed l → Meets (captureOrder l) d (accepted (length l ∷ [])) (o ++ drop (length l) d)
-    order-wrote o h f =
-        let g = checked-good nameTest l r n e q in
-        let k = listed-long l n g in
-        let fits : 0 + length (listed l) ≤ length d = omega arith in
-        rw (← k)
-        (meets-wrote (captureOrder l) d (length (listed l) ∷ []) (listed l) (length (listed l)) (o ++ drop (length (listed l)) d) (order-gives n g) (omega arith)
-        (record { next = omega arith; writes = rw (f, sets-eq (listed l) d 0 fits, zero-add (length (listed l))) }))

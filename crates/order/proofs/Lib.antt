@@ -1,5 +1,5 @@
-pub mod Sorting
-pub mod Names
-pub mod Reading
-pub mod Places
 pub mod Arranging
+pub mod Turning
+pub mod Standing
+pub mod Running
+pub mod Calls

@@ -1,4 +1,4 @@
--- Counters, and a list in order, by computing.
+-- A list in order, by computing.
 use Prim.Native.Nat.{ℕ}
 use Prim.Native.String.{String, [], _∷_}
 use Prim.Native.Char.{code}
@@ -8,28 +8,15 @@ use Rattle.laws.specs.Numbers.{le16, le32}
 use Rattle.laws.specs.Keys.{eqK}
 use Rattle.laws.specs.Answers.{gives, refuses}
 use Rattle.items.specs.Items.{item, nameItem, nameList, itemAt, endAt, isItem, passing, readItems, nameTest, namesIn}
-use Rattle.order.specs.Counter.{uncounted, counted, mark, afterHyphen, toHyphen, isDigit, digits, number, signed, within, counter, rank, leBytes, leName}
-use Rattle.order.specs.Sort.{insert, isort}
+use Rattle.counter.specs.Counter.{mark, afterHyphen, toHyphen, isDigit, digits, number, signed, within, counter, rank}
+use Rattle.lexical.specs.Bytes.{leBytes}
+use Rattle.sorting.specs.Names.{leName}
+use Rattle.sorting.specs.Sort.{insert, isort}
 use Rattle.order.specs.Order.{inOrder, captureOrder}
 
 abbrev ascii : String → List ℕ
 ascii [] = []ᴸ
 ascii (c ∷ s) = code c ∷ᴸ ascii s
-
-counters :
-    (counter (ascii "mdr-packet-1700000000000-000042-rx.bin") ≡ counted 42)
-    × (counter (ascii "mdr-packet-0-+7-") ≡ counted 7)
-    × (counter (ascii "mdr-packet-0-007") ≡ counted 7)
-    × (counter (ascii "mdr-packet-0-4294967295-") ≡ counted 4294967295)
-    × (counter (ascii "mdr-packet-0-4294967296-") ≡ uncounted)
-    × (counter (ascii "mdr-packet-0--7") ≡ uncounted)
-    × (counter (ascii "mdr-packet-0-+-7") ≡ uncounted)
-    × (counter (ascii "mdr-packet--7-") ≡ counted 7)
-    × (counter (ascii "mdr-packet-7") ≡ uncounted)
-    × (counter (ascii "mdr-packet-0-7a-") ≡ uncounted)
-    × (counter (ascii "Mdr-packet-0-7-") ≡ uncounted)
-unfolding mark afterHyphen toHyphen isDigit digits number signed within counter eqK
-counters = (refl, refl, refl, refl, refl, refl, refl, refl, refl, refl, refl)
 
 two : List ℕ
 two = ascii "mdr-packet-9-2-"

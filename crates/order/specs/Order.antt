@@ -4,8 +4,8 @@ use Prim.Native.Nat.{ℕ}
 use lib.ListN.{length}
 use Rattle.laws.specs.Answers.{Answer, accepted, refused, Outcome, gives, refuses}
 use Rattle.items.specs.Items.{Listed, wellFormed, illFormed, namesIn, nameList}
-use Rattle.order.specs.Counter.{leName}
-use Rattle.order.specs.Sort.{isort}
+use Rattle.sorting.specs.Names.{leName}
+use Rattle.sorting.specs.Sort.{isort}
 use Rattle.order.specs.declared.Ordered.{Ordered}
 use Rattle.order.specs.declared.Ordered.the-variants.{Wrote, IllFormed, OutShort}
 

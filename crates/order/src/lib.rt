@@ -1,26 +1,30 @@
 // Fixture names in the order in which their frames crossed the link.
 ghost use mathlib.Core.Path.{_≡_};
-ghost use Prim.Native.Nat.{_+_, _*_, _/_, _≤_};
-ghost use lib.ListN.{length, take, drop};
-ghost use Rattle.laws.specs.Keys.{eqK};
-ghost use Rattle.order.specs.Counter.{mark, toHyphen, digits, number, signed, within, counter, rank, leBytes, leName};
-ghost use Rattle.order.specs.Steps.{After, Comparing, nameAt, leftFirst, Apart, Copies, Rotates, Merges, Halves, Joins, Pairs, Sorts, Lent, namesAt, Placed, Fills};
-ghost use Rattle.order.specs.Sort.{isort};
-ghost use Rattle.order.specs.Order.{captureOrder, toldOrdered};
-ghost use Rattle.items.specs.Items.{nameList};
-ghost use Rattle.items.specs.Walks.{namesFrom};
+ghost use Prim.Native.Nat.{_<_};
+ghost use lib.ListN.{length};
+ghost use Rattle.items.specs.Items.{nameTest, nameList};
+ghost use Rattle.items.specs.Walks.{passAt, namesFrom};
 ghost use Rattle.laws.specs.Answers.{Meets};
+ghost use Rattle.sorting.specs.Names.{leName};
+ghost use Rattle.sorting.specs.Sort.{isort};
+ghost use Rattle.sorting.specs.Chains.{back};
+ghost use Rattle.order.specs.Order.{captureOrder, toldOrdered};
+ghost use Rattle.order.specs.Steps.{Lent, namesAt, Placed, Fills, Backed, Same, RunPre, RunsOn, Runs, ReadIs, WayPre};
 use items::Checked;
 use items::Listing;
+use items::Step;
 use items::check;
+use items::item_at;
 use items::name_at;
 use items::put_item;
-use words::get_le32;
-use words::get_le64;
+use sorting::Head;
+use sorting::head_of;
+use sorting::is_first;
+use sorting::name_of;
+use sorting::sort;
+use words::copy_to;
 use words::get32;
 use words::put32;
-use words::wide;
-use words::wide32;
 
 // What ordering answers: the length of the list written; the offset at which the list of names is ill-formed; the length
 // that the output would need.
@@ -28,283 +32,6 @@ pub enum Ordered {
     Wrote(usize),
     IllFormed(usize),
     OutShort(usize),
-}
-
-// ---- the counter of a name
-
-// Whether a name begins with `mdr-packet-`.
-fn is_marked(s: &[u8]) -> bool
-    ensures { λ r. ⌜ r ≡ eqK (take 11 (now (s .entry))) mark ⌝ }
-{
-    if s.len() < 11 {
-        return false;
-    }
-    if get_le32(s, 0) != 0x2D72646D {
-        return false;
-    }
-    if get_le32(s, 4) != 0x6B636170 {
-        return false;
-    }
-    get_le32(s, 7) == 0x2D74656B
-}
-
-// The place after the first hyphen from a place on, or the end.
-fn after_hyphen(s: &[u8], start: usize) -> usize
-    requires { ⌜ start ≤ length (now s) ⌝ }
-    ensures { λ r. ⌜ After (now (s .entry)) start r ⌝ }
-{
-    let mut i = start;
-    while i < s.len() {
-        if s[i] == b'-' {
-            return i + 1;
-        }
-        i += 1;
-    }
-    i
-}
-
-// The digits from a place to the next hyphen or the end: one more than their number, 0 if it is none or too large.
-fn read_digits(s: &[u8], start: usize) -> usize
-    requires { ⌜ start ≤ length (now s) ⌝ }
-    ensures { λ r. ⌜ r ≡ rank (within (digits 0 (toHyphen (drop start (now (s .entry)))))) ⌝ }
-{
-    let mut v = 0;
-    let mut i = start;
-    while i < s.len() {
-        let b = wide(s[i]);
-        if b == 45 {
-            return v + 1;
-        }
-        if b < 48 {
-            return 0;
-        }
-        if 57 < b {
-            return 0;
-        }
-        v = 10 * v + (b - 48);
-        if 4294967295 < v {
-            return 0;
-        }
-        i += 1;
-    }
-    v + 1
-}
-
-// The same, and 0 without a digit.
-fn read_number(s: &[u8], start: usize) -> usize
-    requires { ⌜ start ≤ length (now s) ⌝ }
-    ensures { λ r. ⌜ r ≡ rank (within (number (toHyphen (drop start (now (s .entry)))))) ⌝ }
-{
-    if s.len() <= start {
-        return 0;
-    }
-    if s[start] == b'-' {
-        return 0;
-    }
-    read_digits(s, start)
-}
-
-// The same, where a plus sign may stand first.
-fn read_signed(s: &[u8], start: usize) -> usize
-    requires { ⌜ start ≤ length (now s) ⌝ }
-    ensures { λ r. ⌜ r ≡ rank (within (signed (toHyphen (drop start (now (s .entry)))))) ⌝ }
-{
-    if s.len() <= start {
-        return 0;
-    }
-    if s[start] == b'+' {
-        return read_number(s, start + 1);
-    }
-    read_number(s, start)
-}
-
-// The rank of a name's counter.
-fn rank_of(name: &[u8]) -> usize
-    ensures { λ r. ⌜ r ≡ rank (counter (now (name .entry))) ⌝ }
-{
-    if is_marked(name) {
-        let at = after_hyphen(name, 11);
-        return read_signed(name, at);
-    }
-    0
-}
-
-// ---- the order of names
-
-// How many bytes two slices have in common at the front, by eights.
-fn common(a: &[u8], b: &[u8]) -> usize
-    ensures { λ r. ⌜ Comparing (now (a .entry)) (now (b .entry)) r ⌝ }
-{
-    let mut i = 0;
-    while i + 8 <= a.len() {
-        if b.len() < i + 8 {
-            return i;
-        }
-        if get_le64(a, i) != get_le64(b, i) {
-            return i;
-        }
-        i += 8;
-    }
-    i
-}
-
-// Whether a comes before b by bytes, or equals it.
-fn bytes_le(a: &[u8], b: &[u8]) -> bool
-    ensures { λ r. ⌜ r ≡ leBytes (now (a .entry)) (now (b .entry)) ⌝ }
-{
-    let mut i = common(a, b);
-    while i < a.len() {
-        if b.len() <= i {
-            return false;
-        }
-        let x = a[i];
-        let y = b[i];
-        if x != y {
-            return x < y;
-        }
-        i += 1;
-    }
-    true
-}
-
-// Whether the name a comes before b, or equals it.
-fn name_le(a: &[u8], b: &[u8]) -> bool
-    ensures { λ r. ⌜ r ≡ leName (now (a .entry)) (now (b .entry)) ⌝ }
-{
-    let p = rank_of(a);
-    let q = rank_of(b);
-    if p != q {
-        return p < q;
-    }
-    bytes_le(a, b)
-}
-
-// ---- places of names, as words in the output, sorted
-
-// The name at a place of a list, as much of it as is there.
-fn name_of<'a>(names: &'a [u8], place: u32) -> &'a [u8]
-    ensures { λ r. ⌜ now r ≡ nameAt (now (names .entry)) place ⌝ }
-{
-    let at = wide32(place);
-    let end = names.len();
-    let start = at + 6;
-    if end < start {
-        return &names[end..end];
-    }
-    let size = wide32(get_le32(names, at));
-    if end - start < size {
-        return &names[start..end];
-    }
-    &names[start..start + size]
-}
-
-// Whether the place a is next, before the word number k of those that end before the word number end.
-fn is_left(names: &[u8], out: &[u8], a: u32, k: usize, end: usize) -> bool
-    requires { ⌜ 4 * end ≤ length (now out) ⌝ }
-    ensures { λ r. ⌜ r ≡ leftFirst (now (names .entry)) (now (out .entry)) a k end ⌝ }
-{
-    if end <= k {
-        return true;
-    }
-    let b = get32(out, k);
-    name_le(name_of(names, a), name_of(names, b))
-}
-
-// Copies the n words from lo on to the words from to on. They may overlap if they go down.
-fn copy_words(out: &mut [u8], lo: usize, n: usize, to: usize)
-    requires { ⌜ Apart lo n to × (4 * (lo + n) ≤ length (now out)) × (4 * (to + n) ≤ length (now out)) ⌝ }
-    ensures { λ _. ⌜ Copies lo n to (now (out .entry)) (now (out .exit)) ⌝ }
-{
-    let mut i = 0;
-    while i < n {
-        let a = get32(out, lo + i);
-        put32(out, to + i, a);
-        i += 1;
-    }
-}
-
-// Changes the h words from lo on and the m words behind them round. The words from top on are free.
-fn rotate_words(out: &mut [u8], lo: usize, h: usize, m: usize, top: usize)
-    requires { ⌜ (lo + h + m ≤ top) × (4 * (top + h) ≤ length (now out)) ⌝ }
-    ensures { λ _. ⌜ Rotates lo h m top (now (out .entry)) (now (out .exit)) ⌝ }
-{
-    copy_words(out, lo, h, top);
-    copy_words(out, lo + h, m, lo);
-    copy_words(out, top, h, lo + m);
-}
-
-// Merges the h words from top on and the m words behind h from lo on, to the words from lo on.
-fn merge_words(names: &[u8], out: &mut [u8], lo: usize, h: usize, m: usize, top: usize)
-    requires { ⌜ (lo + h + m ≤ top) × (4 * (top + h) ≤ length (now out)) ⌝ }
-    ensures { λ _. ⌜ Merges (now (names .entry)) lo h m top (now (out .entry)) (now (out .exit)) ⌝ }
-{
-    let mut i = 0;
-    let mut j = 0;
-    while i < h {
-        let a = get32(out, top + i);
-        if is_left(names, out, a, lo + h + j, lo + h + m) {
-            put32(out, lo + i + j, a);
-            i += 1;
-            continue;
-        }
-        let b = get32(out, lo + h + j);
-        put32(out, lo + i + j, b);
-        j += 1;
-    }
-}
-
-// Joins two sorted halves, the h words from lo on and the m words behind them. The words from top on are free. Halves that
-// meet in order stay as they are, and halves that are wholly the wrong way round change places, so a list that is in order
-// takes n comparisons and a reversed one at most 2 n.
-fn join_halves(names: &[u8], out: &mut [u8], lo: usize, h: usize, m: usize, top: usize)
-    requires { ⌜ Halves lo h m top (now out) ⌝ }
-    ensures { λ _. ⌜ Joins (now (names .entry)) lo h m top (now (out .entry)) (now (out .exit)) ⌝ }
-{
-    let end = lo + h + m;
-    let a = get32(out, lo + h - 1);
-    if is_left(names, out, a, lo + h, end) {
-        return;
-    }
-    let x = get32(out, lo);
-    if is_left(names, out, x, end - 1, end) {
-        copy_words(out, lo, h, top);
-        merge_words(names, out, lo, h, m, top);
-        return;
-    }
-    rotate_words(out, lo, h, m, top);
-}
-
-// Sorts two words.
-fn sort_pair(names: &[u8], out: &mut [u8], lo: usize)
-    requires { ⌜ 4 * (lo + 2) ≤ length (now out) ⌝ }
-    ensures { λ _. ⌜ Pairs (now (names .entry)) lo (now (out .entry)) (now (out .exit)) ⌝ }
-{
-    let a = get32(out, lo);
-    if is_left(names, out, a, lo + 1, lo + 2) {
-        return;
-    }
-    let b = get32(out, lo + 1);
-    put32(out, lo, b);
-    put32(out, lo + 1, a);
-}
-
-// Sorts the n words from lo on by the names at their places. The words from top on are free.
-fn sort(names: &[u8], out: &mut [u8], lo: usize, n: usize, top: usize)
-    requires { ⌜ (lo + n ≤ top) × (4 * (top + n / 2) ≤ length (now out)) ⌝ }
-    ensures { λ _. ⌜ Sorts (now (names .entry)) lo n top (now (out .entry)) (now (out .exit)) ⌝ }
-{
-    if n < 2 {
-        return;
-    }
-    if n == 2 {
-        sort_pair(names, out, lo);
-        return;
-    }
-    let h = n / 2;
-    let m = n - h;
-    sort(names, out, lo, h, top);
-    sort(names, out, lo + h, m, top);
-    join_halves(names, out, lo, h, m, top);
 }
 
 // ---- the list written
@@ -352,18 +79,154 @@ fn arrange(names: &[u8], out: &mut [u8], n: usize)
     write_names(names, out, n);
 }
 
+// Writes the names of a checked list, the last first, to an output of its length.
+fn write_back(names: &[u8], out: &mut [u8])
+    requires { ⌜ Backed (now names) (now out) ⌝ }
+    ensures { λ _. ⌜ now (out .exit) ≡ nameList (back (namesFrom (now (names .entry)) 0)) ⌝ }
+{
+    let mut at = 0;
+    let mut to = out.len();
+    while at < names.len() {
+        let name = name_at(names, at);
+        let start = name.start;
+        let end = name.end;
+        to = to - (end - at);
+        put_item(out, to, 3, &names[start..end]);
+        at = end;
+    }
+}
+
+// ---- lists that run one way
+
+// The place after the name at a place, or 0 where no name stands.
+fn next_name(names: &[u8], at: usize) -> usize
+    requires { ⌜ at < length (now names) ⌝ }
+    ensures { λ r. ⌜ r ≡ passAt nameTest (now (names .entry)) at ⌝ }
+{
+    match item_at(names, at) {
+        Step::Whole(kind, start, end) => {
+            if kind == 3 {
+                return end;
+            }
+            0
+        }
+        Step::Passes => 0,
+        Step::End => 0,
+    }
+}
+
+// Whether two answers are the same.
+fn is_same(x: bool, y: bool) -> bool
+    ensures { λ r. ⌜ Same x y r ⌝ }
+{
+    if x {
+        return y;
+    }
+    if y { false } else { true }
+}
+
+// Whether a list is well-formed from a place on, where each name from the given one on comes before the next or equals it
+// (up), or each comes after the next.
+fn runs_on(names: &[u8], start: usize, first: Head, up: bool) -> bool
+    requires { ⌜ RunPre (now names) start first ⌝ }
+    ensures { λ r. ⌜ RunsOn (now (names .entry)) start first up r ⌝ }
+{
+    let mut at = start;
+    let mut a = first;
+    while at < names.len() {
+        let end = next_name(names, at);
+        if end == 0 {
+            return false;
+        }
+        let b = head_of(names, at as u32);
+        if is_same(is_first(names, a, b), up) {
+            a = b;
+            at = end;
+        } else {
+            return false;
+        }
+    }
+    true
+}
+
+// Whether a list is well-formed, and its names all go up, or all down.
+fn runs(names: &[u8], up: bool) -> bool
+    ensures { λ r. ⌜ Runs (now (names .entry)) up r ⌝ }
+{
+    if 16777216 < names.len() {
+        return false;
+    }
+    if names.len() == 0 {
+        return true;
+    }
+    let end = next_name(names, 0);
+    if end == 0 {
+        return false;
+    }
+    runs_on(names, end, head_of(names, 0), up)
+}
+
+// ---- the call
+
+// How the names of a list stand: in order, wholly the other way round, or neither, with their number.
+enum Way {
+    Up,
+    Down,
+    Mixed(usize),
+}
+
+// What a list is: names, or ill-formed at an offset.
+enum Read {
+    Names(Way),
+    Ill(usize),
+}
+
+// Checks a list. Most are in order, and are read but once for both.
+fn read_names(names: &[u8]) -> Read
+    ensures { λ r. ⌜ ReadIs (now (names .entry)) r ⌝ }
+{
+    if runs(names, true) {
+        return Read::Names(Way::Up);
+    }
+    if runs(names, false) {
+        return Read::Names(Way::Down);
+    }
+    match check(names, Listing::Names) {
+        Checked::Ill(at) => Read::Ill(at),
+        Checked::Well(n) => Read::Names(Way::Mixed(n)),
+    }
+}
+
+// Writes the names of a list in order to an output of its length.
+fn write_in_order(names: &[u8], out: &mut [u8], way: Way)
+    requires { ⌜ WayPre (now names) way (now out) ⌝ }
+    ensures { λ _. ⌜ now (out .exit) ≡ nameList (isort leName (namesFrom (now (names .entry)) 0)) ⌝ }
+{
+    match way {
+        Way::Up => {
+            copy_to(names, out, 0);
+        }
+        Way::Down => {
+            write_back(names, out);
+        }
+        Way::Mixed(n) => {
+            arrange(names, out, n);
+        }
+    }
+}
+
 // Writes a list of names in the order in which their frames crossed the link.
 pub fn capture_order(names: &[u8], out: &mut [u8]) -> Ordered
     ensures { λ r. ⌜ Meets (captureOrder (now (names .entry))) (now (out .entry)) (toldOrdered r) (now (out .exit)) ⌝ }
 {
-    match check(names, Listing::Names) {
-        Checked::Ill(at) => Ordered::IllFormed(at),
-        Checked::Well(n) => {
+    match read_names(names) {
+        Read::Ill(at) => Ordered::IllFormed(at),
+        Read::Names(way) => {
             let need = names.len();
             if out.len() < need {
                 return Ordered::OutShort(need);
             }
-            arrange(names, &mut out[..need], n);
+            write_in_order(names, &mut out[..need], way);
             Ordered::Wrote(need)
         }
     }

@@ -155,3 +155,22 @@ pub fn find_soon(s: &[u8], from: usize, x: u8) -> usize
     }
     find_byte(s, from, x)
 }
+
+// The same. 24 bytes are looked at one by one before the rest, for a byte that mostly stands among them.
+pub fn find_near(s: &[u8], from: usize, x: u8) -> usize
+    requires { ⌜ from ≤ length (now s) ⌝ }
+    ensures { λ r. ⌜ Sought (now (s .entry)) from x r ⌝ }
+{
+    if s.len() - from < 24 {
+        return find_few(s, from, x);
+    }
+    let few = from + 24;
+    let mut i = from;
+    while i < few {
+        if s[i] == x {
+            return i;
+        }
+        i += 1;
+    }
+    find_byte(s, i, x)
+}

@@ -1,5 +1,4 @@
 use Rattle.search.proofs.Searching.{among-part, passed-none}
-use native.Mathlib.Omega.{arith}
 use borrow.Author.Needs.{needs}
 use Rattle.search.proofs.find_byte.Statement.{statement}
 use Rattle.search.proofs.find_byte.Tie as tie
@@ -10,51 +9,39 @@ use Rattle.search.proofs.find_short.Reads as find-short-reads
 use Rattle.search.proofs.is_without.Reads as is-without-reads
 use Rattle.search.proofs.pass_blocks.Reads as pass-blocks-reads
 
--- src/lib.rt:143:8
 sub-if1 : tie.Need-sub-if1
 sub-if1 c = search needs
 
--- src/lib.rt:144:9
 find-short-requires : tie.Need-find-short-requires
 find-short-requires c κs = search needs
 
--- src/lib.rt:144:9
 returns : tie.Need-returns
 returns c = search needs
 
--- src/lib.rt:146:9
 pass-blocks-requires : tie.Need-pass-blocks-requires
 pass-blocks-requires c κs = search needs
 
--- src/lib.rt:147:14
 add-to : tie.Need-add-to
 add-to c = search needs
 
--- src/lib.rt:148:19
 sub-is-without : tie.Need-sub-is-without
 sub-is-without c = search needs
 
--- src/lib.rt:148:19
 part-is-without-start : tie.Need-part-is-without-start
 part-is-without-start c = search needs
 
--- src/lib.rt:148:19
 part-is-without-end : tie.Need-part-is-without-end
 part-is-without-end c = search needs
 
--- src/lib.rt:148:8
 is-without-requires : tie.Need-is-without-requires
 is-without-requires c κs = search needs
 
--- src/lib.rt:149:9
 returns-2 : tie.Need-returns-2
 returns-2 c = passed-none _ _ _ _ (c .before .before .before .pass-blocks .ensures) _ (c .before .is-without .ensures) (c .if2 .taken)
 
--- src/lib.rt:151:5
 find-in-32-requires : tie.Need-find-in-32-requires
 find-in-32-requires c κs = among-part _ _ 32 _ _ (c .before .before .before .pass-blocks .ensures .high) (c .before .is-without .ensures) (c .if2 .left)
 
--- src/lib.rt:138:1
 returns-3 : tie.Need-returns-3
 returns-3 c = search needs
 

@@ -2,7 +2,6 @@ use lib.ListN.{length}
 use Prim.Native.Nat.{_-_}
 use Rattle.search.proofs.Searching.{Seeking, seeking-hit, seeking-miss, seeking-end, seeking-start}
 use borrow.Author.Needs.{needs}
-use native.Mathlib.Omega.{arith}
 use Rattle.search.proofs.find_few.Statement.{statement}
 use Rattle.search.proofs.find_few.Tie as tie
 use Rattle.search.proofs.find_few.Reads as reads
@@ -14,31 +13,24 @@ Inv-loop s from x i₀ i = Seeking s «from» x i
 abbrev μ-loop : tie.MeasureT-loop
 μ-loop s from x i₀ i = length s - i
 
--- src/lib.rt:24:5
 loop-holds : tie.Need-loop-holds Inv-loop μ-loop
 loop-holds c = search seeking-start
 
--- src/lib.rt:25:12
 shared-slice-read-if1 : tie.Need-shared-slice-read-if1 Inv-loop μ-loop
 shared-slice-read-if1 c = search needs
 
--- src/lib.rt:26:13
 returns : tie.Need-returns Inv-loop μ-loop
 returns c = search seeking-hit
 
--- src/lib.rt:28:9
 add-i : tie.Need-add-i Inv-loop μ-loop
 add-i c = search needs
 
--- src/lib.rt:24:5
 loop-less : tie.Need-loop-less Inv-loop μ-loop
 loop-less c = search needs
 
--- src/lib.rt:24:5
 loop-again : tie.Need-loop-again Inv-loop μ-loop
 loop-again c = search seeking-miss
 
--- src/lib.rt:19:1
 returns-2 : tie.Need-returns-2 Inv-loop μ-loop
 returns-2 c = search seeking-end
 

@@ -7,31 +7,24 @@ use Rattle.search.proofs.find_in_16.Reads as reads
 use Rattle.search.proofs.find_in_16.Lts as lts
 use Rattle.search.proofs.place_of.Reads as place-of-reads
 
--- src/lib.rt:64:14
 add-to : tie.Need-add-to
 add-to c = search needs
 
--- src/lib.rt:65:21
 sub-place-of : tie.Need-sub-place-of
 sub-place-of c = search needs
 
--- src/lib.rt:65:21
 part-place-of-start : tie.Need-part-place-of-start
 part-place-of-start c = search needs
 
--- src/lib.rt:65:21
 part-place-of-end : tie.Need-part-place-of-end
 part-place-of-end c = search needs
 
--- src/lib.rt:65:12
 place-of-requires : tie.Need-place-of-requires
 place-of-requires c κs = search needs
 
--- src/lib.rt:65:5
 add-result : tie.Need-add-result
 add-result c = omega (arith, placed-room _ _ 16 _ _ (c .before .before .before .pre) (c .place-of .ensures))
 
--- src/lib.rt:60:1
 returns : tie.Need-returns
 returns c = search placed-sought
 

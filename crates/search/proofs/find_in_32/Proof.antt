@@ -1,5 +1,4 @@
 use Rattle.search.proofs.Searching.{half-among, half-found}
-use native.Mathlib.Omega.{arith}
 use borrow.Author.Needs.{needs}
 use Rattle.search.proofs.find_in_32.Statement.{statement}
 use Rattle.search.proofs.find_in_32.Tie as tie
@@ -9,35 +8,27 @@ use Rattle.search.proofs.either.Reads as either-reads
 use Rattle.search.proofs.find_in_16.Reads as find-in-16-reads
 use Rattle.search.proofs.is_without.Reads as is-without-reads
 
--- src/lib.rt:80:14
 add-to : tie.Need-add-to
 add-to c = search needs
 
--- src/lib.rt:81:28
 sub-is-without : tie.Need-sub-is-without
 sub-is-without c = search needs
 
--- src/lib.rt:81:28
 part-is-without-start : tie.Need-part-is-without-start
 part-is-without-start c = search needs
 
--- src/lib.rt:81:28
 part-is-without-end : tie.Need-part-is-without-end
 part-is-without-end c = search needs
 
--- src/lib.rt:81:9
 is-without-requires : tie.Need-is-without-requires
 is-without-requires c κs = search needs
 
--- src/lib.rt:82:19
 either-requires : tie.Need-either-requires
 either-requires c κs = search needs
 
--- src/lib.rt:82:5
 find-in-16-requires : tie.Need-find-in-16-requires
 find-in-16-requires c κs = search half-among
 
--- src/lib.rt:76:1
 returns : tie.Need-returns
 returns c = search half-found
 

@@ -10,75 +10,57 @@ use Rattle.search.proofs.find_few.Reads as find-few-reads
 use Rattle.search.proofs.find_in_16.Reads as find-in-16-reads
 use Rattle.search.proofs.is_without.Reads as is-without-reads
 
--- src/lib.rt:106:8
 sub-if1 : tie.Need-sub-if1
 sub-if1 c = search needs
 
--- src/lib.rt:107:9
 find-few-requires : tie.Need-find-few-requires
 find-few-requires c κs = search needs
 
--- src/lib.rt:107:9
 returns : tie.Need-returns
 returns c = search needs
 
--- src/lib.rt:109:14
 add-to : tie.Need-add-to
 add-to c = search needs
 
--- src/lib.rt:110:28
 sub-is-without : tie.Need-sub-is-without
 sub-is-without c = search needs
 
--- src/lib.rt:110:28
 part-is-without-start : tie.Need-part-is-without-start
 part-is-without-start c = search needs
 
--- src/lib.rt:110:28
 part-is-without-end : tie.Need-part-is-without-end
 part-is-without-end c = search needs
 
--- src/lib.rt:110:9
 is-without-requires : tie.Need-is-without-requires
 is-without-requires c κs = search needs
 
--- src/lib.rt:111:34
 sub-either : tie.Need-sub-either
 sub-either c = search needs
 
--- src/lib.rt:111:9
 either-requires : tie.Need-either-requires
 either-requires c κs = search needs
 
--- src/lib.rt:112:15
 add-end : tie.Need-add-end
 add-end c = omega (arith, short-room _ _ _ _ _ (c .before .before .before .before .before .pre) (omega arith) (c .before .is-without .ensures) (c .either .ensures))
 
--- src/lib.rt:113:19
 sub-is-without-2 : tie.Need-sub-is-without-2
 sub-is-without-2 c = search needs
 
--- src/lib.rt:113:19
 part-is-without-start-2 : tie.Need-part-is-without-start-2
 part-is-without-start-2 c = search needs
 
--- src/lib.rt:113:19
 part-is-without-end-2 : tie.Need-part-is-without-end-2
 part-is-without-end-2 c = omega (arith, short-room _ _ _ _ _ (c .before .before .before .before .before .pre) (omega arith) (c .before .is-without .ensures) (c .either .ensures))
 
--- src/lib.rt:113:8
 is-without-requires-2 : tie.Need-is-without-requires-2
 is-without-requires-2 c κs = search needs
 
--- src/lib.rt:114:9
 returns-2 : tie.Need-returns-2
 returns-2 c = short-none _ _ _ _ _ (c .before .before .before .before .before .before .before .before .pre) (omega arith) (c .before .before .before .before .is-without .ensures) (c .before .before .before .either .ensures) _ (c .before .is-without2 .ensures) (c .if2 .taken)
 
--- src/lib.rt:116:5
 find-in-16-requires : tie.Need-find-in-16-requires
 find-in-16-requires c κs = among-part _ _ 16 _ _ (short-room _ _ _ _ _ (c .before .before .before .before .before .before .before .before .pre) (omega arith) (c .before .before .before .before .is-without .ensures) (c .before .before .before .either .ensures)) (c .before .is-without2 .ensures) (c .if2 .left)
 
--- src/lib.rt:101:1
 returns-3 : tie.Need-returns-3
 returns-3 c = short-found _ _ _ _ _ (c .before .before .before .before .before .before .before .before .before .pre) (omega arith) (c .before .before .before .before .before .is-without .ensures) (c .before .before .before .before .either .ensures) _ (c .find-in-16 .ensures)
 

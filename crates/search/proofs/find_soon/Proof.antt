@@ -7,35 +7,27 @@ use Rattle.search.proofs.find_soon.Reads as reads
 use Rattle.search.proofs.find_soon.Lts as lts
 use Rattle.search.proofs.find_byte.Reads as find-byte-reads
 
--- src/lib.rt:166:13
 sub-if1 : tie.Need-sub-if1
 sub-if1 c = search needs
 
--- src/lib.rt:167:12
 shared-slice-read-if2 : tie.Need-shared-slice-read-if2
 shared-slice-read-if2 c = search needs
 
--- src/lib.rt:168:13
 returns : tie.Need-returns
 returns c = soon-first _ _ _ (omega arith) (c .if2 .taken)
 
--- src/lib.rt:170:20
 add-next : tie.Need-add-next
 add-next c = search needs
 
--- src/lib.rt:171:12
 shared-slice-read-if3 : tie.Need-shared-slice-read-if3
 shared-slice-read-if3 c = search needs
 
--- src/lib.rt:172:13
 returns-2 : tie.Need-returns-2
 returns-2 c = soon-second _ _ _ (omega arith) (c .before .before .if2 .left) (c .if3 .taken)
 
--- src/lib.rt:175:5
 find-byte-requires : tie.Need-find-byte-requires
 find-byte-requires c κs = search needs
 
--- src/lib.rt:162:1
 returns-3 : tie.Need-returns-3
 returns-3 c = search needs
 

@@ -2,7 +2,6 @@ use Prim.Native.Nat.{_-_}
 use lib.ListN.{length}
 use Rattle.search.proofs.Searching.{Lacking, lacking-start, lacking-more, lacking-same, lacking-end}
 use borrow.Author.Needs.{needs}
-use native.Mathlib.Omega.{arith}
 use Rattle.search.proofs.is_without.Statement.{statement}
 use Rattle.search.proofs.is_without.Tie as tie
 use Rattle.search.proofs.is_without.Reads as reads
@@ -15,39 +14,30 @@ Inv-loop part x most₀ i₀ most i = Lacking part x most i
 abbrev μ-loop : tie.MeasureT-loop
 μ-loop part x most₀ i₀ most i = length part - i
 
--- src/lib.rt:34:5
 loop-holds : tie.Need-loop-holds Inv-loop μ-loop
 loop-holds c = search lacking-start
 
--- src/lib.rt:35:24
 shared-slice-read-one-if : tie.Need-shared-slice-read-one-if Inv-loop μ-loop
 shared-slice-read-one-if c = search needs
 
--- src/lib.rt:35:13
 one-if-requires : tie.Need-one-if-requires Inv-loop μ-loop
 one-if-requires c κs = search needs
 
--- src/lib.rt:36:9
 add-i : tie.Need-add-i Inv-loop μ-loop
 add-i c = search needs
 
--- src/lib.rt:34:5
 loop-less : tie.Need-loop-less Inv-loop μ-loop
 loop-less c = search needs
 
--- src/lib.rt:34:5
 loop-again : tie.Need-loop-again Inv-loop μ-loop
 loop-again c = search lacking-more
 
--- src/lib.rt:34:5
 loop-less-2 : tie.Need-loop-less-2 Inv-loop μ-loop
 loop-less-2 c = search needs
 
--- src/lib.rt:34:5
 loop-again-2 : tie.Need-loop-again-2 Inv-loop μ-loop
 loop-again-2 c = search lacking-same
 
--- src/lib.rt:29:1
 returns : tie.Need-returns Inv-loop μ-loop
 returns c = search lacking-end
 

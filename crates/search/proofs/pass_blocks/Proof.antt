@@ -15,47 +15,36 @@ Inv-loop s from x last i₀ i = Seeking s «from» x i
 abbrev μ-loop : tie.MeasureT-loop
 μ-loop s from x last i₀ i = length s - i
 
--- src/lib.rt:124:16
 sub-last : tie.Need-sub-last Inv-loop μ-loop
 sub-last c = search needs
 
--- src/lib.rt:126:5
 loop-holds : tie.Need-loop-holds Inv-loop μ-loop
 loop-holds c = seeking-start _ _ _ (omega arith)
 
--- src/lib.rt:127:17
 add-j : tie.Need-add-j Inv-loop μ-loop
 add-j c = search needs
 
--- src/lib.rt:128:23
 sub-is-without : tie.Need-sub-is-without Inv-loop μ-loop
 sub-is-without c = search needs
 
--- src/lib.rt:128:23
 part-is-without-start : tie.Need-part-is-without-start Inv-loop μ-loop
 part-is-without-start c = search needs
 
--- src/lib.rt:128:23
 part-is-without-end : tie.Need-part-is-without-end Inv-loop μ-loop
 part-is-without-end c = search needs
 
--- src/lib.rt:128:12
 is-without-requires : tie.Need-is-without-requires Inv-loop μ-loop
 is-without-requires c κs = search needs
 
--- src/lib.rt:126:5
 loop-less : tie.Need-loop-less Inv-loop μ-loop
 loop-less c = search needs
 
--- src/lib.rt:126:5
 loop-again : tie.Need-loop-again Inv-loop μ-loop
 loop-again c = seeking-part _ _ _ _ _ _ (c .before .before .before .before .loop .inv) (omega arith) (omega arith) (c .before .is-without .ensures) (c .if1 .taken)
 
--- src/lib.rt:131:13
 returns : tie.Need-returns Inv-loop μ-loop
 returns c = passed-block _ _ _ _ _ (c .before .before .before .before .loop .inv) (omega arith) (c .before .is-without .ensures) (c .if1 .left)
 
--- src/lib.rt:120:1
 returns-2 : tie.Need-returns-2 Inv-loop μ-loop
 returns-2 c = passed-last _ _ _ _ (c .before .loop .inv) (omega arith) (omega arith)
 

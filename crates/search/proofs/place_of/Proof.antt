@@ -1,6 +1,5 @@
 use Rattle.search.proofs.Searching.{Placing, placing-start, placing-hit, placing-miss, placing-end}
 use borrow.Author.Needs.{needs}
-use native.Mathlib.Omega.{arith}
 use Rattle.search.proofs.place_of.Statement.{statement}
 use Rattle.search.proofs.place_of.Tie as tie
 use Rattle.search.proofs.place_of.Reads as reads
@@ -12,35 +11,27 @@ Inv-loop part x best₀ i₀ best i = Placing part x best i
 abbrev μ-loop : tie.MeasureT-loop
 μ-loop part x best₀ i₀ best i = i
 
--- src/lib.rt:50:5
 loop-holds : tie.Need-loop-holds Inv-loop μ-loop
 loop-holds c = search placing-start
 
--- src/lib.rt:51:9
 sub-i : tie.Need-sub-i Inv-loop μ-loop
 sub-i c = search needs
 
--- src/lib.rt:52:12
 shared-slice-read-if1 : tie.Need-shared-slice-read-if1 Inv-loop μ-loop
 shared-slice-read-if1 c = search needs
 
--- src/lib.rt:50:5
 loop-less : tie.Need-loop-less Inv-loop μ-loop
 loop-less c = search needs
 
--- src/lib.rt:50:5
 loop-again : tie.Need-loop-again Inv-loop μ-loop
 loop-again c = search placing-hit
 
--- src/lib.rt:50:5
 loop-less-2 : tie.Need-loop-less-2 Inv-loop μ-loop
 loop-less-2 c = search needs
 
--- src/lib.rt:50:5
 loop-again-2 : tie.Need-loop-again-2 Inv-loop μ-loop
 loop-again-2 c = search placing-miss
 
--- src/lib.rt:45:1
 returns : tie.Need-returns Inv-loop μ-loop
 returns c = search placing-end
 

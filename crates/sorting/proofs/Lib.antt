@@ -1,0 +1,4 @@
+pub mod Sorting
+pub mod Names
+pub mod Comparing
+pub mod Places

@@ -1,0 +1,4 @@
+pub mod Names
+pub mod Sort
+pub mod Chains
+pub mod Steps
