@@ -21,12 +21,9 @@ use Rattle.fixtures.specs.Plan as plan
 use Rattle.fixtures.specs.Told.{toldPlanned}
 use Rattle.fixtures.specs.declared.Planned.{Planned}
 use Rattle.fixtures.specs.declared.Planned.the-variants.{Wrote}
-use Rattle.streams.specs.declared.Channel.{Channel}
-use Rattle.capture.specs.Options.{optionsOf}
 use Rattle.capture.specs.Calls.{Imports}
 use Rattle.capture.specs.declared.Imported.{Imported}
 use Rattle.capture.specs.declared.Imported.the-variants.{Spans}
-use Rattle.capture.specs.declared.Tail.{Tail}
 
 -- ---- an item
 
@@ -101,10 +98,10 @@ imported-last f work o d n u t k w e =
     (λ b. not-given (rw (a, b) at e)))
     (λ a. not-given (rw a at e))
 
-pub import-within : (f work : List ℕ) (channel : Channel) (tail : Tail) (out : List ℕ) (r : Imported) (work′ out′ : List ℕ) → Imports f work channel tail out r work′ out′ → (d n u t k : ℕ) → r ≡ Spans d n u t k → k ≤ length out′
-import-within f work channel tail out r work′ out′ i d n u t k e =
-    let g = accepts (imported btsnoop f (length work) (optionsOf channel tail)) out (d ∷ n ∷ u ∷ t ∷ k ∷ []) out′ (rw e at (i .meets)) in
-    let q = imported-last f (length work) (optionsOf channel tail) d n u t k (g .bytes) (g .gift) in
+pub import-within : (f work : List ℕ) (o : Options) (out : List ℕ) (r : Imported) (work′ out′ : List ℕ) → Imports f work o out r work′ out′ → (d n u t k : ℕ) → r ≡ Spans d n u t k → k ≤ length out′
+import-within f work o out r work′ out′ i d n u t k e =
+    let g = accepts (imported btsnoop f (length work) o) out (d ∷ n ∷ u ∷ t ∷ k ∷ []) out′ (rw e at (i .meets)) in
+    let q = imported-last f (length work) o d n u t k (g .bytes) (g .gift) in
     omega (arith, g .room)
 
 -- and the last that planning answers

@@ -1,6 +1,7 @@
 // Prints a trace: reads standard input, its first 4,096 bytes and no more, and prints the DLCI, frames and unfinished that
 // import gives, then the names of the fixtures, one to a line; or the number of a refusal, with the values it carries.
 use capture::Imported;
+use capture::Options;
 use capture::Tail;
 use capture::import;
 use fixtures::Planned;
@@ -83,7 +84,11 @@ fn print_spans(spans: &[u8], dlci: usize, frames: usize, unfinished: usize) {
 fn print_trace(file: &[u8]) {
     let mut work = io::large_buffer();
     let mut spans = io::large_buffer();
-    let a = import(file, &mut work, &mut spans, Channel::Any, Tail::Strict);
+    let options = Options {
+        channel: Channel::Any,
+        tail: Tail::Strict,
+    };
+    let a = import(file, &mut work, &mut spans, options);
     match a {
         Imported::Spans(dlci, frames, unfinished, _, bytes) => {
             print_spans(&spans[..bytes], dlci as usize, frames, unfinished)
