@@ -1,6 +1,6 @@
 -- Walking a list in code: what a step reads, what a check answers, and, once a list is checked, what stands at each place of it.
 use Prim.Native.Nat.{ℕ, zero, suc, _+_, _-_, _*_, _<_, _≤_}
-use mathlib.Core.Path.{_≡_, refl, sym, _∙_}
+use mathlib.Core.Path.{_≡_, refl, sym, ap, _∙_, subst}
 use mathlib.Core.Bool.{true, cond, _||_}
 use mathlib.Core.List.{List, [], _∷_, map}
 use native.Mathlib.Nat.{sub-zero}
@@ -8,7 +8,7 @@ use native.Mathlib.Omega.{arith}
 use lib.Dec.{leb, eqb}
 use lib.ListN.{length, take, drop, length-drop}
 use lib.Seq.{drop-drop, getD-take, take-nil, length-take-le}
-use borrow.Author.Tests.{leb-true, le-leb, eqb-true}
+use borrow.Author.Tests.{leb-true, le-leb, lt-leb, eqb-true}
 use Rattle.laws.specs.Choice.{splitB, split≤, no-way}
 use Rattle.laws.specs.Numbers.{le16, le32, le64}
 use Rattle.items.specs.Items.{Span, span, rxOf, Item, itemAt, endAt, Test, isItem, Listed, wellFormed, illFormed, more, readItems, spanTest, spanOf, spansIn, nameTest, namesIn}
@@ -22,6 +22,8 @@ use Rattle.items.specs.declared.Step.the-variants.{Whole, Passes, End}
 use Rattle.items.specs.declared.Checked.{Checked}
 use Rattle.items.specs.declared.Checked.the-variants.{Well, Ill}
 use Rattle.items.specs.declared.SpanPart.{SpanPart}
+use Rattle.items.specs.declared.Next.{Next}
+use Rattle.items.specs.declared.Next.the-variants as next
 use Rattle.items.specs.declared.NamePart.{NamePart}
 
 -- the kinds and bodies of a list
@@ -120,6 +122,17 @@ module _ (ok : Test) (l : List ℕ) (at : ℕ) (w : Walks ok l at) where
   unfolding itemsFrom
   walks-end h = rw (read-end ok l at h)
 
+-- and back: what stands before a place, from what stands after it
+module _ (ok : Test) (l : List ℕ) (at : ℕ) (h : at < length l) (g : isItem ok l at ≡ true) where
+  pub walks-back : Walks ok l (endAt l at) → Walks ok l at
+  unfolding itemsFrom
+  walks-back w =
+      let e : readFrom ok l at ≡ wellFormed (itemAt l at ∷ itemsFrom ok l (endAt l at)) = read-good ok l at h g ∙ rw (w .well) in
+      record { within = omega arith; well = e ∙ sym (ap (λ (r : Listed Item). wellFormed (held r)) e) }
+
+  pub ill-back : (n : ℕ) → readFrom ok l (endAt l at) ≡ illFormed n → readFrom ok l at ≡ illFormed n
+  ill-back n e = read-good ok l at h g ∙ rw e
+
 few-by : (ok : Test) (l : List ℕ) (k at : ℕ) → Walks ok l at → length l ≤ at + k → at + 6 * length (itemsFrom ok l at) ≤ length l
 few-by ok l zero at w h = rw (walks-end ok l at w (omega arith)) (omega (arith, w .within))
 few-by ok l (suc k) at w h =
@@ -180,6 +193,20 @@ module _ (ok : Test) (l : List ℕ) (r : Checked) (n : ℕ) (c : r ≡ checkOf (
   pub checked-ill : r ≡ Ill n → readItems ok l ≡ illFormed n
   checked-ill e = ill-at (readItems ok l) n (sym c ∙ e)
 
+-- a list that was walked to its end, or to an item at which it is ill-formed
+module _ (ok : Test) (l : List ℕ) (small : length l ≤ 16777216) where
+  pub walked-good : Walks ok l 0 → Good ok l (length (itemsFrom ok l 0))
+  unfolding readItems readFrom itemsFrom
+  walked-good w = record { reads = rw (le-leb (length l) 16777216 small) (w .well); walks = w; count = refl; small = small }
+
+  pub walked-ill : (n : ℕ) → readFrom ok l 0 ≡ illFormed n → readItems ok l ≡ illFormed n
+  unfolding readItems readFrom
+  walked-ill n e = rw (le-leb (length l) 16777216 small) e
+
+pub over-ill : (ok : Test) (l : List ℕ) → 16777216 < length l → readItems ok l ≡ illFormed 0
+unfolding readItems
+over-ill ok l h = rw (lt-leb (length l) 16777216 h)
+
 -- ---- spans
 
 pub spans-in : (l : List ℕ) (n : ℕ) → Good spanTest l n → spansIn l ≡ wellFormed (spansFrom l 0)
@@ -201,6 +228,29 @@ pub record SpanIs (l : List ℕ) (at : ℕ) (s : SpanPart) : Type 0 where
   pub end : s .end ≡ endAt l at
   pub long : s .start ≤ s .end
   pub next : Walks spanTest l (s .end)
+
+-- the span at a place of a list of which it is not known whether it is well-formed after it
+pub record SpanHere (l : List ℕ) (at : ℕ) (s : SpanPart) : Type 0 where
+  pub start : s .start ≡ at + 14
+  pub long : s .start ≤ s .end
+  pub within : s .end ≤ length l
+  pub is : Walks spanTest l (s .end) → SpanIs l at s
+  pub well : Walks spanTest l (s .end) → Walks spanTest l at
+  pub ill : (n : ℕ) → readFrom spanTest l (s .end) ≡ illFormed n → readFrom spanTest l at ≡ illFormed n
+
+abbrev pub nextIs : List ℕ → ℕ → Next → Type 0
+nextIs l at (next.Span s) = SpanHere l at s
+nextIs l at next.Ill = readFrom spanTest l at ≡ illFormed at
+
+pub record NextIs (l : List ℕ) (at : ℕ) (r : Next) : Type 0 where
+  pub stands : nextIs l at r
+
+module _ (l : List ℕ) (at : ℕ) (r : Next) (v : NextIs l at r) where
+  pub next-span : (s : SpanPart) → r ≡ next.Span s → SpanHere l at s
+  next-span s e = (subst (λ (x : Next). NextIs l at x) e v) .stands
+
+  pub next-ill : r ≡ next.Ill → readFrom spanTest l at ≡ illFormed at
+  next-ill e = (subst (λ (x : Next). NextIs l at x) e v) .stands
 
 -- kind 1 is Rx and 2 is Tx
 unfoldable pub directionOf : ℕ → Direction
@@ -246,14 +296,12 @@ module _ (l : List ℕ) (at : ℕ) where
       (λ g. rw (g, eqb-true kind 1 g))
       (λ g. let k : kind ≡ 2 = eqb-true kind 2 (rw g at f) in rw k)
 
+  body-least : endAt l at ≤ length l → spanTest (itemAt l at .kind) (itemAt l at .body) ≡ true → at + 14 ≤ endAt l at
+  body-least f p = omega (arith, body-long f, test-long (itemAt l at .body) (itemAt l at .kind) p, end-is l at)
+
   module _ (w : Walks spanTest l at) (h : at < length l) where
     span-long : at + 14 ≤ endAt l at
-    span-long =
-        let t = walks-turn spanTest l at w h in
-        let a : length (itemAt l at .body) ≡ le32 l at = body-long (t .next .within) in
-        let b = test-long (itemAt l at .body) (itemAt l at .kind) (t .passes) in
-        let e = end-is l at in
-        omega arith
+    span-long = let t = walks-turn spanTest l at w h in body-least (t .next .within) (t .passes)
 
     span-head : spansFrom l at ≡ spanOf (itemAt l at) ∷ spansFrom l (endAt l at)
     unfolding spansFrom
@@ -270,17 +318,58 @@ module _ (l : List ℕ) (at : ℕ) where
     span-room = omega (arith, span-long, walks-turn spanTest l at w h .next .within)
 
     -- from what is read there
-    pub span-is : (d : Direction) (x size kind ms : ℕ) → x ≡ le32 l at → size ≡ x → kind ≡ le16 l (at + 4) → d ≡ directionOf kind → ms ≡ le64 l (at + 6) → SpanIs l at (record { direction = d; ms = ms; start = at + 14; end = at + 6 + size })
-    span-is d x size kind ms r s k p q =
-        let t = walks-turn spanTest l at w h in
-        let e : at + 6 + size ≡ endAt l at = rw (s, r) (sym (end-is l at)) in
-        record {
-          head = rw (e, p, k, q) (span-head ∙ rw span-of);
-          start = refl;
-          end = e;
-          long = omega (arith, span-long);
-          next = rw e (t .next);
-        }
+    span-by : (d : Direction) (end kind ms : ℕ) → end ≡ endAt l at → kind ≡ le16 l (at + 4) → d ≡ directionOf kind → ms ≡ le64 l (at + 6)
+        → SpanIs l at (record { direction = d; ms = ms; start = at + 14; end = end })
+    span-by d end kind ms e k p q = record {
+      head = rw (e, p, k, q) (span-head ∙ rw span-of);
+      start = refl;
+      end = e;
+      long = omega (arith, span-long);
+      next = rw e (walks-turn spanTest l at w h .next);
+    }
+
+    pub span-is : (d : Direction) (x size kind ms : ℕ) → x ≡ le32 l at → size ≡ x → kind ≡ le16 l (at + 4) → d ≡ directionOf kind → ms ≡ le64 l (at + 6)
+        → SpanIs l at (record { direction = d; ms = ms; start = at + 14; end = at + 6 + size })
+    span-is d x size kind ms r s k p q = span-by d (at + 6 + size) kind ms (rw (s, r) (sym (end-is l at))) k p q
+
+  -- where the place after it was asked for
+  module _ (h : at < length l) (end : ℕ) (a : end ≡ passAt spanTest l at) where
+    pub here-ill : end ≡ 0 → NextIs l at next.Ill
+    unfolding passAt
+    here-ill e =
+        splitB (isItem spanTest l at)
+        (λ g. absurd (omega (arith, end-past l at, rw g at a)))
+        (λ g. record { stands = read-bad spanTest l at h g })
+
+    module _ (n : end ≡ 0 → ⊥) where
+      here-item : isItem spanTest l at ≡ true
+      unfolding passAt
+      here-item = splitB (isItem spanTest l at) (λ g. g) (λ g. absurd (n (rw g at a)))
+
+      here-end : end ≡ endAt l at
+      unfolding passAt
+      here-end = a ∙ rw here-item
+
+      pub here-room : at + 14 ≤ length l
+      here-room =
+          let f = good-fits spanTest l at here-item in
+          omega (arith, body-least f (good-passes spanTest l at here-item))
+
+      pub here-span : (d : Direction) (kind ms : ℕ) → kind ≡ le16 l (at + 4) → d ≡ directionOf kind → ms ≡ le64 l (at + 6)
+          → NextIs l at (next.Span (record { direction = d; ms = ms; start = at + 14; end = end }))
+      here-span d kind ms k p q =
+          let f = good-fits spanTest l at here-item in
+          let e = here-end in
+          let b : Walks spanTest l end → Walks spanTest l at = λ w. walks-back spanTest l at h here-item (rw e at w) in record {
+            stands = record {
+              start = refl;
+              long = omega (arith, body-least f (good-passes spanTest l at here-item));
+              within = omega arith;
+              is = λ w. span-by (b w) h d end kind ms e k p q;
+              well = b;
+              ill = λ m x. ill-back spanTest l at h here-item m (rw e at x);
+            };
+          }
 
 -- ---- names
 

@@ -5,7 +5,7 @@ ghost use lib.ListN.{length};
 ghost use Rattle.laws.specs.Stores.{Writes};
 ghost use Rattle.items.specs.Items.{item, itemHead, spanItem, span, rxOf, spanTest, nameTest, readItems};
 ghost use Rattle.items.specs.Reading.{readFrom};
-ghost use Rattle.items.specs.Walks.{testOf, stepAt, passAt, checkOf, directionOf, Walks, SpanIs, NameIs};
+ghost use Rattle.items.specs.Walks.{testOf, stepAt, passAt, checkOf, directionOf, Walks, SpanIs, NextIs, NameIs};
 
 // Which way a span went: from the headset (Rx) or to it (Tx).
 pub enum Direction {
@@ -155,6 +155,31 @@ pub fn span_at(list: &[u8], at: usize) -> SpanPart
         start: at + 14,
         end: at + 6 + size,
     }
+}
+
+// What stands at a place of a list of spans that is not checked: a span, or an item at which the list is ill-formed.
+pub enum Next {
+    Span(SpanPart),
+    Ill,
+}
+
+// The span at a place of a list that is not checked.
+pub fn next_span(list: &[u8], at: usize) -> Next
+    requires { ⌜ at < length (now list) ⌝ }
+    ensures { λ r. ⌜ NextIs (now (list .entry)) at r ⌝ }
+{
+    let end = pass(list, Listing::Spans, at);
+    if end == 0 {
+        return Next::Ill;
+    }
+    let direction = direction_of(words::get_le16(list, at + 4));
+    let ms = words::get_le64(list, at + 6);
+    Next::Span(SpanPart {
+        direction: direction,
+        ms: ms,
+        start: at + 14,
+        end: end,
+    })
 }
 
 // The name at a place of a checked list.
