@@ -21,7 +21,7 @@ use l2cap::payload;
 use table::Row;
 use tree::Tree;
 use tree::seat;
-use tree::seek;
+use tree::seek_near;
 use words::Field;
 use words::field16;
 use words::get32;
@@ -196,12 +196,20 @@ enum Standing {
     Unnamed,
 }
 
+// The row last but one: a channel that is named or asked for is often one of the last two.
+fn last_but_one(rows: usize) -> usize {
+    if rows < 2 {
+        return 0;
+    }
+    rows - 2
+}
+
 // What the table says of the channel of this key.
 fn look(w: &[u8], x: Tree, rows: usize, key: u64) -> Standing
     requires { ⌜ SeekPre (now w) x rows ⌝ }
     ensures { λ r. ⌜ r ≡ standingOf (lookup (now (w .entry)) (x .rows) rows key) ⌝ }
 {
-    let found = seek(w, x, rows, key);
+    let found = seek_near(w, x, rows, key, last_but_one(rows));
     let Row::At(i) = found else {
         return Standing::Unnamed;
     };
@@ -240,7 +248,7 @@ fn raise(w: &mut [u8], x: Tree, rows: usize, key: u64, v: u32) -> usize
     requires { ⌜ EnterPre (now w) x rows ⌝ }
     ensures { λ r. ⌜ RaisedIn (now (w .entry)) x rows key v (now (w .exit)) r ⌝ }
 {
-    let s = seat(w, x, rows, key, rows, v, 0);
+    let s = seat(w, x, rows, key, last_but_one(rows), v, 0);
     let grade = x.rows + 4 * s.at + 2;
     if v <= get32(w, grade) {
         return s.rows;
