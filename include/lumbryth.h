@@ -193,6 +193,39 @@ uint32_t lumbryth_import_strict(const uint8_t *file, size_t file_len,
     uint32_t channel, uint64_t *values, size_t values_len);
 
 /*
+ * What a caller of an import chooses. The call takes it as a list of numbers, its fields,
+ * of which there are LUMBRYTH_OPTIONS. Fields that are added later come at the end,
+ * and an option that is not in the list has its default, so a caller that passes fewer
+ * goes on as before.
+ */
+struct lumbryth_options {
+    uint64_t channel;  /* 0 to 255; any other number, and the default: any channel */
+    uint64_t tolerant; /* 0, and the default: the strict rule; any other number: tolerant */
+};
+#define LUMBRYTH_OPTIONS (sizeof(struct lumbryth_options) / sizeof(uint64_t))
+
+/* What an import stores in `values`, with room for LUMBRYTH_VALUES. */
+struct lumbryth_imported {
+    uint64_t dlci;
+    uint64_t frames;
+    uint64_t unfinished;
+    uint64_t tail;
+    uint64_t bytes;
+};
+
+/*
+ * Imports as lumbryth_import does, by a list of options. For example
+ *
+ *   struct lumbryth_options options = {LUMBRYTH_ANY_CHANNEL, 1};
+ *   struct lumbryth_imported answer;
+ *   number = lumbryth_import_with(file, file_len, work, work_len, out, out_len,
+ *       (const uint64_t *)&options, LUMBRYTH_OPTIONS, (uint64_t *)&answer, LUMBRYTH_VALUES);
+ */
+uint32_t lumbryth_import_with(const uint8_t *file, size_t file_len,
+    uint8_t *work, size_t work_len, uint8_t *out, size_t out_len,
+    const uint64_t *options, size_t options_len, uint64_t *values, size_t values_len);
+
+/*
  * A stretch and direction that holds bytes at the end of a trace: twice the handle, and
  * one more if they came from the headset; CID and DLCI; the sessions and links of the
  * handle that were counted before it; and how many bytes are held.

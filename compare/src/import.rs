@@ -129,6 +129,9 @@ impl<'a> Import<'a> {
             self.case(file, channel, enough, None)
         })?;
         self.guards(enough, file, channel)?;
+        if self.rule != Rule::Strict {
+            self.with_options(lender, file, channel, expected, enough, fill)?;
+        }
         if expected.number == 1 {
             self.unworked(lender, file, channel, expected, enough, None)?;
         } else if self.files % 7 == 0 && !file.is_empty() {
@@ -139,6 +142,45 @@ impl<'a> Import<'a> {
             self.with_stretches(lender, file, channel, expected, enough, fill)?;
         }
         Ok(())
+    }
+
+    /// The options of a call: all of them, more than there are, or those that are not the default.
+    fn options(&self, channel: u32) -> Vec<u64> {
+        let any = [u64::from(NO_CHANNEL), u64::MAX, 1 << 32][self.files % 3];
+        let channel = if channel == NO_CHANNEL { any } else { u64::from(channel) };
+        let tolerant = if self.rule == Rule::Tolerant { [1, u64::MAX, 2][self.files % 3] } else { 0 };
+        match self.files % 4 {
+            0 if tolerant == 0 && channel > 255 => vec![],
+            0 | 1 if tolerant == 0 => vec![channel],
+            2 => vec![channel, tolerant, 1, 2, 3],
+            _ => vec![channel, tolerant],
+        }
+    }
+
+    /// The same by a list of options.
+    fn with_options(
+        &self,
+        lender: &mut Lender,
+        file: &[u8],
+        channel: u32,
+        expected: &Answer,
+        lent: usize,
+        fill: Option<u8>,
+    ) -> Checked {
+        let options = self.options(channel);
+        self.lend(lent, fill);
+        lender.about(
+            expected,
+            &mut |out, values| {
+                let work = &mut self.work.borrow_mut()[..lent];
+                self.subject.import_with(file, work, out, &options, values)
+            },
+            &|| Case {
+                call: format!("import_with, options {options:?}, {lent} bytes of work"),
+                inputs: vec![("file", file.to_vec())],
+            },
+        )?;
+        self.guards(lent, file, channel)
     }
 
     /// The same with a list of stretches lent, of as many places as are wanted; at times

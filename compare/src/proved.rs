@@ -59,6 +59,9 @@ call!("import", lumbryth_import_strict(
 call!("tolerant", lumbryth_import(
     file: *const u8, file_len: usize, work: *mut u8, work_len: usize, out: *mut u8, out_len: usize, channel: u32,
     tolerant: u32, values: *mut u64, values_len: usize));
+call!("tolerant", lumbryth_import_with(
+    file: *const u8, file_len: usize, work: *mut u8, work_len: usize, out: *mut u8, out_len: usize,
+    options: *const u64, options_len: usize, values: *mut u64, values_len: usize));
 call!("stretches", lumbryth_import_stretches(
     file: *const u8, file_len: usize, work: *mut u8, work_len: usize, stretches: *mut Stretch, stretches_len: usize,
     out: *mut u8, out_len: usize, channel: u32, tolerant: u32, values: *mut u64, values_len: usize));
@@ -206,6 +209,23 @@ impl Subject for Proved {
                 out.len(),
                 channel,
                 tolerant,
+                values.as_mut_ptr(),
+                values.len(),
+            )
+        }
+    }
+
+    fn import_with(&self, file: &[u8], work: &mut [u8], out: &mut [u8], options: &[u64], values: &mut [u64]) -> u32 {
+        unsafe {
+            lumbryth_import_with(
+                file.as_ptr(),
+                file.len(),
+                work.as_mut_ptr(),
+                work.len(),
+                out.as_mut_ptr(),
+                out.len(),
+                options.as_ptr(),
+                options.len(),
                 values.as_mut_ptr(),
                 values.len(),
             )

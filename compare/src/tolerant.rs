@@ -53,7 +53,8 @@ pub fn each_cut(rng: &mut Rng, size: u64, f: &mut dyn FnMut(&Honest, usize) -> C
 /// frame. Import answers as the oracle does.
 fn size_rule(import: &mut Import, rng: &mut Rng) -> Checked {
     let recording = honest::too_long(rng);
-    let (left, found) = (recording.left(recording.file.len()), expected::import_tolerant(&recording.file, recording.channel()));
+    let (left, found) =
+        (recording.left(recording.file.len()), expected::import_tolerant(&recording.file, recording.channel()));
     assert!((left.number, found.number) == (0, 6), "a frame over 65,536 bytes is left, and is not found");
     import.file(&recording.file, recording.channel())
 }

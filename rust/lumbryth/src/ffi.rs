@@ -54,15 +54,15 @@ extern "C" {
         values: *mut u64,
         values_len: usize,
     ) -> u32;
-    fn lumbryth_import(
+    fn lumbryth_import_with(
         file: *const u8,
         file_len: usize,
         work: *mut u8,
         work_len: usize,
         out: *mut u8,
         out_len: usize,
-        channel: u32,
-        tolerant: u32,
+        options: *const u64,
+        options_len: usize,
         values: *mut u64,
         values_len: usize,
     ) -> u32;
@@ -167,18 +167,18 @@ pub fn capture_order(names: &[u8], out: &mut [u8], values: &mut [u64]) -> u32 {
     }
 }
 
-pub fn import(file: &[u8], work: &mut [u8], out: &mut [u8], channel: u32, tolerant: u32, values: &mut [u64]) -> u32 {
-    // Safety: as for `unpack`; `work` too is borrowed for the call alone.
+pub fn import_with(file: &[u8], work: &mut [u8], out: &mut [u8], options: &[u64], values: &mut [u64]) -> u32 {
+    // Safety: as for `unpack`.
     unsafe {
-        lumbryth_import(
+        lumbryth_import_with(
             file.as_ptr(),
             file.len(),
             work.as_mut_ptr(),
             work.len(),
             out.as_mut_ptr(),
             out.len(),
-            channel,
-            tolerant,
+            options.as_ptr(),
+            options.len(),
             values.as_mut_ptr(),
             values.len(),
         )

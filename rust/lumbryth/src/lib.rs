@@ -75,6 +75,21 @@ pub enum TailRule {
     Tolerant,
 }
 
+/// What a caller of an import chooses: by default any channel, and the strict rule.
+#[derive(Debug, Clone, Copy, PartialEq, Eq, Hash)]
+pub struct Options {
+    /// The RFCOMM channel; any if it is none.
+    pub channel: Option<u8>,
+    /// What becomes of a file that ends inside a record.
+    pub tail: TailRule,
+}
+
+impl Default for Options {
+    fn default() -> Options {
+        Options { channel: None, tail: TailRule::Strict }
+    }
+}
+
 /// What a frame holds.
 #[derive(Debug, Clone, PartialEq, Eq, Hash)]
 pub struct Frame {
@@ -293,11 +308,27 @@ pub fn capture_order<N: AsRef<[u8]>>(names: &[N]) -> Result<Vec<Vec<u8>>, Refusa
 /// assert_eq!(import(&cut, None, TailRule::Tolerant), Err(Refusal::NoStream));
 /// ```
 pub fn import(file: &[u8], channel: Option<u8>, tail: TailRule) -> Result<Imported, Refusal> {
-    let (channel, tolerant) = numbers(channel, tail);
+    import_with(file, &Options { channel, tail })
+}
+
+/// Imports as [`import`] does, by options.
+///
+/// ```
+/// use lumbryth::{import_with, Options, Refusal, TailRule};
+///
+/// let cut = b"btsnoop\0\0\0\0\x01\0\0\x03\xEA\0";
+/// assert_eq!(import_with(cut, &Options::default()), Err(Refusal::Truncated { offset: 16 }));
+///
+/// let tolerant = Options { tail: TailRule::Tolerant, ..Options::default() };
+/// assert_eq!(import_with(cut, &tolerant), Err(Refusal::NoStream));
+/// ```
+pub fn import_with(file: &[u8], options: &Options) -> Result<Imported, Refusal> {
+    let (channel, tolerant) = numbers(options.channel, options.tail);
+    let options = [u64::from(channel), u64::from(tolerant)];
     let size = lent(file);
     let mut work = vec![0; 8 * size];
     let (list, values) =
-        with_output(2 * size, |out, values| ffi::import(file, &mut work, out, channel, tolerant, values))?;
+        with_output(2 * size, |out, values| ffi::import_with(file, &mut work, out, &options, values))?;
     Ok(imported(list, &values))
 }
 
