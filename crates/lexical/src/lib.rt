@@ -56,12 +56,12 @@ fn are_same(a: &[u8], b: &[u8]) -> bool
     most == 0
 }
 
-// Passes by blocks of 32 bytes that two slices have in common, among the first n.
-fn pass_same(a: &[u8], b: &[u8], n: usize) -> usize
-    requires { ⌜ Least (length (now a)) (length (now b)) n ⌝ }
+// Passes by blocks of 32 bytes that two slices have in common, from a place on, among the first n.
+fn pass_same(a: &[u8], b: &[u8], n: usize, start: usize) -> usize
+    requires { ⌜ Least (length (now a)) (length (now b)) n × Comparing (now a) (now b) start ⌝ }
     ensures { λ r. ⌜ Comparing (now (a .entry)) (now (b .entry)) r ⌝ }
 {
-    let mut i = 0;
+    let mut i = start;
     while i + 32 <= n {
         let j = i + 32;
         if are_same(&a[i..j], &b[i..j]) {
@@ -73,27 +73,13 @@ fn pass_same(a: &[u8], b: &[u8], n: usize) -> usize
     i
 }
 
-// The same, if one block of them at least may be passed: most names differ in their first bytes.
-fn pass_front(a: &[u8], b: &[u8], n: usize) -> usize
-    requires { ⌜ Least (length (now a)) (length (now b)) n ⌝ }
-    ensures { λ r. ⌜ Comparing (now (a .entry)) (now (b .entry)) r ⌝ }
-{
-    if n < 32 {
-        return 0;
-    }
-    if get_be64(a, 24) != get_be64(b, 24) {
-        return 0;
-    }
-    pass_same(a, b, n)
-}
-
-// Whether a comes before b by bytes, or equals it: what they have in common by blocks, then by eights, as numbers, and the
-// rest byte by byte.
-pub fn bytes_le(a: &[u8], b: &[u8]) -> bool
+// The same as bytes_le, where the bytes before a place decide nothing: what they have in common by blocks, then by eights,
+// as numbers, and the rest byte by byte.
+fn long_le(a: &[u8], b: &[u8], n: usize, start: usize) -> bool
+    requires { ⌜ Least (length (now a)) (length (now b)) n × Comparing (now a) (now b) start ⌝ }
     ensures { λ r. ⌜ r ≡ leBytes (now (a .entry)) (now (b .entry)) ⌝ }
 {
-    let n = least(a.len(), b.len());
-    let mut i = pass_front(a, b, n);
+    let mut i = pass_same(a, b, n, start);
     while i + 8 <= n {
         let x = get_be64(a, i);
         let y = get_be64(b, i);
@@ -103,4 +89,22 @@ pub fn bytes_le(a: &[u8], b: &[u8]) -> bool
         i += 8;
     }
     rest_le(a, b, i)
+}
+
+// Whether a comes before b by bytes, or equals it. Most strings differ in their first bytes, so these are looked at first.
+pub fn bytes_le(a: &[u8], b: &[u8]) -> bool
+    ensures { λ r. ⌜ r ≡ leBytes (now (a .entry)) (now (b .entry)) ⌝ }
+{
+    let n = least(a.len(), b.len());
+    let few = least(n, 32);
+    let mut i = 0;
+    while i + 8 <= few {
+        let x = get_be64(a, i);
+        let y = get_be64(b, i);
+        if x != y {
+            return x < y;
+        }
+        i += 8;
+    }
+    long_le(a, b, n, i)
 }

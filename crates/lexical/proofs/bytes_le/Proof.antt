@@ -1,26 +1,25 @@
-use Rattle.lexical.proofs.Comparing.{eight-same, eight-less}
+use Rattle.lexical.proofs.Comparing.{compare-start, eight-same, eight-less}
 use Rattle.lexical.specs.Steps.{Comparing}
 use Prim.Native.Nat.{_-_}
 use borrow.Author.Needs.{needs}
 use native.Mathlib.Omega.{arith}
 use Rattle.lexical.proofs.bytes_le.Statement.{statement}
 use Rattle.lexical.proofs.bytes_le.Tie as tie
-use Rattle.lexical.proofs.pass_same.Reads
 
 abbrev Inv-loop : tie.InvT-loop
-Inv-loop a b n i₀ i = Comparing a b i
+Inv-loop a b n few i₀ i = Comparing a b i
 
 abbrev μ-loop : tie.MeasureT-loop
-μ-loop a b n i₀ i = n - i
+μ-loop a b n few i₀ i = few - i
 
 least-requires : tie.Need-least-requires Inv-loop μ-loop
 least-requires c κs = search needs
 
-pass-front-requires : tie.Need-pass-front-requires Inv-loop μ-loop
-pass-front-requires c κs = search needs
+least-requires-2 : tie.Need-least-requires-2 Inv-loop μ-loop
+least-requires-2 c κs = search needs
 
 loop-holds : tie.Need-loop-holds Inv-loop μ-loop
-loop-holds c = search needs
+loop-holds c = search compare-start
 
 add-loop : tie.Need-add-loop Inv-loop μ-loop
 add-loop c = search needs
@@ -43,8 +42,8 @@ loop-less c = search needs
 loop-again : tie.Need-loop-again Inv-loop μ-loop
 loop-again c = eight-same _ _ (λ k. omega (arith, c .before .before .before .before .before .before .before .before .shared-slice-known .given k)) (λ k. omega (arith, c .before .before .before .before .before .before .before .shared-slice-known2 .given k)) _ _ _ (c .before .before .before .before .loop .inv) (omega arith) (omega arith) (c .before .before .get-be64 .ensures) (c .before .get-be642 .ensures) (c .if1 .left)
 
-rest-le-requires : tie.Need-rest-le-requires Inv-loop μ-loop
-rest-le-requires c κs = search needs
+long-le-requires : tie.Need-long-le-requires Inv-loop μ-loop
+long-le-requires c κs = search needs
 
 returns-2 : tie.Need-returns-2 Inv-loop μ-loop
 returns-2 c = search needs
@@ -56,7 +55,7 @@ bytes-le-spec =
     Inv-loop
     μ-loop
     least-requires
-    pass-front-requires
+    least-requires-2
     loop-holds
     add-loop
     get-be64-requires
@@ -65,5 +64,5 @@ bytes-le-spec =
     add-i
     loop-less
     loop-again
-    rest-le-requires
+    long-le-requires
     returns-2)

@@ -1,4 +1,4 @@
-use Rattle.lexical.proofs.Comparing.{compare-start, compare-block}
+use Rattle.lexical.proofs.Comparing.{compare-block}
 use Rattle.lexical.specs.Steps.{Comparing}
 use Prim.Native.Nat.{_-_}
 use borrow.Author.Needs.{needs}
@@ -7,13 +7,13 @@ use Rattle.lexical.proofs.pass_same.Statement.{statement}
 use Rattle.lexical.proofs.pass_same.Tie as tie
 
 abbrev Inv-loop : tie.InvT-loop
-Inv-loop a b n i₀ i = Comparing a b i
+Inv-loop a b n start i₀ i = Comparing a b i
 
 abbrev μ-loop : tie.MeasureT-loop
-μ-loop a b n i₀ i = n - i
+μ-loop a b n start i₀ i = n - i
 
 loop-holds : tie.Need-loop-holds Inv-loop μ-loop
-loop-holds c = search compare-start
+loop-holds c = c .before .before .pre .1
 
 add-loop : tie.Need-add-loop Inv-loop μ-loop
 add-loop c = search needs
