@@ -8,11 +8,13 @@ use native.Mathlib.Omega.{arith}
 use native.Mathlib.Numerals.{add-one}
 use lib.ListN.{length, getD, drop, length-drop}
 use lib.Seq.{length-take-le}
-use Rattle.laws.specs.Choice.{split≤}
+use Rattle.laws.proofs.Choice.{split≤}
 use Rattle.laws.specs.Numbers.{be32, be64}
 use Rattle.words.specs.Words.{word, putWord, long, putLong}
-use Rattle.words.specs.Front.{Front, front-word}
-use Rattle.words.specs.Rows.{putWords, length-puts, front-puts, word-puts, long-puts}
+use Rattle.words.specs.Front.{Front}
+use Rattle.words.proofs.Front.{front-word}
+use Rattle.words.specs.Rows.{putWords}
+use Rattle.words.proofs.Rows.{length-puts, front-puts, word-puts, long-puts}
 use Rattle.btsnoop.specs.Header.{datalink}
 use Rattle.container.specs.Container as container
 use Rattle.btsnoop.specs.Records.{recordsIn, records, tailOffset}

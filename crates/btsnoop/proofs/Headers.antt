@@ -7,7 +7,7 @@ use native.Mathlib.Omega.{arith}
 use lib.ListN.{length, take}
 use lib.Dec.{leb, eqb}
 use borrow.Author.Tests.{le-leb, lt-leb, leb-true, eq-eqb, ne-eqb}
-use Rattle.laws.specs.Choice.{splitB, no-way}
+use Rattle.laws.proofs.Choice.{splitB, no-way}
 use Rattle.laws.specs.Keys.{eqK}
 use Rattle.laws.specs.Numbers.{be32}
 use Rattle.btsnoop.specs.Header.{magic, isBtsnoop, datalink, isDatalink}

@@ -8,7 +8,7 @@ use lib.ListN.{length, drop, length-append, length-drop}
 use lib.Seq.{take-append-le}
 use lib.Dec.{eqb}
 use borrow.Author.Tests.{le-leb}
-use Rattle.laws.specs.Choice.{splitB}
+use Rattle.laws.proofs.Choice.{splitB}
 use Rattle.laws.specs.Numbers.{be32}
 use Rattle.container.specs.Container.{Lawful}
 use Rattle.container.specs.Packets.{Packet}

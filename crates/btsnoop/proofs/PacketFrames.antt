@@ -6,10 +6,11 @@ use native.Mathlib.Nat.{add-zero}
 use native.Mathlib.Omega.{arith}
 use native.Mathlib.Numerals.{add-one}
 use lib.ListN.{length}
-use Rattle.laws.specs.Choice.{split≤}
+use Rattle.laws.proofs.Choice.{split≤}
 use Rattle.laws.specs.Lists.{All, all-nil, all-cons}
 use Rattle.words.specs.Words.{word, long}
-use Rattle.words.specs.Front.{Front, front-word}
+use Rattle.words.specs.Front.{Front}
+use Rattle.words.proofs.Front.{front-word}
 use Rattle.container.specs.Packets.{Packet}
 use Rattle.btsnoop.specs.PacketTable.{packetAt, packetsFrom, dataOf, Tabled}
 

@@ -6,7 +6,7 @@ use native.Mathlib.Omega.{arith}
 use lib.ListN.{getD, take, drop}
 use lib.Seq.{getD-take, getD-drop, drop-drop, take-nil}
 use Rattle.laws.specs.Numbers.{be32, be64}
-use Rattle.words.specs.Front.{part-take}
+use Rattle.words.proofs.Front.{part-take}
 
 module _ (f : List ℕ) (at k : ℕ) where
   pub byte-part : (i : ℕ) → i < k → getD (take k (drop at f)) i 0 ≡ getD f (at + i) 0

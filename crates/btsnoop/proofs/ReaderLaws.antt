@@ -9,7 +9,7 @@ use lib.Seq.{length-take-le, drop-drop}
 use lib.Dec.{ltb, eqb}
 use borrow.Author.Tests.{leb-true, le-ltb, lt-ltb, eqb-true}
 use denote.Ref.{RefT, now}
-use Rattle.laws.specs.Choice.{splitB, split≤, no-way}
+use Rattle.laws.proofs.Choice.{splitB, split≤, no-way}
 use Rattle.laws.specs.Lists.{flat}
 use Rattle.laws.specs.Numbers.{be32}
 use Rattle.container.specs.Container as container

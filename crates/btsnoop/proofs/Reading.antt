@@ -8,9 +8,10 @@ use lib.ListN.{length, getD, take, drop, length-drop}
 use lib.Seq.{length-take-le}
 use lib.Dec.{eqb}
 use borrow.Author.Tests.{le-leb, lt-leb, eq-eqb, ne-eqb}
-use Rattle.laws.specs.Choice.{splitB}
+use Rattle.laws.proofs.Choice.{splitB}
 use Rattle.laws.specs.Numbers.{le16, be32}
-use Rattle.words.specs.Fields.{fieldOf, field-value, field-none}
+use Rattle.words.specs.Fields.{fieldOf}
+use Rattle.words.proofs.Fields.{field-value, field-none}
 use Rattle.words.specs.declared.Field.{Field}
 use Rattle.words.specs.declared.Field.the-variants.{Value, Missing}
 use Rattle.container.specs.Packets.{fragment, h4Packet}

@@ -8,7 +8,7 @@ use lib.ListN.{length, take, drop, length-append, length-drop}
 use lib.Seq.{getD-drop, drop-drop, length-take-le}
 use lib.Dec.{eqb}
 use borrow.Author.Tests.{le-leb, lt-leb, eqb-true, eqb-false, eq-eqb, ne-eqb}
-use Rattle.laws.specs.Choice.{splitB}
+use Rattle.laws.proofs.Choice.{splitB}
 use Rattle.laws.specs.Lists.{flat}
 use Rattle.laws.specs.Numbers.{be32}
 use Rattle.container.specs.Container as container

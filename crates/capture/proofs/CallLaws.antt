@@ -6,8 +6,9 @@ use mathlib.Core.List.{List, [], _∷_}
 use lib.ListN.{length}
 use lib.Dec.{eqb}
 use borrow.Author.Tests.{le-leb, lt-leb}
-use Rattle.laws.specs.Choice.{no-way}
-use Rattle.laws.specs.Answers.{Meets, meets-refused, meets-as}
+use Rattle.laws.proofs.Choice.{no-way}
+use Rattle.laws.specs.Answers.{Meets}
+use Rattle.laws.proofs.Answers.{meets-refused, meets-as}
 use Rattle.btsnoop.specs.Header.{datalink}
 use Rattle.btsnoop.specs.Headers.{headerOf}
 use Rattle.btsnoop.proofs.Headers.{begins-long, no-header, other-link, known-link}

@@ -8,10 +8,11 @@ use lib.Dec.{leb, eqb}
 use lib.ListN.{length, getD, take, drop, length-take, length-drop, drop-of-length-le}
 use lib.Seq.{take-nil, take-all, take-length, drop-length, length-take-le, drop-drop}
 use borrow.Author.Tests.{le-leb, lt-leb, eq-eqb, ne-eqb}
-use Rattle.laws.specs.Choice.{split≤}
-use Rattle.laws.specs.Chop.{chop-eq}
+use Rattle.laws.proofs.Choice.{split≤}
+use Rattle.laws.proofs.Chop.{chop-eq}
 use Rattle.laws.specs.Numbers.{le16}
-use Rattle.words.specs.Fields.{fieldOf, field-value, field-none}
+use Rattle.words.specs.Fields.{fieldOf}
+use Rattle.words.proofs.Fields.{field-value, field-none}
 use Rattle.words.specs.declared.Field.{Field}
 use Rattle.words.specs.declared.Field.the-variants.{Value, Missing}
 use Rattle.items.specs.Items.{rxOf}

@@ -6,11 +6,13 @@ use mathlib.Core.List.{List, [], _∷_}
 use native.Mathlib.Omega.{arith}
 use lib.Dec.{ltb, eqb}
 use borrow.Author.Tests.{lt-ltb, le-ltb, eq-eqb, ne-eqb}
-use Rattle.laws.specs.Choice.{split≤, split≡}
-use Rattle.laws.specs.Keys.{Key, eqK, eq-eqK, ne-eqK}
+use Rattle.laws.proofs.Choice.{split≤, split≡}
+use Rattle.laws.specs.Keys.{Key, eqK}
+use Rattle.laws.proofs.Keys.{eq-eqK, ne-eqK}
 use Rattle.words.specs.Words.{word, putWord}
-use Rattle.words.specs.Front.{front-refl}
-use Rattle.table.specs.Table.{Slot, none, some, lookup, upd, findIn, lookup-found, lookup-nothing}
+use Rattle.words.proofs.Front.{front-refl}
+use Rattle.table.specs.Table.{Slot, none, some, lookup, upd, findIn}
+use Rattle.table.proofs.Table.{lookup-found, lookup-nothing}
 use Rattle.tree.specs.Tree.{EnterPre, Entered}
 use Rattle.tree.specs.Seats.{seatOf, Seated}
 use Rattle.tree.specs.declared.Tree.{Tree}

@@ -7,17 +7,20 @@ use native.Mathlib.Omega.{arith}
 use lib.Dec.{leb, ltb, eqb}
 use lib.ListN.{length, take, drop, length-take, drop-of-length-le}
 use borrow.Author.Tests.{le-leb, lt-leb, eq-eqb, ne-eqb}
-use Rattle.laws.specs.Choice.{split≤}
+use Rattle.laws.proofs.Choice.{split≤}
 use Rattle.words.specs.Words.{word}
-use Rattle.words.specs.Front.{Front, front-refl, front-then, front-less, front-word}
+use Rattle.words.specs.Front.{Front}
+use Rattle.words.proofs.Front.{front-refl, front-then, front-less, front-word}
 use Rattle.table.specs.Table.{lookup, Agree}
-use Rattle.tree.specs.Tree.{Indexed, Stands, SeekPre, EnterPre, stands-less, stands-same, indexed-none}
+use Rattle.tree.specs.Tree.{Indexed, Stands, SeekPre, EnterPre}
+use Rattle.tree.proofs.TreeLaws.{stands-less, stands-same, indexed-none}
 use Rattle.tree.specs.declared.Tree.{Tree}
 use Rattle.items.specs.Items.{rxOf}
 use Rattle.items.specs.declared.Direction.{Direction}
 use Rattle.l2cap.specs.Pdus.{Pdu}
 use Rattle.l2cap.specs.PduTable.{pduAt, pdusFrom, paysOf, Inside, Reassembled}
-use Rattle.l2cap.specs.PduFrames.{Lent, Placed, link-at, rx-at, cid-at, inside-top, payload-length, placed-agree, pdus-agree, pdus-next, pdus-none, pays-next, pays-mono, reassembled-front}
+use Rattle.l2cap.specs.PduFrames.{Lent, Placed}
+use Rattle.l2cap.proofs.PduFrames.{link-at, rx-at, cid-at, inside-top, payload-length, placed-agree, pdus-agree, pdus-next, pdus-none, pays-next, pays-mono, reassembled-front}
 use Rattle.channels.specs.Signals.{Signal, commands, code, body, signalOf, signalsIn, pduSignals, signals}
 use Rattle.channels.specs.Channels.{any, isTried, asksRfcomm, asksSession}
 use Rattle.channels.specs.ChannelTable.{channelIndex, saysNamed, saysAdmitted}

@@ -7,8 +7,9 @@ use native.Mathlib.Omega.{arith}
 use native.Mathlib.Nat.{mod-lt}
 use lib.Dec.{eqb, ltb}
 use borrow.Author.Tests.{eq-eqb, ne-eqb, lt-ltb, le-ltb}
-use Rattle.laws.specs.Choice.{split≡, split≤}
-use Rattle.laws.specs.Keys.{Key, eqK, eqK-true, eq-eqK, ne-eqK}
+use Rattle.laws.proofs.Choice.{split≡, split≤}
+use Rattle.laws.specs.Keys.{Key, eqK}
+use Rattle.laws.proofs.Keys.{eqK-true, eq-eqK, ne-eqK}
 use Rattle.words.specs.Words.{word}
 use Rattle.classes.specs.Bits.{mixOf, pairOf, firstOf, secondOf, turnOf, rootsOf, bitsOf, Roots, TreeIs}
 use Rattle.classes.specs.Classes.{keyAt, Repeats}

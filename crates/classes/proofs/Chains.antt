@@ -8,12 +8,16 @@ use native.Mathlib.Numerals.{add-one}
 use lib.ListN.{length}
 use lib.Dec.{eqb}
 use borrow.Author.Tests.{eq-eqb, ne-eqb, lt-ltb, le-ltb}
-use Rattle.laws.specs.Choice.{split≡, split≤}
+use Rattle.laws.proofs.Choice.{split≡, split≤}
 use Rattle.laws.specs.Keys.{Key}
-use Rattle.words.specs.Words.{word, putWord, length-put, word-put-same, word-put-other}
-use Rattle.words.specs.Front.{Front, front-refl, front-then, front-less, front-put, front-word}
-use Rattle.table.specs.Chain.{newest, newest-below, Chained, chained-agree, Filled, putLink, LinkPre, length-link, link-other}
-use Rattle.classes.specs.First.{classOf, class-same, class-most, class-key}
+use Rattle.words.specs.Words.{word, putWord}
+use Rattle.words.proofs.Words.{length-put, word-put-same, word-put-other}
+use Rattle.words.specs.Front.{Front}
+use Rattle.words.proofs.Front.{front-refl, front-then, front-less, front-put, front-word}
+use Rattle.table.specs.Chain.{newest, Chained, Filled, putLink, LinkPre}
+use Rattle.table.proofs.Chain.{newest-below, chained-agree, length-link, link-other}
+use Rattle.classes.specs.First.{classOf}
+use Rattle.classes.proofs.First.{class-same, class-most, class-key}
 use Rattle.classes.specs.Bits.{rootsOf}
 use Rattle.classes.specs.Classes.{keyAt, linksIn, NotePre, Known, Noted, Classes}
 use Rattle.classes.specs.Linking.{LinkRoom, LinkedTo, Unlinked, classIn, Links, Woven, earlierOf, Ended}

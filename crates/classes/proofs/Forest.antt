@@ -4,7 +4,7 @@ use mathlib.Core.List.{List}
 use mathlib.Core.Logic.{_⊎_, inl, inr, ⊎-elim}
 use Prim.Native.Nat.{ℕ, zero, suc, _+_, _-_, _*_, _/_, _%_, _<_, _≤_}
 use native.Mathlib.Omega.{arith}
-use Rattle.laws.specs.Choice.{split≡, split≤}
+use Rattle.laws.proofs.Choice.{split≡, split≤}
 use Rattle.words.specs.Words.{word}
 use Rattle.tree.specs.Paths.{nextOf}
 use Rattle.classes.specs.Classes.{nodeAt, Slots, Keeps}

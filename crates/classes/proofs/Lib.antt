@@ -3,3 +3,4 @@ pub mod Forest
 pub mod Walking
 pub mod Chains
 pub mod Turns
+pub mod First

@@ -8,12 +8,15 @@ use native.Mathlib.Omega.{arith}
 use lib.ListN.{length}
 use lib.Dec.{eqb}
 use borrow.Author.Tests.{eq-eqb, ne-eqb}
-use Rattle.laws.specs.Choice.{split≡, split≤, no-way}
-use Rattle.laws.specs.Keys.{Key, eqK, eqK-true, eq-eqK}
-use Rattle.words.specs.Words.{word, putWord, length-put, word-put-same, word-put-other}
-use Rattle.words.specs.Front.{front-put, front-refl}
+use Rattle.laws.proofs.Choice.{split≡, split≤, no-way}
+use Rattle.laws.specs.Keys.{Key, eqK}
+use Rattle.laws.proofs.Keys.{eqK-true, eq-eqK}
+use Rattle.words.specs.Words.{word, putWord}
+use Rattle.words.proofs.Words.{length-put, word-put-same, word-put-other}
+use Rattle.words.proofs.Front.{front-put, front-refl}
 use Rattle.tree.specs.Paths.{nextOf}
-use Rattle.classes.specs.First.{classOf, class-key, class-most, class-new}
+use Rattle.classes.specs.First.{classOf}
+use Rattle.classes.proofs.First.{class-key, class-most, class-new}
 use Rattle.classes.specs.Bits.{firstOf, rootsOf, turnOf, bitsOf, Roots}
 use Rattle.classes.specs.Classes.{keyAt, linksIn, rootIn, nodeAt, pathOf, Slots, Keeps, TwoRows, RowPre, MetAt, FreeAt, SpotIs, NotePre, Repeats, Classes, Known, Noted}
 use Rattle.classes.specs.declared.Rows.{Rows}

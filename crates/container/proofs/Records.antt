@@ -7,8 +7,8 @@ use native.Mathlib.Omega.{arith}
 use lib.ListN.{length, take, drop, length-append, take-append-drop}
 use lib.Seq.{length-take-le, take-append-seam, drop-append-seam}
 use borrow.Author.Tests.{le-leb, lt-leb}
-use Rattle.laws.specs.Choice.{split≤}
-use Rattle.laws.specs.Chop.{chop-eq}
+use Rattle.laws.proofs.Choice.{split≤}
+use Rattle.laws.proofs.Chop.{chop-eq}
 use Rattle.laws.specs.Lists.{flat, All, all-nil, all-cons}
 use Rattle.container.specs.Packets.{packets}
 use Rattle.container.specs.Container.{Container, isWhole, recordsIn, records, tailOffset, packetsIn, Lawful}

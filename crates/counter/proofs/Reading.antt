@@ -9,9 +9,10 @@ use lib.Dec.{eqb}
 use lib.ListN.{length, getD, take, drop, length-take, length-drop}
 use lib.Seq.{drop-cons, drop-drop, getD-take}
 use borrow.Author.Tests.{eq-eqb, ne-eqb, le-leb, lt-leb}
-use Rattle.laws.specs.Choice.{splitB, split≡, split≤}
-use Rattle.laws.specs.Keys.{eqK, eqK-true, eq-eqK, ne-eqK}
-use Rattle.laws.specs.Lists.{drop-step, drop-end}
+use Rattle.laws.proofs.Choice.{splitB, split≡, split≤}
+use Rattle.laws.specs.Keys.{eqK}
+use Rattle.laws.proofs.Keys.{eqK-true, eq-eqK, ne-eqK}
+use Rattle.laws.proofs.Lists.{drop-step, drop-end}
 use Rattle.laws.specs.Numbers.{le32}
 use Rattle.search.specs.Seek.{seek}
 use Rattle.search.specs.Steps.{Sought}

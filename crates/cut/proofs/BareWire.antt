@@ -38,7 +38,7 @@ use lib.ListN.{take, drop}
 use Rattle.laws.specs.Lists.{All, all-nil, all-cons}
 use Rattle.items.specs.declared.Direction.the-variants.{Rx}
 use Rattle.mdr.specs.Escaping.{Quiet}
-use Rattle.mdr.specs.Wire.{packed-framed}
+use Rattle.mdr.proofs.Wire.{packed-framed}
 use Rattle.outcome.specs.Import.{strict, bySource}
 use Rattle.cut.specs.Recording.{Frame, wire, RecordingOf, file, cut}
 use Rattle.cut.proofs.PlainWires.{plainWires}

@@ -5,7 +5,7 @@ use mathlib.Core.Bool.{true, false, cond}
 use mathlib.Core.List.{List, [], _∷_, _++_, map}
 use mathlib.Core.Option.{Option, some}
 use lib.ListN.{length, drop}
-use Rattle.laws.specs.Choice.{splitB}
+use Rattle.laws.proofs.Choice.{splitB}
 use Rattle.laws.specs.Lists.{flat, All, all-nil, all-cons}
 use Rattle.laws.specs.Answers.{Answer, Meets}
 use Rattle.laws.specs.Keys.{Key}

@@ -1,7 +1,7 @@
 -- Bluetooth Core's rule, by computation: recordings that are honest by it, one of which the source's rule does not cover, and recordings that break a rule and with it the claim.
 use mathlib.Core.Path.{_≡_, refl}
 use mathlib.Core.List.{List, [], _∷_}
-use Rattle.laws.specs.Choice.{no-way}
+use Rattle.laws.proofs.Choice.{no-way}
 use Rattle.laws.specs.Lists.{All, all-cons}
 use Rattle.laws.specs.Answers.{isGiven}
 use Rattle.laws.specs.Chop.{chop, chopFrom}

@@ -5,7 +5,7 @@ use mathlib.Core.Bool.{Bool, true, false, not, _&&_, _||_}
 use mathlib.Core.List.{List, [], _∷_, _++_, append-assoc}
 use lib.ListN.{length}
 use lib.Dec.{leb}
-use Rattle.laws.specs.Choice.{splitB, no-way}
+use Rattle.laws.proofs.Choice.{splitB, no-way}
 use Rattle.laws.specs.Chop.{chop, chopFrom}
 use Rattle.laws.specs.Lists.{flat, All}
 use Rattle.laws.specs.Numbers.{le16}
@@ -14,7 +14,8 @@ use Rattle.l2cap.specs.Pdus.{Pdu, pdus}
 use Rattle.channels.specs.Signals.{commandSize, isCommand, commands, body, triple, opposite, signals}
 use Rattle.channels.specs.Channels.{named, channelOf}
 use Rattle.channels.specs.Core.{requestKey, connects, succeeds, disconnects, coreSignalOf, coreSignalsIn, pduCoreSignals, coreSignals, holds}
-use Rattle.channels.specs.CoreLaws.{Between, between-holds}
+use Rattle.channels.specs.CoreLaws.{Between}
+use Rattle.channels.proofs.CoreLaws.{between-holds}
 use Rattle.channels.specs.Tried.{core, triedBy}
 use Rattle.cut.specs.Recording.{Recording, rows}
 use Rattle.cut.specs.Left.{recordsLeft}

@@ -4,8 +4,9 @@ use mathlib.Core.Path.{_≡_, refl, sym, ap, _∙_}
 use mathlib.Core.Logic.{_≢_}
 use mathlib.Core.Bool.{Bool, true, false, cond}
 use mathlib.Core.List.{List, [], _∷_, map}
-use Rattle.laws.specs.Choice.{splitB, no-way}
-use Rattle.laws.specs.Keys.{Key, eqK, splitK, eq-eqK, ne-eqK}
+use Rattle.laws.proofs.Choice.{splitB, no-way}
+use Rattle.laws.specs.Keys.{Key, eqK}
+use Rattle.laws.proofs.Keys.{splitK, eq-eqK, ne-eqK}
 use Rattle.laws.specs.Count.{mem, nub, count}
 
 -- no key twice

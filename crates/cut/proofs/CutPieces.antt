@@ -7,11 +7,12 @@ use mathlib.Core.List.{List, [], _∷_, _++_, map}
 use mathlib.Core.Option.{none, some}
 use lib.Dec.{eqb}
 use borrow.Author.Tests.{eq-eqb, ne-eqb, eqb-false}
-use Rattle.laws.specs.Choice.{splitB, no-way, split≡}
+use Rattle.laws.proofs.Choice.{splitB, no-way, split≡}
 use Rattle.laws.specs.Lists.{All, all-nil, all-cons}
-use Rattle.laws.specs.Keys.{Key, splitK, eq-eqK, ne-eqK}
+use Rattle.laws.specs.Keys.{Key}
+use Rattle.laws.proofs.Keys.{splitK, eq-eqK, ne-eqK}
 use Rattle.laws.specs.Keyed.{step, run, after}
-use Rattle.mdr.specs.Escaping.{all-append}
+use Rattle.mdr.proofs.Escaping.{all-append}
 use Rattle.l2cap.specs.Pdus.{Pdu}
 use Rattle.rfcomm.specs.Pieces.{Kind, asks, opens, carries, passed, Judged, Counts, counted, Piece, pieceOf, brought, counting}
 use Rattle.spans.specs.Spans.{onDlci}

@@ -6,7 +6,7 @@ use native.Mathlib.Omega.{arith}
 use lib.ListN.{length, take, drop, length-append}
 use lib.Seq.{take-nil, take-append-le, drop-at}
 use borrow.Author.Tests.{le-leb, lt-leb}
-use Rattle.laws.specs.Choice.{split≤}
+use Rattle.laws.proofs.Choice.{split≤}
 use Rattle.laws.specs.Lists.{flat, All, all-nil, all-cons}
 use Rattle.container.specs.Container.{Container, recordsIn, Lawful}
 use Rattle.container.proofs.Records.{IsRecord, record-least, no-records, first-record, cut-record}

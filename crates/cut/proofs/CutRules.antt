@@ -8,7 +8,8 @@ use native.Mathlib.Omega.{arith}
 use borrow.Author.Tests.{eq-eqb}
 use Rattle.laws.specs.Lists.{All, all-cons}
 use Rattle.laws.specs.Keys.{Key}
-use Rattle.laws.specs.Keyed.{put, step, run, after, after-append}
+use Rattle.laws.specs.Keyed.{put, step, run, after}
+use Rattle.laws.proofs.Keyed.{after-append}
 use Rattle.container.specs.Container.{Container}
 use Rattle.container.specs.Packets.{Packet}
 use Rattle.l2cap.specs.Pdus.{Pdu, joined, stillOpen, pduOf, completed, packetKey}

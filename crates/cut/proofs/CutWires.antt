@@ -11,7 +11,7 @@ use lib.ListN.{length, take, drop, length-append, length-take}
 use lib.Seq.{take-append-le, take-append-seam, take-add}
 use lib.Dec.{leb, ltb}
 use borrow.Author.Tests.{ne-eqb, le-leb, lt-leb, lt-ltb, le-ltb}
-use Rattle.laws.specs.Choice.{split≤, splitB}
+use Rattle.laws.proofs.Choice.{split≤, splitB}
 use Rattle.laws.specs.Lists.{flat, All, all-nil, all-cons}
 use Rattle.mdr.specs.Frame.{unpacksOf}
 use Rattle.spans.specs.Scan.{spansOf, restOf, capped}

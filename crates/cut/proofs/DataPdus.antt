@@ -9,8 +9,10 @@ use lib.ListN.{length}
 use borrow.Author.Tests.{le-leb}
 use Rattle.laws.specs.Lists.{All, all-nil, all-cons}
 use Rattle.laws.specs.Numbers.{le16}
-use Rattle.laws.specs.Keys.{Key, splitK, eq-eqK, ne-eqK}
-use Rattle.laws.specs.Keyed.{put, step, run, after, run-append}
+use Rattle.laws.specs.Keys.{Key}
+use Rattle.laws.proofs.Keys.{splitK, eq-eqK, ne-eqK}
+use Rattle.laws.specs.Keyed.{put, step, run, after}
+use Rattle.laws.proofs.Keyed.{run-append}
 use Rattle.items.specs.declared.Direction.{Direction}
 use Rattle.container.specs.Container.{Container}
 use Rattle.container.specs.Packets.{Packet, orNone, packets}

@@ -6,8 +6,10 @@ use native.Mathlib.Omega.{arith}
 use native.Mathlib.Nat.{add-zero}
 use lib.ListN.{length, take, drop, length-append}
 use lib.Seq.{drop-drop, drop-append-seam}
-use Rattle.laws.specs.Lists.{flat-append, All}
-use Rattle.laws.specs.Keys.{Key, eqK, splitK, eq-eqK, ne-eqK}
+use Rattle.laws.specs.Lists.{All}
+use Rattle.laws.proofs.Lists.{flat-append}
+use Rattle.laws.specs.Keys.{Key, eqK}
+use Rattle.laws.proofs.Keys.{splitK, eq-eqK, ne-eqK}
 use Rattle.laws.specs.Keyed.{of, step, run, after}
 use Rattle.rfcomm.specs.Pieces.{Piece}
 use Rattle.spans.specs.Scan.{spansOf, restOf, capped}

@@ -5,7 +5,7 @@ use mathlib.Core.Bool.{true}
 use mathlib.Core.List.{List, [], _∷_, _++_, map, append-assoc, append-nil}
 use native.Mathlib.Omega.{arith}
 use lib.ListN.{length, drop, length-append}
-use Rattle.laws.specs.Choice.{splitB}
+use Rattle.laws.proofs.Choice.{splitB}
 use Rattle.laws.specs.Lists.{All, all-nil}
 use Rattle.laws.specs.Keyed.{run, after}
 use Rattle.container.specs.Container.{Container}

@@ -8,9 +8,10 @@ use native.Mathlib.Omega.{arith}
 use lib.ListN.{length, getD, length-append}
 use lib.Dec.{eqb}
 use borrow.Author.Tests.{eq-eqb, ne-eqb}
-use Rattle.laws.specs.Choice.{splitB}
+use Rattle.laws.proofs.Choice.{splitB}
 use Rattle.laws.specs.Lists.{All, all-nil, all-cons}
-use Rattle.laws.specs.Keys.{Key, ne-eqK}
+use Rattle.laws.specs.Keys.{Key}
+use Rattle.laws.proofs.Keys.{ne-eqK}
 use Rattle.laws.specs.Count.{mem, count}
 use Rattle.items.specs.declared.Direction.{Direction}
 use Rattle.items.specs.declared.Direction.the-variants.{Rx, Tx}
@@ -18,7 +19,8 @@ use Rattle.items.specs.Items.{rxOf}
 use Rattle.container.specs.Container.{Container}
 use Rattle.mdr.specs.Escaping.{Quiet}
 use Rattle.mdr.specs.Frame.{unpacksOf}
-use Rattle.mdr.specs.Wire.{innerOf, packed-framed, packed-least, packed-unpacks}
+use Rattle.mdr.specs.Wire.{innerOf}
+use Rattle.mdr.proofs.Wire.{packed-framed, packed-least, packed-unpacks}
 use Rattle.cut.specs.Recording.{Frame, wire, Framing, packedFrames, LinkOf, RecordingOf}
 use Rattle.cut.specs.Left.{linkKey, dataLeft, informationOf, directionOf, ofHandle, wires, wiresOf, midFrame, endsMid, midIn}
 use Rattle.cut.specs.Honest.{Different, no-more, one-more, Beginning}

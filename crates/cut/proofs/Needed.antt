@@ -9,11 +9,13 @@ use lib.Seq.{length-take-le}
 use borrow.Author.Tests.{ne-eqb, lt-leb}
 use Rattle.laws.specs.Lists.{All, all-nil, all-cons}
 use Rattle.laws.specs.Answers.{refuses}
-use Rattle.laws.specs.Keys.{Key, eq-eqK}
+use Rattle.laws.specs.Keys.{Key}
+use Rattle.laws.proofs.Keys.{eq-eqK}
 use Rattle.laws.specs.Keyed.{run}
 use Rattle.container.specs.Container.{Container}
 use Rattle.items.specs.Items.{Span}
-use Rattle.mdr.specs.Escaping.{Quiet, all-append}
+use Rattle.mdr.specs.Escaping.{Quiet}
+use Rattle.mdr.proofs.Escaping.{all-append}
 use Rattle.spans.specs.Scan.{spansOf, restOf, capped}
 use Rattle.spans.specs.Bytewise.{feed, emit, held, emitted, spans-is, rest-is}
 use Rattle.spans.specs.Spans.{spans}

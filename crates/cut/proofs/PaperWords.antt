@@ -8,11 +8,12 @@ use native.Mathlib.Omega.{arith}
 use lib.ListN.{length, length-append}
 use lib.Dec.{leb}
 use borrow.Author.Tests.{le-leb, lt-leb, leb-true}
-use Rattle.laws.specs.Choice.{splitB, no-way}
+use Rattle.laws.proofs.Choice.{splitB, no-way}
 use Rattle.laws.specs.Chop.{chop, chopFrom}
 use Rattle.laws.specs.Lists.{flat, All, all-nil, all-cons}
 use Rattle.laws.specs.Numbers.{le16}
-use Rattle.laws.specs.Keys.{Key, eq-eqK}
+use Rattle.laws.specs.Keys.{Key}
+use Rattle.laws.proofs.Keys.{eq-eqK}
 use Rattle.laws.specs.Keyed.{of, run, after, step}
 use Rattle.items.specs.declared.Direction.{Direction}
 use Rattle.items.specs.declared.Direction.the-variants.{Rx, Tx}

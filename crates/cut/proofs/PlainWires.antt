@@ -8,8 +8,8 @@ use lib.ListN.{length, getD, take, drop, take-append-drop, length-take}
 use lib.Seq.{drop-cons}
 use lib.Dec.{leb, eqb}
 use borrow.Author.Tests.{leb-true, eqb-true}
-use Rattle.laws.specs.Choice.{splitB, no-way}
-use Rattle.laws.specs.Lists.{drop-end}
+use Rattle.laws.proofs.Choice.{splitB, no-way}
+use Rattle.laws.proofs.Lists.{drop-end}
 use Rattle.laws.specs.Answers.{isGiven}
 use Rattle.mdr.specs.Frame.{unpackOf, unpacksOf}
 use Rattle.cut.specs.Recording.{Framing}

@@ -10,16 +10,17 @@ use native.Mathlib.Nat.{zero-add}
 use lib.ListN.{length, getD, take, drop, length-append, length-take}
 use lib.Dec.{leb, ltb}
 use borrow.Author.Tests.{le-leb}
-use Rattle.laws.specs.Choice.{splitB, no-way, split≤}
+use Rattle.laws.proofs.Choice.{splitB, no-way, split≤}
 use Rattle.laws.specs.Lists.{flat, All, all-nil, all-cons}
 use Rattle.laws.specs.Stores.{filled}
 use Rattle.laws.specs.Answers.{Answer, Outcome, gives, refuses, answer, output, Meets}
-use Rattle.laws.specs.Keys.{Key, splitK, eq-eqK, ne-eqK}
+use Rattle.laws.specs.Keys.{Key}
+use Rattle.laws.proofs.Keys.{splitK, eq-eqK, ne-eqK}
 use Rattle.laws.specs.Keyed.{of, step, run, after}
 use Rattle.laws.specs.Count.{mem, nub}
 use Rattle.items.specs.declared.Direction.{Direction}
 use Rattle.items.specs.Items.{Span, span, rxOf, spanList}
-use Rattle.mdr.specs.Escaping.{all-append}
+use Rattle.mdr.proofs.Escaping.{all-append}
 use Rattle.mdr.specs.Frame.{unpacksOf}
 use Rattle.container.specs.Container.{Container, recordsIn, records, tailOffset, packetsIn, Lawful}
 use Rattle.channels.specs.Channels.{any}

@@ -6,9 +6,10 @@ use mathlib.Core.Bool.{Bool, true, false}
 use mathlib.Core.List.{List, [], _∷_, _++_, append-assoc, cons≢nil}
 use native.Mathlib.Omega.{arith}
 use borrow.Author.Tests.{ne-eqb, le-leb}
-use Rattle.laws.specs.Choice.{splitB, no-way, split≤}
+use Rattle.laws.proofs.Choice.{splitB, no-way, split≤}
 use Rattle.laws.specs.Lists.{All}
-use Rattle.laws.specs.Keys.{Key, eq-eqK}
+use Rattle.laws.specs.Keys.{Key}
+use Rattle.laws.proofs.Keys.{eq-eqK}
 use Rattle.laws.specs.Keyed.{of}
 use Rattle.items.specs.declared.Direction.{Direction}
 use Rattle.items.specs.Items.{rxOf}

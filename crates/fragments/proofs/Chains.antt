@@ -6,7 +6,7 @@ use Prim.Native.Nat.{ℕ, zero, suc, _+_, _-_, _*_, _<_, _≤_}
 use native.Mathlib.Omega.{arith}
 use lib.Dec.{eqb}
 use borrow.Author.Tests.{eq-eqb, ne-eqb, eqb-true}
-use Rattle.laws.specs.Choice.{split≡}
+use Rattle.laws.proofs.Choice.{split≡}
 use Rattle.words.specs.Words.{word}
 use Rattle.fragments.specs.Links.{soonest, tagAt, Linked}
 

@@ -7,12 +7,16 @@ use native.Mathlib.Omega.{arith}
 use lib.ListN.{length}
 use lib.Dec.{eqb}
 use borrow.Author.Tests.{eq-eqb, ne-eqb}
-use Rattle.laws.specs.Choice.{split≡}
-use Rattle.words.specs.Words.{word, long, putWord, length-put, word-put-same, word-put-other}
-use Rattle.words.specs.Front.{Front, front-refl, front-put, front-then, front-word}
-use Rattle.table.specs.Table.{findIn, lookup, upd, sumOf, some, find-below, lookup-agree, long-agree, sum-agree}
+use Rattle.laws.proofs.Choice.{split≡}
+use Rattle.words.specs.Words.{word, long, putWord}
+use Rattle.words.proofs.Words.{length-put, word-put-same, word-put-other}
+use Rattle.words.specs.Front.{Front}
+use Rattle.words.proofs.Front.{front-refl, front-put, front-then, front-word}
+use Rattle.table.specs.Table.{findIn, lookup, upd, sumOf, some}
+use Rattle.table.proofs.Table.{find-below, lookup-agree, long-agree, sum-agree}
 use Rattle.table.specs.declared.Row.the-variants.{At, Nothing}
-use Rattle.tree.specs.Tree.{Indexed, EnterPre, indexed-none, indexed-agree, find-agree, found-key}
+use Rattle.tree.specs.Tree.{Indexed, EnterPre, indexed-agree, find-agree}
+use Rattle.tree.proofs.TreeLaws.{indexed-none, found-key}
 use Rattle.tree.specs.Seats.{Seated}
 use Rattle.tree.proofs.Seats.{split-row}
 use Rattle.tree.specs.declared.Tree.{Tree}

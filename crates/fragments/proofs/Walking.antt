@@ -6,12 +6,15 @@ use native.Mathlib.Omega.{arith}
 use lib.ListN.{length, getD, set, take, drop, length-take, length-drop, List·getD-append}
 use lib.Seq.{sets, getD-set-other, length-take-le, take-all, take-nil, take-take, getD-append-add, getD-take, getD-drop}
 use borrow.Author.Tests.{eq-eqb, ne-eqb}
-use Rattle.laws.specs.Choice.{split≡, split≤}
+use Rattle.laws.proofs.Choice.{split≡, split≤}
 use Rattle.laws.specs.Numbers.{le16}
-use Rattle.laws.specs.Stores.{Writes, writes-long, Emitting, emit-start, emit-turn, emit-end}
+use Rattle.laws.specs.Stores.{Writes, Emitting}
+use Rattle.laws.proofs.Stores.{writes-long, emit-start, emit-turn, emit-end}
 use native.Mathlib.Numerals.{add-one}
-use Rattle.words.specs.Words.{word, word-of-bytes}
-use Rattle.words.specs.Front.{Front, front-then, front-sets, front-refl}
+use Rattle.words.specs.Words.{word}
+use Rattle.words.proofs.Words.{word-of-bytes}
+use Rattle.words.specs.Front.{Front}
+use Rattle.words.proofs.Front.{front-then, front-sets, front-refl}
 use Rattle.container.specs.Packets.{Packet}
 use Rattle.btsnoop.specs.PacketTable.{packetAt, packetsFrom}
 use Rattle.btsnoop.proofs.PacketFrames.{packets-next, packets-none, packets-snoc, packet-front, packets-front, tabled-less, tabled-front}

@@ -6,8 +6,9 @@ use mathlib.Core.List.{List, [], _∷_}
 use native.Mathlib.Omega.{arith}
 use lib.ListN.{length}
 use borrow.Author.Tests.{le-leb, lt-leb}
-use Rattle.laws.specs.Choice.{splitB, no-way}
-use Rattle.laws.specs.Answers.{Outcome, Meets, meets-refused, meets-as}
+use Rattle.laws.proofs.Choice.{splitB, no-way}
+use Rattle.laws.specs.Answers.{Outcome, Meets}
+use Rattle.laws.proofs.Answers.{meets-refused, meets-as}
 use Rattle.btsnoop.specs.Records.{btsnoop}
 use Rattle.btsnoop.proofs.Laws.{lawful}
 use Rattle.outcome.specs.Import.{Options, fits, workSuffices, placesSuffice, imported, importedIn}

@@ -8,12 +8,15 @@ use native.Mathlib.Omega.{arith}
 use lib.Dec.{leb, eqb}
 use lib.ListN.{length, take, drop}
 use borrow.Author.Tests.{leb-true, le-leb, lt-leb, eq-eqb, ne-eqb}
-use Rattle.laws.specs.Choice.{splitB}
+use Rattle.laws.proofs.Choice.{splitB}
 use Rattle.laws.specs.Numbers.{le, le16, le32}
-use Rattle.laws.specs.Stores.{Writes, writes-then}
+use Rattle.laws.specs.Stores.{Writes}
+use Rattle.laws.proofs.Stores.{writes-then}
 use Rattle.items.specs.Items.{item, itemHead, span, spanItem, spanTest, Item, itemAt, endAt, Test, isItem, Listed, wellFormed, illFormed, more, readItems}
-use Rattle.items.specs.Reading.{readFrom, read-good, read-bad, read-end}
-use Rattle.items.specs.Walks.{stepAt, passAt, checkOf, end-past, good-fits}
+use Rattle.items.specs.Reading.{readFrom}
+use Rattle.items.proofs.Reading.{read-good, read-bad, read-end}
+use Rattle.items.specs.Walks.{stepAt, passAt, checkOf}
+use Rattle.items.proofs.Walks.{end-past, good-fits}
 use Rattle.items.specs.declared.Step.{Step}
 use Rattle.items.specs.declared.Step.the-variants.{Whole, Passes, End}
 use Rattle.items.specs.declared.Checked.{Checked}

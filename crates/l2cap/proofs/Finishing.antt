@@ -8,18 +8,21 @@ use native.Mathlib.Omega.{arith}
 use lib.ListN.{length, take, drop, length-drop}
 use lib.Seq.{sets, drop-drop, length-take-le, sets-eq, take-append-le, drop-append-le, drop-at}
 use lib.Dec.{eqb}
-use Rattle.laws.specs.Choice.{split≤}
+use Rattle.laws.proofs.Choice.{split≤}
 use Rattle.laws.specs.Numbers.{le16}
-use Rattle.laws.specs.Stores.{Writes, writes-long}
+use Rattle.laws.specs.Stores.{Writes}
+use Rattle.laws.proofs.Stores.{writes-long}
 use Rattle.words.specs.Words.{word, long}
-use Rattle.words.specs.Front.{Front, front-refl, front-then, front-part, front-sets, part-take}
+use Rattle.words.specs.Front.{Front}
+use Rattle.words.proofs.Front.{front-refl, front-then, front-part, front-sets, part-take}
 use Rattle.table.specs.Table.{Agree}
 use Rattle.btsnoop.specs.PacketTable.{packetAt}
 use Rattle.fragments.specs.Bytes.{begun, Gather}
 use Rattle.fragments.proofs.Walking.{since-one, piece-own, word-behind}
 use Rattle.l2cap.specs.Pdus.{Pdu, pduOf}
 use Rattle.l2cap.specs.PduTable.{pduAt, pdusFrom, paysOf, Inside}
-use Rattle.l2cap.specs.PduFrames.{Placed, pdus-snoc, pays-next, placed-agree, pdus-agree, pays-agree}
+use Rattle.l2cap.specs.PduFrames.{Placed}
+use Rattle.l2cap.proofs.PduFrames.{pdus-snoc, pays-next, placed-agree, pdus-agree, pays-agree}
 use Rattle.l2cap.specs.Steps.{putPdu, PutPdu, Finish, Finished}
 use Rattle.l2cap.proofs.Rows.{row-outside, row-length, row-front, row-len, row-new, row-inside}
 

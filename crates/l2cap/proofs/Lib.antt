@@ -3,3 +3,5 @@ pub mod Rows
 pub mod Finishing
 pub mod Stepping
 pub mod Running
+pub mod PduFrames
+pub mod Rekeyed

@@ -7,9 +7,12 @@ use native.Mathlib.Omega.{arith}
 use lib.ListN.{length}
 use lib.Dec.{eqb}
 use borrow.Author.Tests.{eq-eqb, ne-eqb}
-use Rattle.words.specs.Words.{word, long, putWord, length-put, word-put-same, word-put-other}
-use Rattle.words.specs.Front.{Front, front-then, front-put}
-use Rattle.table.specs.Table.{Slot, none as no-row, some as row, findIn, lookup, lookup-found, second, find-below, long-agree, Stored, store-old}
+use Rattle.words.specs.Words.{word, long, putWord}
+use Rattle.words.proofs.Words.{length-put, word-put-same, word-put-other}
+use Rattle.words.specs.Front.{Front}
+use Rattle.words.proofs.Front.{front-then, front-put}
+use Rattle.table.specs.Table.{Slot, none as no-row, some as row, findIn, lookup, second, Stored}
+use Rattle.table.proofs.Table.{lookup-found, find-below, long-agree, store-old}
 use Rattle.table.specs.declared.Row.the-variants.{At}
 use Rattle.tree.specs.Tree.{find-agree}
 use Rattle.fragments.specs.Links.{firstOf}

@@ -11,9 +11,10 @@ use lib.ListN.{length, getD, take, drop}
 use lib.Dec.{eqb}
 use Rattle.words.specs.Words.{word, long, putWord, putLong}
 use Rattle.words.specs.Front.{Front}
-use Rattle.words.specs.Rows.{putWords, length-puts, front-puts, puts-below, puts-above, word-puts}
+use Rattle.words.specs.Rows.{putWords}
+use Rattle.words.proofs.Rows.{length-puts, front-puts, puts-below, puts-above, word-puts}
 use Rattle.l2cap.specs.PduTable.{pduAt, Inside}
-use Rattle.l2cap.specs.PduFrames.{payload-work, payload-file}
+use Rattle.l2cap.proofs.PduFrames.{payload-work, payload-file}
 use Rattle.l2cap.specs.Steps.{putPdu}
 
 -- ---- the row

@@ -7,11 +7,12 @@ use native.Mathlib.Omega.{arith}
 use lib.ListN.{length}
 use lib.Dec.{eqb}
 use borrow.Author.Tests.{eq-eqb, ne-eqb}
-use Rattle.laws.specs.Choice.{split≡}
+use Rattle.laws.proofs.Choice.{split≡}
 use Rattle.laws.specs.Lists.{All}
 use Rattle.laws.specs.Keys.{eqK}
 use Rattle.words.specs.Words.{word}
-use Rattle.words.specs.Front.{Front, front-refl, front-then, front-word}
+use Rattle.words.specs.Front.{Front}
+use Rattle.words.proofs.Front.{front-refl, front-then, front-word}
 use Rattle.table.specs.Table.{lookup}
 use Rattle.container.specs.Packets.{Packet}
 use Rattle.btsnoop.specs.PacketTable.{packetAt, packetsFrom, dataOf, Tabled}
@@ -19,8 +20,9 @@ use Rattle.btsnoop.proofs.PacketFrames.{packets-next, packets-none, data-mono, 
 use Rattle.fragments.specs.Bytes.{numberOf}
 use Rattle.l2cap.specs.Pdus.{Pdu, packetKey, reassembly, pdus}
 use Rattle.l2cap.specs.PduTable.{pdusFrom, paysOf, Reassembled}
-use Rattle.l2cap.specs.PduFrames.{inside-top}
-use Rattle.l2cap.specs.Rekeyed.{runBy, rekey, run-by}
+use Rattle.l2cap.proofs.PduFrames.{inside-top}
+use Rattle.l2cap.specs.Rekeyed.{runBy, rekey}
+use Rattle.l2cap.proofs.Rekeyed.{run-by}
 use Rattle.fragments.specs.Links.{Linked, Seats, LinkRoom, LinkedTo}
 use Rattle.fragments.proofs.Chains.{linked-less, linked-agree}
 use Rattle.l2cap.specs.Steps.{openAt, heldOf, mapOf, Ready, Step, Stepped, Run}

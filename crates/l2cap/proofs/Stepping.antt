@@ -8,12 +8,13 @@ use native.Mathlib.Omega.{arith}
 use lib.ListN.{length, length-append}
 use lib.Dec.{eqb, leb}
 use borrow.Author.Tests.{eq-eqb, ne-eqb, le-leb, lt-leb}
-use Rattle.laws.specs.Choice.{split≡}
+use Rattle.laws.proofs.Choice.{split≡}
 use Rattle.laws.specs.Numbers.{le16}
 use Rattle.words.specs.Words.{word, long}
-use Rattle.words.specs.Front.{Front, front-then, front-word, front-less, front-refl}
+use Rattle.words.specs.Front.{Front}
+use Rattle.words.proofs.Front.{front-then, front-word, front-less, front-refl}
 use Rattle.table.specs.Table.{some as row, findIn, lookup, upd, second, sumOf, Stored, Agree}
-use Rattle.table.specs.Table.{find-below, lookup-found, lookup-agree, long-agree, sum-agree, second-le}
+use Rattle.table.proofs.Table.{find-below, lookup-found, lookup-agree, long-agree, sum-agree, second-le}
 use Rattle.table.specs.declared.Row.the-variants.{At}
 use Rattle.tree.specs.Tree.{find-agree}
 use Rattle.btsnoop.specs.PacketTable.{packetAt, dataOf}
@@ -22,7 +23,8 @@ use Rattle.fragments.specs.Bytes.{since, begun, Walk}
 use Rattle.fragments.proofs.Walking.{number-at, bytes-length, piece-own, piece-other, since-one, since-snoc, since-front}
 use Rattle.l2cap.specs.Pdus.{joined, isComplete, stillOpen, completed}
 use Rattle.l2cap.specs.PduTable.{pdusFrom, paysOf}
-use Rattle.l2cap.specs.PduFrames.{Placed, placed-agree, pdus-agree, pays-agree}
+use Rattle.l2cap.specs.PduFrames.{Placed}
+use Rattle.l2cap.proofs.PduFrames.{placed-agree, pdus-agree, pays-agree}
 use Rattle.l2cap.specs.Rekeyed.{putBy}
 use Rattle.l2cap.specs.Steps.{Need, rowAt, RowPre, asOpen, openAt, longer, grown, nextAt, nextBy, Arrive, putOpen}
 use Rattle.l2cap.specs.Steps.{Finish, Finished, heldOf, mapOf, Sound, Step, after, Stepped}

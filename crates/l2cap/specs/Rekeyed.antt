@@ -3,8 +3,6 @@ use mathlib.Core.Path.{_≡_, refl}
 use mathlib.Core.Bool.{Bool, cond}
 use mathlib.Core.List.{List, [], _∷_, _++_}
 use Rattle.laws.specs.Lists.{All, all-nil, all-cons}
-use Rattle.laws.specs.Keys.{Key, eqK}
-use Rattle.laws.specs.Keyed.{Machine, step, run}
 
 -- the map m with v at the key k, for keys of any type with a test
 abbrev pub putBy : {K S : Type 0} → (K → K → Bool) → (K → S) → K → S → K → S
@@ -28,8 +26,3 @@ module _ {X Y S : Type 0} (next : S → X → S) (out : S → X → List Y) wher
         agree x p,
         rekey eqA eqB g h P same (putBy eqA m (g x) (next (n (h x)) x)) (putBy eqB n (h x) (next (n (h x)) x)) (λ y q. rw (same y x q p, agree y q)) xs ps,
       )
-
-pub run-by : {X Y : Type 0} (M : Machine X Y) (m : Key → M .S) (xs : List X) → run M m xs ≡ runBy (M .next) (M .out) eqK (M .key) m xs
-unfolding run runBy
-run-by M m [] = refl
-run-by M m (x ∷ xs) = rw (run-by M (step M m x) xs)

@@ -8,10 +8,11 @@ use lib.ListN.{length, getD, take, drop, take-append-drop, length-drop}
 use lib.Seq.{drop-drop, length-take-le}
 use lib.Dec.{eqb}
 use borrow.Author.Tests.{eqb-true}
-use Rattle.laws.specs.Lists.{drop-step, drop-end}
+use Rattle.laws.proofs.Lists.{drop-step, drop-end}
 use Rattle.mdr.specs.Sum.{total, checksumOf}
 use Rattle.mdr.specs.Escape.{within}
-use Rattle.mdr.specs.Escaping.{countIn, count-append}
+use Rattle.mdr.specs.Escaping.{countIn}
+use Rattle.mdr.proofs.Escaping.{count-append}
 use Rattle.mdr.specs.Steps.{OneIf, Tallied, Bare, Full}
 use Rattle.mdr.specs.declared.Totals.{Totals}
 

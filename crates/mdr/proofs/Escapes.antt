@@ -9,15 +9,18 @@ use lib.ListN.{length, getD, set, take, drop, take-append-drop, length-append, l
 use lib.Seq.{length-take-le, take-all, take-add, drop-drop}
 use lib.Dec.{eqb}
 use borrow.Author.Tests.{le-leb, lt-leb, eqb-true}
-use Rattle.laws.specs.Choice.{splitB}
-use Rattle.laws.specs.Lists.{drop-step, drop-end}
-use Rattle.laws.specs.Stores.{Writes, writes-then, writes-long, Emitting, emit-start, emit-turn, emit-room, emit-end}
-use Rattle.laws.specs.Answers.{accepted, refused, gives, Meets, meets-refused, meets-short, meets-wrote}
+use Rattle.laws.proofs.Choice.{splitB}
+use Rattle.laws.proofs.Lists.{drop-step, drop-end}
+use Rattle.laws.specs.Stores.{Writes, Emitting}
+use Rattle.laws.proofs.Stores.{writes-then, writes-long, emit-start, emit-turn, emit-room, emit-end}
+use Rattle.laws.specs.Answers.{accepted, refused, gives, Meets}
+use Rattle.laws.proofs.Answers.{meets-refused, meets-short, meets-wrote}
 use Rattle.mdr.specs.Sum.{checksumOf}
 use Rattle.mdr.specs.Escape.{special, escapeByte, escape}
-use Rattle.mdr.specs.Escaping.{within-range, countIn, count-append, escape-append, specials, escape-length}
+use Rattle.mdr.specs.Escaping.{countIn, specials}
+use Rattle.mdr.proofs.Escaping.{within-range, count-append, escape-append, escape-length}
 use Rattle.mdr.specs.Frame.{headOf, summedOf, bodyOf, packed, packOf}
-use Rattle.mdr.specs.Wire.{packed-length}
+use Rattle.mdr.proofs.Wire.{packed-length}
 use Rattle.mdr.specs.Steps.{OneIf, Tallied, Bare, Full, RanIs, MixedIs, framed}
 use Rattle.mdr.specs.declared.Totals.{Totals}
 use Rattle.mdr.specs.declared.Ran.{Ran}

@@ -8,10 +8,12 @@ use native.Mathlib.Omega.{arith}
 use lib.ListN.{length, getD, set, take, drop, length-drop}
 use lib.Seq.{sets, sets-eq, length-sets, length-take-le, take-add, drop-drop, take-at, drop-at, getD-take}
 use borrow.Author.Tests.{lt-leb}
-use Rattle.laws.specs.Choice.{split≤, no-way}
-use Rattle.laws.specs.Lists.{drop-step, drop-end}
-use Rattle.laws.specs.Stores.{Writes, sets-append, Emitting, emit-start, emit-turn, emit-end}
-use Rattle.laws.specs.Answers.{accepted, refused, Outcome, gives, refuses, isGiven, Meets, meets-refused, meets-short, meets-wrote}
+use Rattle.laws.proofs.Choice.{split≤, no-way}
+use Rattle.laws.proofs.Lists.{drop-step, drop-end}
+use Rattle.laws.specs.Stores.{Writes, Emitting}
+use Rattle.laws.proofs.Stores.{sets-append, emit-start, emit-turn, emit-end}
+use Rattle.laws.specs.Answers.{accepted, refused, Outcome, gives, refuses, isGiven, Meets}
+use Rattle.laws.proofs.Answers.{meets-refused, meets-short, meets-wrote}
 use Rattle.mdr.specs.Escape.{unescape}
 use Rattle.mdr.specs.Frame.{unpackOf, unpacksOf}
 use Rattle.mdr.specs.Told.{told, glance}

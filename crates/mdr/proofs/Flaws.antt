@@ -8,11 +8,11 @@ use lib.ListN.{length, getD, take, drop, length-drop}
 use lib.Seq.{take-nil, take-length, take-all, take-take, drop-drop, length-take-le}
 use lib.Dec.{eqb}
 use borrow.Author.Tests.{eqb-true, eqb-false, eq-eqb, ne-eqb}
-use Rattle.laws.specs.Choice.{splitB, no-way}
-use Rattle.laws.specs.Lists.{drop-step, drop-end}
+use Rattle.laws.proofs.Choice.{splitB, no-way}
+use Rattle.laws.proofs.Lists.{drop-step, drop-end}
 use Rattle.laws.specs.Answers.{Outcome, gives, refuses}
 use Rattle.mdr.specs.Escape.{within, escapee, push, unescape}
-use Rattle.mdr.specs.Escaping.{within-range}
+use Rattle.mdr.proofs.Escaping.{within-range}
 use Rattle.mdr.specs.Steps.{OneIf, Tallied, sentries, Measured, bytesOf, Sound, isBreach, breaches, breachesAfter, flawOf, Clean, FrontPart, KeptIf, LastPart, SoundIf, ScannedIs}
 use Rattle.mdr.specs.declared.Totals.{Totals}
 use Rattle.mdr.specs.declared.Scanned.{Scanned}

@@ -9,15 +9,15 @@ use lib.ListN.{length, getD, take, drop, take-append-drop, length-drop, length-a
 use lib.Seq.{take-suc, take-length, getD-at}
 use lib.Dec.{eqb}
 use borrow.Author.Tests.{le-leb, lt-leb, eq-eqb, ne-eqb}
-use Rattle.laws.specs.Choice.{splitB, no-way}
-use Rattle.laws.specs.Lists.{drop-step, drop-end}
+use Rattle.laws.proofs.Choice.{splitB, no-way}
+use Rattle.laws.proofs.Lists.{drop-step, drop-end}
 use Rattle.laws.specs.Numbers.{be32}
 use Rattle.laws.specs.Answers.{refused, Outcome, gives, refuses}
 use Rattle.mdr.specs.Sum.{total, checksumOf}
 use Rattle.mdr.specs.Escape.{escapee, push, unescape, unescapeFrom}
-use Rattle.mdr.specs.Escaping.{count-append}
+use Rattle.mdr.proofs.Escaping.{count-append}
 use Rattle.mdr.specs.Frame.{declaredOf, lastOf, computedOf, judged, bodied, unpackOf}
-use Rattle.mdr.specs.Wire.{judged-whole, wire-body}
+use Rattle.mdr.proofs.Wire.{judged-whole, wire-body}
 use Rattle.mdr.specs.Steps.{Minus, sentries, Measured, bytesOf, ahead, Sound, flawOf, ScannedIs, GotIs, HeaderIs, Summed, Bare, RefusedBy, Reads, inside}
 use Rattle.mdr.specs.declared.Got.{Got}
 use Rattle.mdr.specs.declared.Header.{Header}

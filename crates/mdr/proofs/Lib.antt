@@ -6,3 +6,8 @@ pub mod Judging
 pub mod Pairs
 pub mod Filling
 pub mod Escapes
+pub mod Glance
+pub mod Escaping
+pub mod Examples
+pub mod Wire
+pub mod Types

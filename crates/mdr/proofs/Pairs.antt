@@ -9,11 +9,13 @@ use lib.ListN.{length, getD, set, drop, length-set}
 use lib.Seq.{sets-eq}
 use lib.Dec.{eqb}
 use borrow.Author.Tests.{eqb-true, eq-eqb, ne-eqb}
-use Rattle.laws.specs.Choice.{splitB, split≡}
-use Rattle.laws.specs.Lists.{drop-step, drop-end}
-use Rattle.laws.specs.Stores.{Writes, writes-long, Emitting, emit-start, emit-turn, emit-end}
+use Rattle.laws.proofs.Choice.{splitB, split≡}
+use Rattle.laws.proofs.Lists.{drop-step, drop-end}
+use Rattle.laws.specs.Stores.{Writes, Emitting}
+use Rattle.laws.proofs.Stores.{writes-long, emit-start, emit-turn, emit-end}
 use Rattle.mdr.specs.Escape.{within, special, escapee, escape, unescape}
-use Rattle.mdr.specs.Escaping.{within-range, countIn, count-most, escape-length}
+use Rattle.mdr.specs.Escaping.{countIn}
+use Rattle.mdr.proofs.Escaping.{within-range, count-most, escape-length}
 use Rattle.mdr.specs.Steps.{OneIf, Joined, PairIs, Pair, PairIf, Paired, PairedIf, halves, twins, parted}
 use Rattle.mdr.proofs.Unescaping.{pushes}
 

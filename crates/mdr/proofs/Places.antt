@@ -6,11 +6,11 @@ use mathlib.Core.List.{List, [], _∷_}
 use native.Mathlib.Omega.{arith}
 use lib.ListN.{length, getD, drop}
 use borrow.Author.Tests.{eq-eqb, ne-eqb}
-use Rattle.laws.specs.Choice.{splitB, split≤}
-use Rattle.laws.specs.Lists.{drop-step, drop-end}
+use Rattle.laws.proofs.Choice.{splitB, split≤}
+use Rattle.laws.proofs.Lists.{drop-step, drop-end}
 use Rattle.laws.specs.Answers.{Outcome, gives, refuses}
 use Rattle.mdr.specs.Escape.{escapee, push, unescape, unescapeFrom}
-use Rattle.mdr.specs.Escaping.{within-range}
+use Rattle.mdr.proofs.Escaping.{within-range}
 use Rattle.mdr.specs.Steps.{bytesOf, ahead, GotIs}
 use Rattle.mdr.specs.declared.Got.{Got}
 

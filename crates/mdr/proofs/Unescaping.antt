@@ -7,11 +7,11 @@ use native.Mathlib.Omega.{arith}
 use lib.ListN.{length}
 use lib.Dec.{eqb}
 use borrow.Author.Tests.{eqb-true, eqb-false, ne-eqb}
-use Rattle.laws.specs.Choice.{splitB, no-way}
+use Rattle.laws.proofs.Choice.{splitB, no-way}
 use Rattle.laws.specs.Answers.{Outcome, gives, refuses}
 use Rattle.mdr.specs.Sum.{total}
 use Rattle.mdr.specs.Escape.{within, escapee, push, unescape, unescapeFrom}
-use Rattle.mdr.specs.Escaping.{within-range}
+use Rattle.mdr.proofs.Escaping.{within-range}
 use Rattle.mdr.specs.Steps.{sentries}
 
 -- the two tests for a 3D

@@ -6,5 +6,4 @@ pub mod Escaping
 pub mod Steps
 pub mod Wire
 pub mod Glance
-pub mod Examples
 pub mod Types

@@ -6,8 +6,10 @@ use native.Mathlib.Omega.{arith}
 use native.Mathlib.Numerals.{add-one}
 use lib.ListN.{length, set, take, length-set, replicate, length-replicate}
 use lib.Seq.{sets, set-comm}
-use Rattle.laws.specs.Stores.{Writes, writes-then, sets-append}
-use Rattle.names.specs.Digits.{hexDigit, hex2, decimal, decimal6, DigitCount, decimal-small, decimal-more, length-small, length-more, decimal-some, decimal-few}
+use Rattle.laws.specs.Stores.{Writes}
+use Rattle.laws.proofs.Stores.{writes-then, sets-append}
+use Rattle.names.specs.Digits.{hexDigit, hex2, decimal, decimal6, DigitCount}
+use Rattle.names.proofs.Digits.{decimal-small, decimal-more, length-small, length-more, decimal-some, decimal-few}
 
 pub hex-written : (d : List ℕ) (at b x y : ℕ) → x ≡ hexDigit (b / 16) → y ≡ hexDigit (b % 16) → Writes d at (hex2 b) (at + 2) (set (set d at x) (at + 1) y)
 unfolding hex2

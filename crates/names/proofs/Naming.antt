@@ -7,8 +7,9 @@ use lib.Dec.{leb, eqb}
 use lib.ListN.{length, getD, take, drop, length-drop}
 use lib.Seq.{length-take-le}
 use borrow.Author.Tests.{leb-true}
-use Rattle.laws.specs.Choice.{splitB}
-use Rattle.laws.specs.Answers.{accepted, refused, Outcome, gives, refuses, Meets, meets-refused, meets-short, meets-wrote, meets-as}
+use Rattle.laws.proofs.Choice.{splitB}
+use Rattle.laws.specs.Answers.{accepted, refused, Outcome, gives, refuses, Meets}
+use Rattle.laws.proofs.Answers.{meets-refused, meets-short, meets-wrote, meets-as}
 use Rattle.laws.specs.Stores.{Writes}
 use Rattle.mdr.specs.Escape.{unescape}
 use Rattle.mdr.specs.Frame.{lastOf, computedOf, declaredOf, payloadOf, judged, bodied, unpackOf}
@@ -18,7 +19,8 @@ use Rattle.mdr.specs.declared.Unpacked.the-variants as unpacked
 use Rattle.mdr.specs.declared.Inspected.{Inspected}
 use Rattle.mdr.specs.declared.Inspected.the-variants.{Sound, Unsound}
 use Rattle.names.specs.Names.{frameName, lookOf, lookAt, given, named, fixtureName}
-use Rattle.names.specs.Parts.{NameLen, length-frame-name, fixture-seen}
+use Rattle.names.specs.Parts.{NameLen}
+use Rattle.names.proofs.Parts.{length-frame-name, fixture-seen}
 use Rattle.names.specs.Told.{toldNamed, refusalOf}
 use Rattle.names.specs.declared.Frame.{Frame}
 use Rattle.names.specs.declared.Look.the-variants.{Seen, Unseen}

@@ -8,7 +8,7 @@ use lib.Dec.{leb}
 use lib.ListN.{length, getD, take, drop, length-append, length-drop, length-map}
 use lib.Seq.{take-at, drop-at, length-take-le}
 use borrow.Author.Tests.{leb-true}
-use Rattle.laws.specs.Choice.{splitB, no-way}
+use Rattle.laws.proofs.Choice.{splitB, no-way}
 use Rattle.laws.specs.Keys.{eqK}
 use Rattle.laws.specs.Lists.{flat}
 use Rattle.laws.specs.Stores.{Writes}

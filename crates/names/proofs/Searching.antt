@@ -9,7 +9,7 @@ use lib.Dec.{ltb, eqb, lit<, lit≤}
 use lib.ListN.{length, getD, take, drop, List·getD-append, drop-of-length-le}
 use lib.Seq.{getD-append-add, drop-cons}
 use borrow.Author.Tests.{ltb-true, eq-eqb, ne-eqb, lt-ltb, le-ltb}
-use Rattle.laws.specs.Choice.{splitB, split≡, split≤, no-way}
+use Rattle.laws.proofs.Choice.{splitB, split≡, split≤, no-way}
 use Rattle.laws.specs.Keys.{eqK}
 use Rattle.mdr.specs.declared.DataType.the-variants.{Unknown}
 use Rattle.mdr.specs.Types.{kinds}

@@ -4,12 +4,15 @@ use mathlib.Core.List.{List}
 use Prim.Native.Nat.{ℕ, _+_, _-_, _≤_}
 use native.Mathlib.Omega.{arith}
 use lib.ListN.{length}
-use Rattle.laws.specs.Stores.{Writes, writes-then}
+use Rattle.laws.specs.Stores.{Writes}
+use Rattle.laws.proofs.Stores.{writes-then}
 use Rattle.mdr.specs.Types.{typeOf}
 use Rattle.names.specs.Text.{ascii}
-use Rattle.names.specs.Digits.{decimal, decimal6, hex2, DigitCount, length-six}
+use Rattle.names.specs.Digits.{decimal, decimal6, hex2, DigitCount}
+use Rattle.names.proofs.Digits.{length-six}
 use Rattle.names.specs.Names.{typeName, commandName, wayName, frameName, nameLen}
-use Rattle.names.specs.Parts.{headOf, partOf, typePart, seqPart, commandPart, name-parts, NameLen}
+use Rattle.names.specs.Parts.{headOf, partOf, typePart, seqPart, commandPart, NameLen}
+use Rattle.names.proofs.Parts.{name-parts}
 use Rattle.names.specs.Run.{nameAt, Spot}
 use Rattle.mdr.specs.declared.DataType.{DataType}
 use Rattle.names.specs.declared.Frame.{Frame}

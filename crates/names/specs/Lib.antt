@@ -5,4 +5,3 @@ pub mod Names
 pub mod Run
 pub mod Parts
 pub mod Told
-pub mod Examples

@@ -6,15 +6,18 @@ use native.Mathlib.Nat.{zero-add}
 use native.Mathlib.Omega.{arith}
 use lib.ListN.{length, take, drop, length-append, length-drop, length-map}
 use lib.Seq.{sets, sets-eq, drop-at, drop-length, length-take-le}
-use Rattle.laws.specs.Choice.{splitB, split≤}
-use Rattle.laws.specs.Lists.{flat-append}
+use Rattle.laws.proofs.Choice.{splitB, split≤}
+use Rattle.laws.proofs.Lists.{flat-append}
 use Rattle.laws.specs.Numbers.{le32}
-use Rattle.laws.specs.Stores.{Writes, writes-long}
-use Rattle.words.specs.Words.{word, putWord, length-put}
-use Rattle.words.specs.Front.{front-sets, front-word}
+use Rattle.laws.specs.Stores.{Writes}
+use Rattle.laws.proofs.Stores.{writes-long}
+use Rattle.words.specs.Words.{word, putWord}
+use Rattle.words.proofs.Words.{length-put}
+use Rattle.words.proofs.Front.{front-sets, front-word}
 use Rattle.items.specs.Items.{item, Item, endAt, nameItem, nameList, nameTest}
-use Rattle.items.specs.Writing.{length-item, length-name}
-use Rattle.items.specs.Walks.{itemsFrom, namesFrom, Walks, Good, items-few, names-end, NameIs, name-is}
+use Rattle.items.proofs.Writing.{length-item, length-name}
+use Rattle.items.specs.Walks.{itemsFrom, namesFrom, Walks, Good, NameIs}
+use Rattle.items.proofs.Walks.{items-few, names-end, name-is}
 use Rattle.items.specs.declared.NamePart.{NamePart}
 use Rattle.sorting.specs.Names.{leName}
 use Rattle.sorting.specs.Sort.{insert, isort}

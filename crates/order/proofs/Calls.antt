@@ -8,9 +8,11 @@ use native.Mathlib.Omega.{arith}
 use lib.ListN.{length, getD, drop}
 use lib.Seq.{sets-eq, drop-length}
 use Rattle.laws.specs.Stores.{Writes}
-use Rattle.laws.specs.Answers.{accepted, gives, Meets, meets-refused, meets-short, meets-wrote}
+use Rattle.laws.specs.Answers.{accepted, gives, Meets}
+use Rattle.laws.proofs.Answers.{meets-refused, meets-short, meets-wrote}
 use Rattle.items.specs.Items.{nameList, nameTest, readItems}
-use Rattle.items.specs.Walks.{itemsFrom, namesFrom, Good, names-in, names-ill, checkOf, checked-good, checked-ill}
+use Rattle.items.specs.Walks.{itemsFrom, namesFrom, Good, checkOf}
+use Rattle.items.proofs.Walks.{names-in, names-ill, checked-good, checked-ill}
 use Rattle.items.specs.declared.Checked.{Checked}
 use Rattle.items.specs.declared.Checked.the-variants.{Well as CheckedWell, Ill as CheckedIll}
 use Rattle.order.specs.declared.Ordered.the-variants.{IllFormed, OutShort}

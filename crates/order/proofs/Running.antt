@@ -7,10 +7,12 @@ use Prim.Native.Nat.{ℕ, _<_, _≤_}
 use native.Mathlib.Omega.{arith}
 use lib.ListN.{length}
 use borrow.Author.Tests.{le-leb, eq-eqb, ne-eqb}
-use Rattle.laws.specs.Choice.{splitB, no-way}
+use Rattle.laws.proofs.Choice.{splitB, no-way}
 use Rattle.items.specs.Items.{itemAt, endAt, Test, isItem, wellFormed, nameTest, readItems}
-use Rattle.items.specs.Reading.{readFrom, read-good, read-end}
-use Rattle.items.specs.Walks.{stepAt, passAt, held, itemsFrom, namesFrom, Walks, Good, good-fits, end-past}
+use Rattle.items.specs.Reading.{readFrom}
+use Rattle.items.proofs.Reading.{read-good, read-end}
+use Rattle.items.specs.Walks.{stepAt, passAt, held, itemsFrom, namesFrom, Walks, Good}
+use Rattle.items.proofs.Walks.{good-fits, end-past}
 use Rattle.items.specs.declared.Step.{Step}
 use Rattle.items.specs.declared.Step.the-variants.{Whole}
 use Rattle.items.proofs.Steps.{pass-to, pass-not}

@@ -6,11 +6,12 @@ use native.Mathlib.Omega.{arith}
 use lib.ListN.{length, getD, take, drop, length-drop, take-append-drop}
 use lib.Seq.{drop-drop, length-take-le}
 use borrow.Author.Tests.{eqb-true}
-use Rattle.laws.specs.Choice.{split≤}
-use Rattle.laws.specs.Lists.{drop-step, drop-end}
+use Rattle.laws.proofs.Choice.{split≤}
+use Rattle.laws.proofs.Lists.{drop-step, drop-end}
 use Rattle.laws.specs.Numbers.{le, le16, le32}
 use Rattle.items.specs.Items.{item, itemAt, nameItem, nameList, nameTest}
-use Rattle.items.specs.Walks.{namesFrom, Walks, walks-turn, names-end, name-is}
+use Rattle.items.specs.Walks.{namesFrom, Walks}
+use Rattle.items.proofs.Walks.{walks-turn, names-end, name-is}
 
 three : (a b : ℕ) → a < 256 → b < 256 → a + 256 * b ≡ 3 → (a ≡ 3) × (b ≡ 0)
 three a b p q e = (omega arith, omega arith)

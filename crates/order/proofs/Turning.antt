@@ -5,10 +5,12 @@ use Prim.Native.Nat.{ℕ, _+_, _-_, _≤_}
 use native.Mathlib.Omega.{arith}
 use lib.ListN.{length, take, drop, length-drop}
 use lib.Seq.{drop-length, length-take-le}
-use Rattle.laws.specs.Stores.{Writes, writes-long}
+use Rattle.laws.specs.Stores.{Writes}
+use Rattle.laws.proofs.Stores.{writes-long}
 use Rattle.items.specs.Items.{item, nameItem, nameList, nameTest}
-use Rattle.items.specs.Writing.{length-item}
-use Rattle.items.specs.Walks.{namesFrom, Walks, names-end, NameIs}
+use Rattle.items.proofs.Writing.{length-item}
+use Rattle.items.specs.Walks.{namesFrom, Walks, NameIs}
+use Rattle.items.proofs.Walks.{names-end}
 use Rattle.items.specs.declared.NamePart.{NamePart}
 use Rattle.sorting.specs.Chains.{back}
 use Rattle.order.specs.Steps.{Backed}

@@ -9,7 +9,7 @@ use lib.ListN.{length, drop, length-append, length-drop, drop-of-length-le}
 use lib.Seq.{take-append-le}
 use lib.Dec.{leb, eqb}
 use borrow.Author.Tests.{le-leb, leb-true}
-use Rattle.laws.specs.Choice.{splitB, no-way}
+use Rattle.laws.proofs.Choice.{splitB, no-way}
 use Rattle.laws.specs.Numbers.{be32}
 use Rattle.container.specs.Container.{Lawful}
 use Rattle.container.specs.Packets.{Packet, h4Packet}

@@ -1,29 +1,19 @@
 -- What the PDU of a row is: the code's verdict against the kind that is defined.
-use Prim.Native.Nat.{ℕ, zero, suc, _+_, _-_, _*_, _<_, _≤_}
-use mathlib.Core.Path.{_≡_, refl, sym, ap, _∙_}
-use mathlib.Core.Bool.{Bool, true, false, cond, _&&_}
-use mathlib.Core.List.{List, [], _∷_}
-use native.Mathlib.Omega.{arith}
-use lib.ListN.{length, getD, take, drop, length-drop}
-use lib.Seq.{length-take-le}
-use lib.Dec.{eqb, ltb}
-use borrow.Author.Tests.{eq-eqb, ne-eqb, lt-ltb, le-ltb, eqb-true, eqb-false}
-use Rattle.laws.specs.Choice.{splitB, split≡}
+use Prim.Native.Nat.{ℕ, _+_, _-_, _<_, _≤_}
+use mathlib.Core.Path.{_≡_}
+use mathlib.Core.Bool.{cond}
+use mathlib.Core.List.{List}
+use lib.ListN.{take, drop}
+use lib.Dec.{eqb}
 use Rattle.words.specs.Words.{word}
-use Rattle.btsnoop.proofs.Parts.{part-part}
-use Rattle.l2cap.specs.Pdus.{Pdu}
-use Rattle.l2cap.specs.PduTable.{pduAt, Inside}
-use Rattle.l2cap.specs.PduFrames.{Lent, payload-length, link-at, rx-at, cid-at}
+use Rattle.l2cap.specs.PduTable.{pduAt}
+use Rattle.l2cap.specs.PduFrames.{Lent}
 use Rattle.channels.specs.Signals.{Signal}
-use Rattle.channels.specs.Channels.{isTried, asksSession}
 use Rattle.channels.specs.ChannelTable.{Tells}
-use Rattle.channels.specs.Passing.{Tries, Judged}
-use Rattle.rfcomm.specs.Frames.{Uih as UihFrame, Frame as FrameRead, sabm, uih, other, frameOf}
-use Rattle.rfcomm.specs.Pieces.{Kind, asks, opens, carries, passed, uihKind, frameKind, kindOf}
-use Rattle.rfcomm.specs.Reading.{uihAt, frameShown, Lies, FrameIs}
+use Rattle.channels.specs.Passing.{Tries}
+use Rattle.rfcomm.specs.Frames.{frameOf}
+use Rattle.rfcomm.specs.Pieces.{Kind, asks, opens, carries, passed, frameKind, kindOf}
 use Rattle.rfcomm.specs.declared.Uih.{Uih}
-use Rattle.rfcomm.specs.declared.Frame.{Frame}
-use Rattle.rfcomm.specs.declared.Frame.the-variants.{Sabm, Uih as Found, Other}
 use Rattle.rfcomm.specs.declared.Info.{Info}
 use Rattle.rfcomm.specs.declared.Verdict.{Verdict}
 use Rattle.rfcomm.specs.declared.Verdict.the-variants.{Asks, Opens, Carries, Passed}
@@ -55,74 +45,9 @@ placedUih w row u =
     (cond (eqb (u .len) 0) Passed
     (Carries (record { dlci = u .dlci; start = word w (row + 3) + u .start; len = u .len; joined = cond (eqb (word w (row + 2)) 1) 1 0 })))
 
-module _ (w : List ℕ) (row : ℕ) (u : Uih) where
-  pub placed-zero : u .dlci ≡ 0 → Passed ≡ placedUih w row u
-  unfolding placedUih
-  placed-zero e = rw (eq-eqb (u .dlci) 0 e)
-
-  pub placed-empty : (u .dlci ≡ 0 → ⊥) → u .len ≡ 0 → Passed ≡ placedUih w row u
-  unfolding placedUih
-  placed-empty n e = rw (ne-eqb (u .dlci) 0 n, eq-eqb (u .len) 0 e)
-
-  pub placed-info : (u .dlci ≡ 0 → ⊥) → (u .len ≡ 0 → ⊥) → (a j p s : ℕ) → a ≡ word w (row + 2) → j ≡ cond (eqb a 1) 1 0 → p ≡ word w (row + 3) → s ≡ p → Carries (record { dlci = u .dlci; start = s + u .start; len = u .len; joined = j }) ≡ placedUih w row u
-  unfolding placedUih
-  placed-info n m a j p s ea ej ep es = rw (ne-eqb (u .dlci) 0 n, ne-eqb (u .len) 0 m, es, ep, ej, ea)
-
 pub record FrameVerdict (f w : List ℕ) (row : ℕ) (r : Verdict) : Type 0 where
   pub shows : frameKind (frameOf (pduAt f w row .payload)) ≡ kindShown f w r
   pub borne : Borne w row r
-
-module _ (f w : List ℕ) (row : ℕ) (l : Lent f w row) (p : List ℕ) (ep : p ≡ pduAt f w row .payload) (x : Frame) (is : FrameIs p x) where
-  frame-as : (y : Frame) → x ≡ y → FrameIs (pduAt f w row .payload) y
-  frame-as y e = rw (ep, e) at is
-
-  pub verdict-sabm : (d : ℕ) → x ≡ Sabm d → FrameVerdict f w row (Opens d)
-  unfolding frameShown kindShown frameKind
-  verdict-sabm d e = let i = frame-as (Sabm d) e in record { shows = rw (i .shows); borne = i .lies }
-
-  pub verdict-other : x ≡ Other → FrameVerdict f w row Passed
-  unfolding frameShown kindShown frameKind
-  verdict-other e = let i = frame-as Other e in record { shows = rw (i .shows); borne = tt }
-
-  module _ (u : Uih) (e : x ≡ Found u) where
-    lies : Lies (pduAt f w row .payload) (Found u)
-    lies = frame-as (Found u) e .lies
-
-    pub verdict-start : u .start ≤ 5
-    verdict-start = lies .4
-
-    info-length : length (take (u .len) (drop (u .start) (pduAt f w row .payload))) ≡ u .len
-    info-length = length-take-le (u .len) (drop (u .start) (pduAt f w row .payload)) (simp length-drop (omega (arith, lies .2)))
-
-    -- the information, in the file or in work
-    info-is : take (u .len) (drop (u .start) (pduAt f w row .payload)) ≡ take (u .len) (drop (word w (row + 3) + u .start) (cond (eqb (cond (eqb (word w (row + 2)) 1) 1 0) 1) w f))
-    unfolding pduAt
-    info-is =
-        let n : u .start + u .len ≤ word w (row + 4) = omega (arith, lies .2, payload-length f w row l) in
-        splitB (eqb (word w (row + 2)) 1)
-        (λ t. rw t (part-part w (word w (row + 3)) (word w (row + 4)) (u .start) (u .len) n))
-        (λ t. rw t (part-part f (word w (row + 3)) (word w (row + 4)) (u .start) (u .len) n))
-
-    kind-is : frameKind (frameOf (pduAt f w row .payload)) ≡ cond (ltb 0 (u .dlci) && ltb 0 (u .len)) (carries (u .dlci) (take (u .len) (drop (word w (row + 3) + u .start) (cond (eqb (cond (eqb (word w (row + 2)) 1) 1 0) 1) w f)))) passed
-    unfolding frameShown frameKind uihKind uihAt
-    kind-is = rw (frame-as (Found u) e .shows, info-length, info-is)
-
-    pub verdict-uih : (r : Verdict) → r ≡ placedUih w row u → FrameVerdict f w row r
-    unfolding placedUih kindShown
-    verdict-uih r q =
-        split≡ (u .dlci) 0
-        (λ z. let v : r ≡ Passed = q ∙ rw (eq-eqb (u .dlci) 0 z) in rw v (record { shows = kind-is ∙ rw (le-ltb 0 (u .dlci) (omega arith)); borne = tt }))
-        (λ z. split≡ (u .len) 0
-        (λ y. let v : r ≡ Passed = q ∙ rw (ne-eqb (u .dlci) 0 z, eq-eqb (u .len) 0 y) in rw v (record { shows = kind-is ∙ rw (lt-ltb 0 (u .dlci) (pos (u .dlci) z), le-ltb 0 (u .len) (omega arith)); borne = tt }))
-        (λ y.
-        let v : r ≡ Carries (record { dlci = u .dlci; start = word w (row + 3) + u .start; len = u .len; joined = cond (eqb (word w (row + 2)) 1) 1 0 }) = q ∙ rw (ne-eqb (u .dlci) 0 z, ne-eqb (u .len) 0 y) in
-        rw v (record {
-          shows = kind-is ∙ rw (lt-ltb 0 (u .dlci) (pos (u .dlci) z), lt-ltb 0 (u .len) (pos (u .len) y));
-          borne = record { least = pos (u .dlci) z; most = lies .0; few = lies .3; inside = omega (arith, lies .2, payload-length f w row l); less = omega (arith, lies .1, lies .2, payload-length f w row l); joined = refl };
-        }))) where
-          pos : (n : ℕ) → (n ≡ 0 → ⊥) → 0 < n
-          pos zero h = absurd (h refl)
-          pos (suc n) h = omega arith
 
 -- ---- the PDU
 
@@ -134,28 +59,3 @@ pub record JudgePre (f w : List ℕ) (row q n : ℕ) : Type 0 where
 pub record VerdictIs (f w : List ℕ) (row b n : ℕ) (r : Verdict) : Type 0 where
   pub shows : (ss : List Signal) → Tells ss w b n → kindOf ss (pduAt f w row) ≡ kindShown f w r
   pub borne : Borne w row r
-
-module _ (f w : List ℕ) (row q n : ℕ) (pre : JudgePre f w row q n) (t : Bool) (e : t ≡ asksSession (pduAt f w row)) where
-  pub judged-asks : t ≡ true → VerdictIs f w row (3 * q) n Asks
-  unfolding kindOf kindShown
-  judged-asks z = record { shows = λ ss x. rw (sym e ∙ z); borne = tt }
-
-  module _ (z₀ : t ≡ false) (side cid : ℕ) (es : side ≡ word w row) (ec : cid ≡ word w (row + 1)) (s : Bool) (j : Judged w (3 * q) n side cid s) where
-    tried : (ss : List Signal) → Tells ss w (3 * q) n → s ≡ isTried ss (pduAt f w row)
-    tried ss x = j .right ss (pduAt f w row) x (link-at f w row ∙ rw es) (rx-at f w row ∙ rw es) (cid-at f w row ∙ rw ec) (rw ec (pre .lent .inside .cid))
-
-    pub judged-passed : s ≡ false → VerdictIs f w row (3 * q) n Passed
-    unfolding kindOf kindShown
-    judged-passed z = record { shows = λ ss x. rw (sym e ∙ z₀, sym (tried ss x) ∙ z); borne = tt }
-
-    pub judged-frame : s ≡ true → (r : Verdict) → FrameVerdict f w row r → VerdictIs f w row (3 * q) n r
-    unfolding kindOf
-    judged-frame z r v = record { shows = λ ss x. rw (sym e ∙ z₀, sym (tried ss x) ∙ z) (v .shows); borne = v .borne }
-
--- what a verdict says of its numbers
-module _ (f w : List ℕ) (row b n : ℕ) (v : Verdict) (is : VerdictIs f w row b n v) where
-  pub opens-small : (d : ℕ) → v ≡ Opens d → d < 64
-  opens-small d e = rw e at (is .borne)
-
-  pub carries-held : (i : Info) → v ≡ Carries i → Carried w row i
-  carries-held i e = rw e at (is .borne)

@@ -1,8 +1,7 @@
 -- Sessions and links for each handle, and the pieces of information with the stretch that each belongs to.
 use Prim.Native.Nat.{ℕ, zero, suc, _+_}
-use mathlib.Core.Bool.{Bool, cond, _&&_}
-use mathlib.Core.Path.{_≡_, refl}
-use mathlib.Core.List.{List, [], _∷_, _++_, map}
+use mathlib.Core.Bool.{cond, _&&_}
+use mathlib.Core.List.{List, [], _∷_, _++_}
 use lib.ListN.{length}
 use lib.Dec.{ltb, eqb}
 use Rattle.laws.specs.Keys.{Key}
@@ -60,15 +59,6 @@ kindOf ss p = cond (asksSession p) asks (cond (isTried ss p) (frameKind (frameOf
 
 abbrev pub told : List Signal → Pdu → Judged
 told ss p = record { pdu = p; kind = kindOf ss p }
-
-from-source : (all before ps : List Pdu) → judgedFrom source all before ps ≡ map (told (signals all)) ps
-unfolding judgedFrom kindBy triedBy kindOf
-from-source all before [] = refl
-from-source all before (p ∷ ps) = rw (from-source all (before ++ (p ∷ [])) ps)
-
-pub judged-is : (ps : List Pdu) → judged ps ≡ map (told (signals ps)) ps
-unfolding judged judgedBy
-judged-is ps = from-source ps [] ps
 
 -- sessions of a handle, and links of that handle for each DLCI
 pub record Counts : Type 0 where

@@ -8,8 +8,8 @@ use lib.ListN.{length, getD, take, drop, length-drop}
 use lib.Seq.{drop-drop, length-take-le}
 use lib.Dec.{eqb}
 use borrow.Author.Tests.{eq-eqb, ne-eqb}
-use Rattle.laws.specs.Choice.{splitB, split≡, no-way}
-use Rattle.laws.specs.Lists.{drop-step, drop-end}
+use Rattle.laws.proofs.Choice.{splitB, split≡, no-way}
+use Rattle.laws.proofs.Lists.{drop-step, drop-end}
 use Rattle.search.specs.Seek.{seek}
 use Rattle.search.specs.Steps.{OneIf, Without, Among, Short, Passed, Sought}
 

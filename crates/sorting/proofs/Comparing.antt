@@ -7,7 +7,7 @@ use Prim.Native.Nat.{ℕ, _<_, _≤_}
 use native.Mathlib.Omega.{arith}
 use lib.Dec.{ltb}
 use borrow.Author.Tests.{eq-eqb, ne-eqb, lt-ltb}
-use Rattle.laws.specs.Choice.{split≤, no-way}
+use Rattle.laws.proofs.Choice.{split≤, no-way}
 use Rattle.words.specs.Words.{word}
 use Rattle.counter.specs.Counter.{counter, rank}
 use Rattle.counter.proofs.Reading.{rank-most}

@@ -6,7 +6,7 @@ use Prim.Native.Nat.{ℕ, _<_, _≤_}
 use native.Mathlib.Omega.{arith}
 use lib.Dec.{ltb, eqb}
 use borrow.Author.Tests.{eq-eqb, ne-eqb, lt-ltb, ltb-true, ltb-false}
-use Rattle.laws.specs.Choice.{split≡, no-way}
+use Rattle.laws.proofs.Choice.{split≡, no-way}
 use Rattle.counter.specs.Counter.{counter, rank}
 use Rattle.lexical.specs.Bytes.{leBytes}
 use Rattle.sorting.specs.Names.{leName}

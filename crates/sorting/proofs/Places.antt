@@ -9,8 +9,9 @@ use native.Mathlib.Omega.{arith}
 use lib.ListN.{length, take, drop, length-drop, drop-of-length-le}
 use lib.Seq.{take-all, take-nil, drop-length}
 use Rattle.laws.specs.Numbers.{le32}
-use Rattle.laws.specs.Choice.{split≤}
-use Rattle.words.specs.Words.{word, putWord, length-put, word-put-same, word-put-other}
+use Rattle.laws.proofs.Choice.{split≤}
+use Rattle.words.specs.Words.{word, putWord}
+use Rattle.words.proofs.Words.{length-put, word-put-same, word-put-other}
 use Rattle.sorting.specs.Sort.{insert, isort, merge}
 use Rattle.sorting.specs.Steps.{nameAt, HeadOf, firstOf, leAt, words, Kept, Apart, Copies, Rotates, HeadIs, MergePre, Merges, Halves, Joins, Pairs, Sorts}
 use Rattle.sorting.specs.declared.Head.{Head}

@@ -2,7 +2,7 @@
 use mathlib.Core.Path.{_≡_, refl, sym, ap, _∙_}
 use mathlib.Core.Bool.{Bool, true, false}
 use mathlib.Core.List.{List, [], _∷_, _++_, map}
-use Rattle.laws.specs.Choice.{splitB, no-way}
+use Rattle.laws.proofs.Choice.{splitB, no-way}
 use Rattle.sorting.specs.Sort.{insert, isort, merge}
 use Rattle.sorting.specs.Chains.{Chain, chain-nil, chain-one, chain-more, back}
 use Rattle.laws.specs.Lists.{All, all-nil, all-cons}

@@ -8,13 +8,14 @@ use lib.ListN.{length, take, drop, length-drop}
 use lib.Seq.{drop-drop, length-take-le}
 use lib.Dec.{ltb}
 use borrow.Author.Tests.{lt-ltb, le-ltb}
-use Rattle.laws.specs.Stores.{Writes, Emitting, emit-start, emit-turn, emit-room, emit-end}
+use Rattle.laws.specs.Stores.{Writes, Emitting}
+use Rattle.laws.proofs.Stores.{emit-start, emit-turn, emit-room, emit-end}
 use Rattle.items.specs.Items.{span, spanItem, spanList}
-use Rattle.items.specs.Writing.{length-span, spans-none as list-none, spans-more as list-more}
+use Rattle.items.proofs.Writing.{length-span, spans-none as list-none, spans-more as list-more}
 use Rattle.search.specs.Seek.{seek}
 use Rattle.search.specs.Steps.{Sought}
 use Rattle.spans.specs.Scan.{begun, ended, spansOf, restOf}
-use Rattle.spans.specs.Scanning.{spans-more, spans-none, rest-more, rest-none}
+use Rattle.spans.proofs.Scanning.{spans-more, spans-none, rest-more, rest-none}
 use Rattle.spans.specs.Parts.{SpanAt, RestAt, After, NextIs, tallyOne, tallyAll, Room, CountedIs, tagged, WritePre, WroteIs}
 use Rattle.spans.specs.declared.Next.{Next}
 use Rattle.spans.specs.declared.Next.the-variants.{Span as SpanFrom, Rest}

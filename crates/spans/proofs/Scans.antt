@@ -8,13 +8,15 @@ use lib.ListN.{length, getD, take, drop, length-append, length-drop}
 use lib.Seq.{length-take-le, take-all}
 use lib.Dec.{eqb, ltb}
 use borrow.Author.Tests.{eqb-true, eq-eqb, ne-eqb, lt-ltb, le-ltb}
-use Rattle.laws.specs.Choice.{splitB, split≡, no-way}
-use Rattle.laws.specs.Lists.{drop-step, drop-end}
+use Rattle.laws.proofs.Choice.{splitB, split≡, no-way}
+use Rattle.laws.proofs.Lists.{drop-step, drop-end}
 use Rattle.mdr.specs.Frame.{unpacksOf}
 use Rattle.spans.specs.Scan.{begun, end, ended, spansN, restN, spansOf, restOf}
 use Rattle.search.specs.Seek.{seek}
-use Rattle.spans.specs.Scanning.{shorter, rest-more}
-use Rattle.spans.specs.Bytewise.{Quiet, no-end, no-start, closes-first}
+use Rattle.spans.specs.Scanning.{shorter}
+use Rattle.spans.proofs.Scanning.{rest-more}
+use Rattle.spans.specs.Bytewise.{Quiet}
+use Rattle.spans.proofs.Bytewise.{no-end, no-start, closes-first}
 use Rattle.spans.specs.Parts.{bit, tallyOne, tallyAll, Room, CountedIs}
 use Rattle.search.specs.Steps.{Sought}
 use Rattle.spans.specs.Scans.{UpTo, ScanPre, Begins, AddedIs, FirstPre, FirstIs, FromPre, OpenPre, OpenIs, ScannedIs}

@@ -19,7 +19,7 @@ use Rattle.spans.specs.Spans.{scanner, emptied, onDlci}
 use Rattle.spans.specs.Parts.{tagged}
 use Rattle.split.specs.Last.{lastn}
 use Rattle.split.specs.Rows.{piece, dlciAt, tailAt, keyAt, heldIn, streamOf, opened, Fits, joined, ahead, keysTo, liveTo, Laid}
-use Rattle.split.specs.Fronts.{table-front}
+use Rattle.split.proofs.Fronts.{table-front}
 use Rattle.split.specs.declared.Plan.{Plan}
 use Rattle.split.proofs.Lasts.{lastn-zero}
 use Rattle.split.proofs.Tables.{piece-key, piece-bytes}

@@ -5,7 +5,7 @@ use mathlib.Core.List.{List, [], _∷_, _++_, append-assoc}
 use native.Mathlib.Omega.{arith}
 use lib.ListN.{length, set, take, drop}
 use lib.Seq.{sets, sets-eq, set-comm, drop-at, take-at, length-take-le}
-use Rattle.laws.specs.Stores.{sets-append}
+use Rattle.laws.proofs.Stores.{sets-append}
 
 -- one store below a run of stores
 set-sets : (vs l : List ℕ) (i j x : ℕ) → i < j → set (sets l j vs) i x ≡ sets (set l i x) j vs

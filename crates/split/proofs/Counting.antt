@@ -8,21 +8,23 @@ use native.Mathlib.Numerals.{add-one}
 use lib.ListN.{length, take, drop, length-append}
 use lib.Dec.{eqb, ltb}
 use borrow.Author.Tests.{eq-eqb, ne-eqb}
-use Rattle.laws.specs.Choice.{splitB, split≡, no-way}
+use Rattle.laws.proofs.Choice.{splitB, split≡, no-way}
 use Rattle.laws.specs.Keys.{Key}
 use Rattle.laws.specs.Keyed.{step, run, after}
 use Rattle.laws.specs.Count.{count, nub}
 use Rattle.words.specs.Words.{word}
-use Rattle.words.specs.Front.{Front, front-refl, front-then}
+use Rattle.words.specs.Front.{Front}
+use Rattle.words.proofs.Front.{front-refl, front-then}
 use Rattle.items.specs.Items.{Span, spanItem, spanList}
-use Rattle.items.specs.Writing.{length-span, spans-none, spans-more}
+use Rattle.items.proofs.Writing.{length-span, spans-none, spans-more}
 use Rattle.mdr.specs.Frame.{unpacksOf}
 use Rattle.channels.specs.Channels.{any}
 use Rattle.spans.specs.Scan.{spansOf, restOf}
 use Rattle.search.specs.Seek.{seek}
 use Rattle.spans.specs.Spans.{scanner, emptied, spans, unfinished}
 use Rattle.spans.specs.Parts.{tagged, bit, tallyOne, tallyAll, Room, CountedIs}
-use Rattle.spans.specs.Bytewise.{AllQuiet, quiet-emptied}
+use Rattle.spans.specs.Bytewise.{AllQuiet}
+use Rattle.spans.proofs.Bytewise.{quiet-emptied}
 use Rattle.spans.specs.Scans.{ScanPre, ScannedIs}
 use Rattle.spans.proofs.Scans.{seek-le, silent, silent-rest}
 use Rattle.spans.specs.declared.Tally.{Tally}
@@ -30,7 +32,7 @@ use Rattle.spans.specs.declared.Counted.{Counted}
 use Rattle.spans.specs.declared.Scanned.{Scanned}
 use Rattle.split.specs.Rows.{piece, dlciAt, tailAt, lenAt, bytesAt, heldIn, heldOf, streamOf, streamTo, opened, Fits, joined, cappedLength, ahead, all, keysTo, liveTo, sign, Laid}
 use Rattle.split.specs.Walks.{Row, JoinPre, Joined, Kept, Noted, AllTold, Moved, OpenPre, CountPre, CountHeld, Known, Behind, Stepped, CountIs}
-use Rattle.split.specs.Fronts.{dlci-front, tail-front, keys-front, bytes-front, laid-front}
+use Rattle.split.proofs.Fronts.{dlci-front, tail-front, keys-front, bytes-front, laid-front}
 use Rattle.split.specs.declared.Plan.{Plan}
 use Rattle.split.specs.declared.Sums.{Sums}
 use Rattle.split.specs.Last.{lastn}

@@ -7,15 +7,16 @@ use mathlib.Core.Logic.{_≢_}
 use native.Mathlib.Omega.{arith}
 use lib.ListN.{length, getD, set, take, drop, length-append, length-drop, length-set}
 use lib.Seq.{sets, length-sets, length-take-le, take-all, drop-drop, drop-cons, getD-set-other}
-use Rattle.laws.specs.Choice.{split≡}
+use Rattle.laws.proofs.Choice.{split≡}
 use Rattle.laws.specs.Keys.{Key}
 use Rattle.laws.specs.Stores.{Writes}
-use Rattle.words.specs.Front.{Front, front-refl, front-then, front-sets, part-take}
+use Rattle.words.specs.Front.{Front}
+use Rattle.words.proofs.Front.{front-refl, front-then, front-sets, part-take}
 use Rattle.rfcomm.specs.PieceTable.{infosOf}
 use Rattle.split.specs.Last.{lastn}
 use Rattle.split.specs.Rows.{keyAt, lenAt, startAt, inWork, bytesAt, streamOf, streamTo, Laid}
 use Rattle.split.specs.Walks.{Row, Chain, Earlier, PutPre, GatherPre, OutPre, GatherOut}
-use Rattle.split.specs.Fronts.{len-front, bytes-front, laid-front}
+use Rattle.split.proofs.Fronts.{len-front, bytes-front, laid-front}
 use Rattle.split.specs.declared.Plan.{Plan}
 use Rattle.split.proofs.Backs.{sets-back}
 use Rattle.split.proofs.Lasts.{length-lastn, lastn-zero, lastn-append}

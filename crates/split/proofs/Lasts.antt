@@ -8,8 +8,8 @@ use lib.ListN.{length, take, drop, length-append, length-drop, take-append-drop}
 use lib.Seq.{drop-append-le, drop-append-add, drop-drop, drop-length}
 use lib.Dec.{leb}
 use borrow.Author.Tests.{le-leb, lt-leb}
-use Rattle.laws.specs.Choice.{splitB, split≤}
-use Rattle.laws.specs.Lists.{drop-end}
+use Rattle.laws.proofs.Choice.{splitB, split≤}
+use Rattle.laws.proofs.Lists.{drop-end}
 use Rattle.search.specs.Seek.{seek}
 use Rattle.spans.specs.Scan.{begun, end, ended, restN, restOf, capped}
 use Rattle.split.specs.Last.{lastn}

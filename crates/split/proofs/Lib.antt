@@ -8,3 +8,4 @@ pub mod Steps
 pub mod Aheads
 pub mod Counting
 pub mod Writing
+pub mod Fronts

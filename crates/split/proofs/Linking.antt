@@ -6,7 +6,8 @@ use native.Mathlib.Omega.{arith}
 use lib.ListN.{length, getD}
 use lib.Dec.{eqb}
 use borrow.Author.Tests.{eq-eqb, ne-eqb}
-use Rattle.laws.specs.Keys.{Key, eqK, splitK, eq-eqK, ne-eqK}
+use Rattle.laws.specs.Keys.{Key, eqK}
+use Rattle.laws.proofs.Keys.{splitK, eq-eqK, ne-eqK}
 use Rattle.words.specs.Words.{word}
 use Rattle.table.specs.Chain.{newest}
 use Rattle.classes.specs.Classes.{keyAt as wordsAt}

@@ -10,12 +10,15 @@ use lib.ListN.{length, take, drop, length-append}
 use lib.Seq.{sets, length-sets, take-all}
 use lib.Dec.{ltb}
 use borrow.Author.Tests.{eq-eqb}
-use Rattle.laws.specs.Choice.{split≡}
-use Rattle.laws.specs.Keys.{Key, splitK, eq-eqK, ne-eqK}
+use Rattle.laws.proofs.Choice.{split≡}
+use Rattle.laws.specs.Keys.{Key}
+use Rattle.laws.proofs.Keys.{splitK, eq-eqK, ne-eqK}
 use Rattle.laws.specs.Keyed.{step}
-use Rattle.laws.specs.Stores.{sets-append}
-use Rattle.words.specs.Words.{word, putWord, length-put, word-put-same, word-put-other}
-use Rattle.words.specs.Front.{Front, front-refl, front-then, front-less, front-put, front-sets, front-word}
+use Rattle.laws.proofs.Stores.{sets-append}
+use Rattle.words.specs.Words.{word, putWord}
+use Rattle.words.proofs.Words.{length-put, word-put-same, word-put-other}
+use Rattle.words.specs.Front.{Front}
+use Rattle.words.proofs.Front.{front-refl, front-then, front-less, front-put, front-sets, front-word}
 use Rattle.rfcomm.specs.PieceTable.{infosOf}
 use Rattle.spans.specs.Scan.{restOf, capped}
 use Rattle.search.specs.Seek.{seek}
@@ -25,7 +28,7 @@ use Rattle.spans.proofs.Scans.{rest-le}
 use Rattle.split.specs.Last.{lastn}
 use Rattle.split.specs.Rows.{rowOf, piece, dlciAt, tailAt, keyAt, lenAt, bytesAt, streamOf, heldIn, heldOf, streamTo, opened, Fits, joined, cappedLength, keysTo, liveTo, sign, Laid}
 use Rattle.split.specs.Walks.{Row, PutPre, JoinPre, Joined, Kept, Noted, Told, AllTold, Moved}
-use Rattle.split.specs.Fronts.{dlci-front, tail-front, key-front, len-front, bytes-front, stream-front, held-front, keys-front, laid-front}
+use Rattle.split.proofs.Fronts.{dlci-front, tail-front, key-front, len-front, bytes-front, stream-front, held-front, keys-front, laid-front}
 use Rattle.split.specs.declared.Plan.{Plan}
 use Rattle.split.proofs.Backs.{part-sets}
 use Rattle.split.proofs.Lasts.{length-lastn, lastn-lastn, capped-le, capped-back}

@@ -8,8 +8,9 @@ use native.Mathlib.Numerals.{add-one}
 use lib.ListN.{length, take, drop, length-append, length-drop}
 use lib.Seq.{length-take-le}
 use lib.Dec.{eqb}
-use Rattle.laws.specs.Choice.{splitB, split≡, no-way}
-use Rattle.laws.specs.Keys.{Key, eqK, splitK, eqK-true, eq-eqK, ne-eqK}
+use Rattle.laws.proofs.Choice.{splitB, split≡, no-way}
+use Rattle.laws.specs.Keys.{Key, eqK}
+use Rattle.laws.proofs.Keys.{splitK, eqK-true, eq-eqK, ne-eqK}
 use Rattle.laws.specs.Count.{mem}
 use Rattle.words.specs.Words.{word}
 use Rattle.words.specs.Front.{Front}
@@ -17,7 +18,7 @@ use Rattle.rfcomm.specs.Pieces.{Piece}
 use Rattle.rfcomm.specs.PieceTable.{pieceAt, infosOf}
 use Rattle.split.specs.Rows.{piece, dlciAt, tailAt, keyAt, lenAt, startAt, inWork, bytesAt, streamOf, heldIn, heldOf, keysTo, newestOf, Laid}
 use Rattle.split.specs.Walks.{Row, Chain, Earlier}
-use Rattle.split.specs.Fronts.{key-front, newest-front}
+use Rattle.split.proofs.Fronts.{key-front, newest-front}
 use Rattle.split.specs.declared.Plan.{Plan}
 
 pub laid-row : (f w : List ℕ) (p : Plan) (i : ℕ) → Laid f w p → i < p .n → Row w p i

@@ -9,18 +9,20 @@ use lib.Seq.{sets, length-sets, length-take-le, take-all}
 use borrow.Author.Tests.{lt-ltb}
 use Rattle.laws.specs.Numbers.{le}
 use Rattle.laws.specs.Keyed.{run}
-use Rattle.laws.specs.Stores.{Writes, sets-append, writes-then, writes-long, Emitting, emit-start, emit-turn, emit-room, emit-end}
+use Rattle.laws.specs.Stores.{Writes, Emitting}
+use Rattle.laws.proofs.Stores.{sets-append, writes-then, writes-long, emit-start, emit-turn, emit-room, emit-end}
 use Rattle.words.specs.Words.{word, long}
-use Rattle.words.specs.Front.{front-refl}
+use Rattle.words.proofs.Front.{front-refl}
 use Rattle.items.specs.Items.{Span, span, item, itemHead, spanItem, spanList}
-use Rattle.items.specs.Writing.{spans-none, spans-more, spans-append, length-head, length-span}
+use Rattle.items.proofs.Writing.{spans-none, spans-more, spans-append, length-head, length-span}
 use Rattle.rfcomm.specs.PieceTable.{pieceAt}
 use Rattle.spans.specs.Scan.{spansOf, restOf}
 use Rattle.search.specs.Seek.{seek}
 use Rattle.spans.specs.Spans.{scanner, emptied, spans}
 use Rattle.spans.specs.Parts.{tagged, WritePre as PartPre, WroteIs}
 use Rattle.spans.specs.Scans.{Begins}
-use Rattle.spans.specs.Bytewise.{AllQuiet, quiet-emptied, closes-first}
+use Rattle.spans.specs.Bytewise.{AllQuiet}
+use Rattle.spans.proofs.Bytewise.{quiet-emptied, closes-first}
 use Rattle.spans.proofs.Scans.{seek-le, silent, rest-le, all-left}
 use Rattle.spans.specs.declared.Wrote.{Wrote}
 use Rattle.split.specs.Last.{lastn}

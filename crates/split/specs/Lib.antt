@@ -1,4 +1,3 @@
 pub mod Last
 pub mod Rows
 pub mod Walks
-pub mod Fronts

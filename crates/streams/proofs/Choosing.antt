@@ -9,20 +9,21 @@ use native.Mathlib.Numerals.{add-one}
 use lib.ListN.{length, getD, set, replicate, length-set}
 use lib.Seq.{getD-set-other, set-out}
 use lib.Dec.{eqb}
-use Rattle.laws.specs.Choice.{splitB, split≡}
+use Rattle.laws.proofs.Choice.{splitB, split≡}
 use Rattle.words.specs.Words.{word}
-use Rattle.words.specs.Front.{Front, front-refl, front-then, front-less, front-word}
+use Rattle.words.specs.Front.{Front}
+use Rattle.words.proofs.Front.{front-refl, front-then, front-less, front-word}
 use Rattle.items.specs.Items.{spanList}
 use Rattle.mdr.specs.Frame.{unpacksOf}
 use Rattle.channels.specs.Channels.{any}
 use Rattle.rfcomm.specs.Pieces.{Piece}
 use Rattle.rfcomm.specs.PieceTable.{pieceAt, piecesFrom, infosOf, Within, Pieced}
-use Rattle.rfcomm.specs.PieceRows.{pieces-front}
+use Rattle.rfcomm.proofs.PieceRows.{pieces-front}
 use Rattle.spans.specs.Parts.{bit}
 use Rattle.spans.specs.Spans.{spans, unfinished, onDlci}
 use Rattle.split.specs.Rows.{all, tailAt, keyAt, Linked, Laid}
 use Rattle.split.specs.Walks.{CountIs}
-use Rattle.split.specs.Fronts.{laid-front}
+use Rattle.split.proofs.Fronts.{laid-front}
 use Rattle.split.specs.declared.Plan.{Plan}
 use Rattle.split.specs.declared.Sums.{Sums}
 use Rattle.outcome.specs.Import.{onChannel, first, hasFrame, chosen}

@@ -5,13 +5,15 @@ use mathlib.Core.List.{List, [], _∷_}
 use mathlib.Core.Option.{Option, none, some}
 use native.Mathlib.Omega.{arith}
 use lib.ListN.{length}
-use Rattle.laws.specs.Answers.{Outcome, gives, Meets, meets-refused, meets-short, meets-wrote}
+use Rattle.laws.specs.Answers.{Outcome, gives, Meets}
+use Rattle.laws.proofs.Answers.{meets-refused, meets-short, meets-wrote}
 use Rattle.laws.specs.Stores.{Writes}
-use Rattle.words.specs.Front.{Front, front-then, front-less}
+use Rattle.words.specs.Front.{Front}
+use Rattle.words.proofs.Front.{front-then, front-less}
 use Rattle.items.specs.Items.{spanList}
 use Rattle.rfcomm.specs.Pieces.{Piece}
 use Rattle.rfcomm.specs.PieceTable.{infosOf}
-use Rattle.rfcomm.specs.PieceRows.{pieces-front, infos-front, within-front}
+use Rattle.rfcomm.proofs.PieceRows.{pieces-front, infos-front, within-front}
 use Rattle.spans.specs.Spans.{spans, unfinished, onDlci}
 use Rattle.split.specs.Rows.{all}
 use Rattle.split.specs.Walks.{ListPre, LinkRoom, LinkedTo}

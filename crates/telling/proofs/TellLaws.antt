@@ -8,7 +8,7 @@ use lib.Dec.{ltb}
 use lib.ListN.{length, set, take}
 use lib.Seq.{set-out}
 use borrow.Author.Tests.{lt-ltb, le-ltb}
-use Rattle.laws.specs.Choice.{split≤}
+use Rattle.laws.proofs.Choice.{split≤}
 use Rattle.laws.specs.Answers.{Answer, Outcome, Meets}
 use Rattle.telling.specs.Telling.{numberOf, valuesOf, stored, Told, Calls, shownValues, Shows, Tells, putAt}
 use Rattle.telling.specs.declared.Shown.{Shown}

@@ -6,11 +6,12 @@ use native.Mathlib.Omega.{arith}
 use lib.Dec.{leb}
 use lib.ListN.{length, drop, length-append}
 use borrow.Author.Tests.{leb-true}
-use Rattle.laws.specs.Choice.{splitB}
+use Rattle.laws.proofs.Choice.{splitB}
 use Rattle.laws.specs.Answers.{accepted, refused, Outcome, gives, refuses, answer, output, Meets}
 use Rattle.laws.specs.Stores.{filled}
 use Rattle.items.specs.Items.{Listed, wellFormed, illFormed, Span, spansIn, namesIn, itemAt, endAt}
-use Rattle.items.specs.Walks.{stepAt, end-past}
+use Rattle.items.specs.Walks.{stepAt}
+use Rattle.items.proofs.Walks.{end-past}
 use Rattle.items.specs.declared.Step.{Step}
 use Rattle.items.specs.declared.Step.the-variants.{Whole, Passes, End}
 use Rattle.btsnoop.specs.Records.{btsnoop}

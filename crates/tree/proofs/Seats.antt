@@ -7,13 +7,17 @@ use mathlib.Core.Bool.{Bool, true, false}
 use lib.ListN.{length}
 use lib.Dec.{eqb}
 use borrow.Author.Tests.{eq-eqb, ne-eqb, eqb-true}
-use Rattle.laws.specs.Choice.{split≡, no-way}
-use Rattle.words.specs.Words.{word, long, putWord, length-put, word-put-same, word-put-other}
-use Rattle.words.specs.Front.{Front, front-then, front-put, front-refl}
-use Rattle.table.specs.Table.{findIn, Slot, none, some, lookup, upd, second, sumOf, Stored, Refilled, find-below, lookup-found, lookup-nothing, long-agree, store-old}
+use Rattle.laws.proofs.Choice.{split≡, no-way}
+use Rattle.words.specs.Words.{word, long, putWord}
+use Rattle.words.proofs.Words.{length-put, word-put-same, word-put-other}
+use Rattle.words.specs.Front.{Front}
+use Rattle.words.proofs.Front.{front-then, front-put, front-refl}
+use Rattle.table.specs.Table.{findIn, Slot, none, some, lookup, upd, second, sumOf, Stored, Refilled}
+use Rattle.table.proofs.Table.{find-below, lookup-found, lookup-nothing, long-agree, store-old}
 use Rattle.table.specs.declared.Row.{Row}
 use Rattle.table.specs.declared.Row.the-variants.{At, Nothing}
-use Rattle.tree.specs.Tree.{Indexed, SeekPre, EnterPre, Entered, Added, SpotIs, putNew, keyAt, find-agree, indexed-agree, stands-less, stands-same, enter-first, enter-new}
+use Rattle.tree.specs.Tree.{Indexed, SeekPre, EnterPre, Entered, Added, SpotIs, putNew, keyAt, find-agree, indexed-agree, enter-new}
+use Rattle.tree.proofs.TreeLaws.{stands-less, stands-same, enter-first}
 use Rattle.tree.specs.Seats.{seatOf, Seated, Sits, Nearby}
 use Rattle.tree.specs.declared.Tree.{Tree}
 use Rattle.tree.specs.declared.Seating.{Seating}

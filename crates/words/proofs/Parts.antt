@@ -7,7 +7,7 @@ use native.Mathlib.Omega.{arith}
 use native.Mathlib.Nat.{add-zero}
 use lib.ListN.{length, getD, set, length-set}
 use lib.Seq.{sets, length-sets, getD-set-same, getD-set-other, ext-getD}
-use Rattle.laws.specs.Choice.{split≡, split≤}
+use Rattle.laws.proofs.Choice.{split≡, split≤}
 use Rattle.laws.specs.Stores.{Writes}
 use Rattle.words.specs.Copies.{PartPre, Part}
 

@@ -1,4 +1,4 @@
-use Rattle.channels.specs.Passing.{reassembled-own}
+use Rattle.channels.proofs.Passing.{reassembled-own}
 use Rattle.capture.proofs.CallLaws.{records-truncated, records-read}
 use Rattle.capture.proofs.PassLaws.{reassemble-needs, pieces-need, spans-need}
 use borrow.Author.Needs.{needs}

@@ -1,5 +1,5 @@
 use native.Mathlib.Omega.{arith}
-use Rattle.words.specs.Fields.{field-value}
+use Rattle.words.proofs.Fields.{field-value}
 use Rattle.channels.proofs.Commands.{body-missing, body-past, body-there}
 use borrow.Author.Needs.{needs}
 use Rattle.channels.proofs.body_of.Statement.{statement}

@@ -1,4 +1,4 @@
-use Rattle.table.specs.Table.{found-below}
+use Rattle.table.proofs.Table.{found-below}
 use Rattle.channels.proofs.Grades.{standing-none, standing-row}
 use native.Mathlib.Omega.{arith}
 use borrow.Author.Needs.{needs}

@@ -1,4 +1,4 @@
-use Rattle.items.specs.Walks.{name-is, name-room}
+use Rattle.items.proofs.Walks.{name-is, name-room}
 use native.Mathlib.Omega.{arith}
 use borrow.Author.Needs.{needs}
 use Rattle.items.proofs.name_at.Statement.{statement}

@@ -1,4 +1,4 @@
-use Rattle.items.specs.Walks.{here-ill, here-room, here-span}
+use Rattle.items.proofs.Walks.{here-ill, here-room, here-span}
 use native.Mathlib.Omega.{arith}
 use borrow.Author.Needs.{needs}
 use Rattle.items.proofs.next_span.Statement.{statement}

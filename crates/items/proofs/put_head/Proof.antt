@@ -1,5 +1,5 @@
 use Rattle.items.specs.Items.{itemHead}
-use Rattle.laws.specs.Stores.{writes-then}
+use Rattle.laws.proofs.Stores.{writes-then}
 use borrow.Author.Needs.{needs}
 use Rattle.items.proofs.put_head.Statement.{statement}
 use Rattle.items.proofs.put_head.Tie as tie

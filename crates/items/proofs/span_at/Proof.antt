@@ -1,4 +1,4 @@
-use Rattle.items.specs.Walks.{span-is, span-room}
+use Rattle.items.proofs.Walks.{span-is, span-room}
 use native.Mathlib.Omega.{arith}
 use borrow.Author.Needs.{needs}
 use Rattle.items.proofs.span_at.Statement.{statement}

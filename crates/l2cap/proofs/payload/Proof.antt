@@ -1,4 +1,4 @@
-use Rattle.l2cap.specs.PduFrames.{lent-work, lent-file}
+use Rattle.l2cap.proofs.PduFrames.{lent-work, lent-file}
 use Rattle.l2cap.proofs.Rows.{got-work, got-file}
 use mathlib.Core.Path.{sym, _∙_}
 use native.Mathlib.Omega.{arith}

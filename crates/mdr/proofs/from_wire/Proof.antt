@@ -1,5 +1,6 @@
 use borrow.Author.Tests.{ne-eqb}
-use Rattle.mdr.specs.Types.{typeOf, kind-is}
+use Rattle.mdr.specs.Types.{typeOf}
+use Rattle.mdr.proofs.Types.{kind-is}
 use Rattle.mdr.proofs.from_wire.Statement.{statement}
 use Rattle.mdr.proofs.from_wire.Tie as tie
 

@@ -1,5 +1,5 @@
 use Rattle.names.proofs.Counting.{counter-written}
-use Rattle.names.specs.Digits.{length-six}
+use Rattle.names.proofs.Digits.{length-six}
 use lib.ListN.{length-replicate}
 use Prim.Native.Nat.{ℕ}
 use native.Mathlib.Omega.{arith}

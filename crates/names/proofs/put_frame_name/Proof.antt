@@ -1,5 +1,5 @@
 use Rattle.names.proofs.Writing.{name-written}
-use Rattle.names.specs.Parts.{length-head, length-type, length-seq, length-command}
+use Rattle.names.proofs.Parts.{length-head, length-type, length-seq, length-command}
 use Rattle.names.specs.Names.{nameLen}
 use Rattle.items.specs.Items.{rxOf}
 use native.Mathlib.Omega.{arith}

@@ -1,5 +1,5 @@
 use Rattle.names.specs.Parts.{seqPart}
-use Rattle.laws.specs.Stores.{writes-then}
+use Rattle.laws.proofs.Stores.{writes-then}
 use borrow.Author.Needs.{needs}
 use Rattle.names.proofs.put_seq.Statement.{statement}
 use Rattle.names.proofs.put_seq.Tie as tie

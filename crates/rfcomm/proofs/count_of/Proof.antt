@@ -1,4 +1,4 @@
-use Rattle.rfcomm.specs.CountTable.{count-seek, count-row, seek-found, seek-nothing}
+use Rattle.rfcomm.proofs.CountTable.{count-seek, count-row, seek-found, seek-nothing}
 use native.Mathlib.Omega.{arith}
 use borrow.Author.Needs.{needs}
 use Rattle.rfcomm.proofs.count_of.Statement.{statement}

@@ -1,4 +1,4 @@
-use Rattle.rfcomm.specs.CountTable.{count-enter, up-row, up-put, up-fits, counted-up}
+use Rattle.rfcomm.proofs.CountTable.{count-enter, up-row, up-put, up-fits, counted-up}
 use native.Mathlib.Omega.{arith}
 use borrow.Author.Needs.{needs}
 use Rattle.rfcomm.proofs.count_up.Statement.{statement}

@@ -1,4 +1,4 @@
-use Rattle.rfcomm.specs.CountTable.{index-is}
+use Rattle.rfcomm.proofs.CountTable.{index-is}
 use native.Mathlib.Omega.{arith}
 use borrow.Author.Needs.{needs}
 use Rattle.rfcomm.proofs.index_of.Statement.{statement}

@@ -1,4 +1,4 @@
-use Rattle.rfcomm.specs.Reading.{sabm-first, sabm-second}
+use Rattle.rfcomm.proofs.Reading.{sabm-first, sabm-second}
 use borrow.Author.Needs.{needs}
 use native.Mathlib.Omega.{arith}
 use Rattle.rfcomm.proofs.is_sabm.Statement.{statement}

@@ -1,4 +1,4 @@
-use Rattle.rfcomm.specs.Reading.{uih-first, uih-second}
+use Rattle.rfcomm.proofs.Reading.{uih-first, uih-second}
 use borrow.Author.Needs.{needs}
 use native.Mathlib.Omega.{arith}
 use Rattle.rfcomm.proofs.is_uih.Statement.{statement}

@@ -1,4 +1,4 @@
-use Rattle.rfcomm.specs.Judging.{judged-asks, judged-passed, judged-frame}
+use Rattle.rfcomm.proofs.Judging.{judged-asks, judged-passed, judged-frame}
 use native.Mathlib.Omega.{arith}
 use borrow.Author.Needs.{needs}
 use Rattle.rfcomm.proofs.judge.Statement.{statement}

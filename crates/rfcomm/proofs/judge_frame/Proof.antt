@@ -1,4 +1,4 @@
-use Rattle.rfcomm.specs.Judging.{verdict-sabm, verdict-other, verdict-start, verdict-uih}
+use Rattle.rfcomm.proofs.Judging.{verdict-sabm, verdict-other, verdict-start, verdict-uih}
 use native.Mathlib.Omega.{arith}
 use borrow.Author.Needs.{needs}
 use Rattle.rfcomm.proofs.judge_frame.Statement.{statement}

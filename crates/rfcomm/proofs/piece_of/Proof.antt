@@ -1,4 +1,5 @@
-use Rattle.rfcomm.specs.Gathering.{partOf, part-is}
+use Rattle.rfcomm.specs.Gathering.{partOf}
+use Rattle.rfcomm.proofs.Gathering.{part-is}
 use native.Mathlib.Omega.{arith}
 use borrow.Author.Needs.{needs}
 use Rattle.rfcomm.proofs.piece_of.Statement.{statement}

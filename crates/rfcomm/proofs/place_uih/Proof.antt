@@ -1,4 +1,4 @@
-use Rattle.rfcomm.specs.Judging.{placed-zero, placed-empty, placed-info}
+use Rattle.rfcomm.proofs.Judging.{placed-zero, placed-empty, placed-info}
 use native.Mathlib.Omega.{arith}
 use borrow.Author.Needs.{needs}
 use Rattle.rfcomm.proofs.place_uih.Statement.{statement}

@@ -1,4 +1,4 @@
-use Rattle.rfcomm.specs.PieceRows.{put-bytes as bytes-put}
+use Rattle.rfcomm.proofs.PieceRows.{put-bytes as bytes-put}
 use native.Mathlib.Omega.{arith}
 use borrow.Author.Needs.{needs}
 use Rattle.rfcomm.proofs.put_bytes.Statement.{statement}

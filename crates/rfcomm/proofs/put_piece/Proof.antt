@@ -1,4 +1,4 @@
-use Rattle.rfcomm.specs.PieceRows.{put-row}
+use Rattle.rfcomm.proofs.PieceRows.{put-row}
 use native.Mathlib.Omega.{arith}
 use borrow.Author.Needs.{needs}
 use Rattle.rfcomm.proofs.put_piece.Statement.{statement}

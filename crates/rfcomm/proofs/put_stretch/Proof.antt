@@ -1,4 +1,4 @@
-use Rattle.rfcomm.specs.PieceRows.{put-stretch as stretch-put}
+use Rattle.rfcomm.proofs.PieceRows.{put-stretch as stretch-put}
 use native.Mathlib.Omega.{arith}
 use borrow.Author.Needs.{needs}
 use Rattle.rfcomm.proofs.put_stretch.Statement.{statement}

@@ -1,4 +1,4 @@
-use Rattle.rfcomm.specs.Reading.{frame-short, frame-sabm, frame-other, uih-pre}
+use Rattle.rfcomm.proofs.Reading.{frame-short, frame-sabm, frame-other, uih-pre}
 use native.Mathlib.Omega.{arith}
 use borrow.Author.Needs.{needs}
 use Rattle.rfcomm.proofs.read_frame.Statement.{statement}

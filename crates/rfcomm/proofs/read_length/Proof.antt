@@ -1,4 +1,4 @@
-use Rattle.rfcomm.specs.Reading.{length-short, length-long}
+use Rattle.rfcomm.proofs.Reading.{length-short, length-long}
 use native.Mathlib.Omega.{arith}
 use borrow.Author.Needs.{needs}
 use Rattle.rfcomm.proofs.read_length.Statement.{statement}

@@ -1,4 +1,5 @@
-use Rattle.rfcomm.specs.Gathering.{Gathering, gather-start, gather-ready, gather-turn, gathered}
+use Rattle.rfcomm.specs.Gathering.{Gathering}
+use Rattle.rfcomm.proofs.Gathering.{gather-start, gather-ready, gather-turn, gathered}
 use Rattle.l2cap.specs.PduTable.{pdusFrom}
 use mathlib.Core.Path.{_≡_, refl}
 use Prim.Native.Nat.{_-_, _*_, _/_}

@@ -1,4 +1,4 @@
-use Rattle.rfcomm.specs.Reading.{uih-short, uih-missing, uih-whole}
+use Rattle.rfcomm.proofs.Reading.{uih-short, uih-missing, uih-whole}
 use native.Mathlib.Omega.{arith}
 use borrow.Author.Needs.{needs}
 use Rattle.rfcomm.proofs.read_uih.Statement.{statement}

@@ -1,5 +1,5 @@
-use Rattle.rfcomm.specs.Judging.{opens-small}
-use Rattle.rfcomm.specs.Gathering.{up-pre, taken-passed, taken-asks, taken-opens, taken-piece, piece-pre}
+use Rattle.rfcomm.proofs.Judging.{opens-small}
+use Rattle.rfcomm.proofs.Gathering.{up-pre, taken-passed, taken-asks, taken-opens, taken-piece, piece-pre}
 use native.Mathlib.Omega.{arith}
 use borrow.Author.Needs.{needs}
 use Rattle.rfcomm.proofs.take_pdu.Statement.{statement}

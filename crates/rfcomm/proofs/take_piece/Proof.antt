@@ -1,4 +1,4 @@
-use Rattle.rfcomm.specs.Gathering.{take-put, row-put}
+use Rattle.rfcomm.proofs.Gathering.{take-put, row-put}
 use native.Mathlib.Omega.{arith}
 use borrow.Author.Needs.{needs}
 use Rattle.rfcomm.proofs.take_piece.Statement.{statement}

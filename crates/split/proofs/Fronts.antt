@@ -1,16 +1,17 @@
 -- What lies below the lengths held stays, and so does what is read from it.
 use Prim.Native.Nat.{ℕ, zero, suc, _+_, _-_, _*_, _<_, _≤_}
 use mathlib.Core.Path.{_≡_, refl, sym, ap, _∙_}
-use mathlib.Core.List.{List, [], _∷_, _++_}
+use mathlib.Core.List.{List}
 use native.Mathlib.Omega.{arith}
 use lib.ListN.{length}
 use Rattle.laws.specs.Keys.{Key}
 use Rattle.words.specs.Words.{word}
-use Rattle.words.specs.Front.{Front, front-word}
+use Rattle.words.specs.Front.{Front}
+use Rattle.words.proofs.Front.{front-word}
 use Rattle.rfcomm.specs.Pieces.{Piece}
 use Rattle.rfcomm.specs.PieceTable.{pieceAt, piecesFrom, infosOf}
-use Rattle.rfcomm.specs.PieceRows.{piece-front, pieces-front, infos-front, within-front}
-use Rattle.split.specs.Rows.{rowOf, piece, dlciAt, tailAt, keyAt, lenAt, bytesAt, streamOf, heldIn, ahead, keysTo, newestOf, Linked, Laid}
+use Rattle.rfcomm.proofs.PieceRows.{piece-front, pieces-front, infos-front, within-front}
+use Rattle.split.specs.Rows.{rowOf, piece, dlciAt, tailAt, keyAt, lenAt, bytesAt, streamOf, heldIn, keysTo, newestOf, Linked, Laid}
 use Rattle.split.specs.declared.Plan.{Plan}
 
 module _ (f u w : List ℕ) (p : Plan) (l : Laid f w p) (s : Front (4 * p .held) u w) where

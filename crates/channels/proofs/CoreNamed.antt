@@ -7,7 +7,7 @@ use mathlib.Core.Option.{Option, none, some}
 use native.Mathlib.Omega.{arith}
 use lib.ListN.{length}
 use lib.Dec.{leb, eqb}
-use Rattle.laws.specs.Choice.{splitB}
+use Rattle.laws.proofs.Choice.{splitB}
 use Rattle.laws.specs.Keys.{Key, eqK}
 use Rattle.laws.specs.Numbers.{le16}
 use Rattle.l2cap.specs.Pdus.{Pdu}
@@ -15,7 +15,7 @@ use Rattle.channels.specs.Signals.{commands, code, body, signalOf, signa
 use Rattle.channels.specs.Channels.{any, names, named, channelOf}
 use Rattle.channels.specs.Core.{CoreSignal, connects, succeeds, disconnects, coreSignalOf, coreSignalsIn, pduCoreSignals, coreSignals, Event, latest, bothHold, eventsOf, eventsAfter, events, holdsAfter, holds}
 use Rattle.channels.specs.Tried.{core, triedBy}
-use Rattle.channels.specs.CoreLaws.{or-left, or-right}
+use Rattle.channels.proofs.CoreLaws.{or-left, or-right}
 
 -- the channel of a request's source or of a success's destination
 unfoldable coreNames : Key → CoreSignal → Bool

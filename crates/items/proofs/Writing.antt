@@ -4,7 +4,7 @@ use mathlib.Core.Path.{_≡_, refl}
 use mathlib.Core.List.{List, [], _∷_, _++_, append-assoc}
 use native.Mathlib.Omega.{arith}
 use lib.ListN.{length}
-use Rattle.items.specs.Items.{item, itemHead, Span, spanItem, spanList, nameItem, nameList, wireItem}
+use Rattle.items.specs.Items.{item, itemHead, Span, spanItem, spanList, nameItem}
 
 pub length-head : (kind size : ℕ) → length (itemHead kind size) ≡ 6
 unfolding itemHead

@@ -1,0 +1,7 @@
+pub mod PieceRows
+pub mod Pieces
+pub mod Judging
+pub mod Gathering
+pub mod CountTable
+pub mod Reading
+pub mod Replay

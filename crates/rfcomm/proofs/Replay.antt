@@ -1,0 +1,26 @@
+-- Laws of specs/Replay.
+use mathlib.Core.Path.{_≡_, refl, sym, _∙_}
+use mathlib.Core.List.{List, [], _∷_, _++_, append-assoc}
+use Rattle.l2cap.specs.Pdus.{Pdu}
+use Rattle.channels.specs.Signals.{signals}
+use Rattle.channels.specs.Tried.{core}
+use Rattle.channels.specs.CoreReplay.{known}
+use Rattle.channels.proofs.CoreReplay.{known-next}
+use Rattle.channels.proofs.CoreNamed.{core-verdict}
+use Rattle.rfcomm.specs.Pieces.{kindBy, judgedFrom, judgedBy}
+use Rattle.rfcomm.specs.Replay.{triedKnown, kindKnown, replayed}
+
+kind-known : (all before : List Pdu) (p : Pdu) (ps : List Pdu) → all ≡ (before ++ (p ∷ [])) ++ ps → kindBy core (before ++ (p ∷ [])) all p ≡ kindKnown (signals all) (known (before ++ (p ∷ []))) p
+unfolding kindBy kindKnown triedKnown
+kind-known all before p ps e = rw (e, core-verdict (before ++ (p ∷ [])) ps p)
+
+replay-from : (all before ps : List Pdu) → all ≡ before ++ ps → judgedFrom core all before ps ≡ replayed (signals all) (known before) ps
+unfolding judgedFrom replayed
+replay-from all before [] e = refl
+replay-from all before (p ∷ ps) e =
+    let e′ : all ≡ (before ++ (p ∷ [])) ++ ps = e ∙ sym (append-assoc before (p ∷ []) ps) in
+    rw (replay-from all (before ++ (p ∷ [])) ps e′, kind-known all before p ps e′, ← known-next before p)
+
+pub replay : (ps : List Pdu) → judgedBy core ps ≡ replayed (signals ps) (known []) ps
+unfolding judgedBy
+replay ps = replay-from ps [] ps refl
