@@ -18,7 +18,8 @@ use Rattle.channels.specs.Tried.{source}
 use Rattle.rfcomm.specs.Pieces.{judged}
 use Rattle.rfcomm.specs.Gathering.{PiecesPre, ReadPieces}
 use Rattle.outcome.specs.Import.{filePieces, read}
-use Rattle.streams.specs.Streams.{tablePieces, tabled}
+use Rattle.streams.specs.Streams.{tablePieces}
+use Rattle.streams.proofs.Streams.{tabled}
 use Rattle.streams.specs.Streams as streams
 use Rattle.streams.specs.declared.Listed.{Listed}
 use Rattle.capture.specs.Passes.{Passes, Composed}

@@ -15,7 +15,8 @@ use Rattle.laws.proofs.Choice.{split≤, splitB}
 use Rattle.laws.specs.Lists.{flat, All, all-nil, all-cons}
 use Rattle.mdr.specs.Frame.{unpacksOf}
 use Rattle.spans.specs.Scan.{spansOf, restOf, capped}
-use Rattle.spans.specs.Bytewise.{feed, emit, held, emitted, held-append, emitted-append, quiet-nil, quiet-held, next-is, out-is}
+use Rattle.spans.specs.Bytewise.{feed, emit, held, emitted}
+use Rattle.spans.proofs.Bytewise.{held-append, emitted-append, quiet-nil, quiet-held, next-is, out-is}
 use Rattle.cut.specs.Recording.{Framing}
 use Rattle.cut.specs.Left.{closedIn, midFrame}
 use Rattle.cut.proofs.TwoParts.{take-past, all-take}

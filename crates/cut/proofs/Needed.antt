@@ -17,7 +17,8 @@ use Rattle.items.specs.Items.{Span}
 use Rattle.mdr.specs.Escaping.{Quiet}
 use Rattle.mdr.proofs.Escaping.{all-append}
 use Rattle.spans.specs.Scan.{spansOf, restOf, capped}
-use Rattle.spans.specs.Bytewise.{feed, emit, held, emitted, spans-is, rest-is}
+use Rattle.spans.specs.Bytewise.{feed, emit, held, emitted}
+use Rattle.spans.proofs.Bytewise.{spans-is, rest-is}
 use Rattle.spans.specs.Spans.{spans}
 use Rattle.outcome.specs.Import.{Options, fits, imported}
 use Rattle.cut.specs.Recording.{Recording, file, cut}

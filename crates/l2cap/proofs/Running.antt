@@ -21,8 +21,8 @@ use Rattle.fragments.specs.Bytes.{numberOf}
 use Rattle.l2cap.specs.Pdus.{Pdu, packetKey, reassembly, pdus}
 use Rattle.l2cap.specs.PduTable.{pdusFrom, paysOf, Reassembled}
 use Rattle.l2cap.proofs.PduFrames.{inside-top}
-use Rattle.l2cap.specs.Rekeyed.{runBy, rekey}
-use Rattle.l2cap.proofs.Rekeyed.{run-by}
+use Rattle.l2cap.specs.Rekeyed.{runBy}
+use Rattle.l2cap.proofs.Rekeyed.{run-by, rekey}
 use Rattle.fragments.specs.Links.{Linked, Seats, LinkRoom, LinkedTo}
 use Rattle.fragments.proofs.Chains.{linked-less, linked-agree}
 use Rattle.l2cap.specs.Steps.{openAt, heldOf, mapOf, Ready, Step, Stepped, Run}

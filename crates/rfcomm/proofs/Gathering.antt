@@ -31,8 +31,8 @@ use Rattle.tree.proofs.TreeLaws.{indexed-none}
 use Rattle.tree.specs.declared.Seating.{Seating}
 use Rattle.rfcomm.specs.CountTable.{valueOf, countIndex, UpPre, CountedUp, Counted}
 use Rattle.rfcomm.proofs.CountTable.{up-count, counted-start, counted-agree, counted-none, counted-session, counted-link}
-use Rattle.rfcomm.specs.PieceRows.{rowOf, PutPre, partPiece, row-len, row-piece, row-within}
-use Rattle.rfcomm.proofs.PieceRows.{row-long, within-front, pieces-front, infos-front, pieces-snoc}
+use Rattle.rfcomm.specs.PieceRows.{rowOf, PutPre, partPiece}
+use Rattle.rfcomm.proofs.PieceRows.{row-len, row-piece, row-within, row-long, within-front, pieces-front, infos-front, pieces-snoc}
 use Rattle.rfcomm.specs.Judging.{kindShown, Carried, JudgePre, VerdictIs}
 use Rattle.rfcomm.proofs.Judging.{carries-held}
 use Rattle.rfcomm.specs.declared.Part.{Part}

@@ -1,14 +1,23 @@
 -- Laws of specs/Scanning.
-use Prim.Native.Nat.{ℕ, zero, suc, _-_, _<_}
+use Prim.Native.Nat.{ℕ, _-_, _<_, zero, suc}
 use mathlib.Core.Path.{_≡_}
 use mathlib.Core.Bool.{true, false}
 use mathlib.Core.List.{List, [], _∷_}
 use native.Mathlib.Omega.{arith}
-use lib.ListN.{length, take, drop}
-use Rattle.laws.proofs.Choice.{splitB}
+use lib.ListN.{length, drop, length-drop, take}
+use borrow.Author.Tests.{ltb-true}
+use Rattle.search.specs.Seek.{seek}
 use Rattle.spans.specs.Scan.{begun, end, ended, spansN, restN, spansOf, restOf}
-use Rattle.spans.specs.Scanning.{shorter}
+use Rattle.laws.proofs.Choice.{splitB}
 
+-- ---- the equations
+
+pub shorter : (b : List ℕ) → ended (begun b) ≡ true → length (drop (end (begun b)) (begun b)) < length b
+shorter b e =
+    let h : seek 0x3C (begun b) < length (begun b) = ltb-true (seek 0x3C (begun b)) (length (begun b)) e in
+    let k : length (begun b) ≡ length b - seek 0x3E b = length-drop (seek 0x3E b) b in
+    let m : length (drop (end (begun b)) (begun b)) ≡ length (begun b) - end (begun b) = length-drop (end (begun b)) (begun b) in
+    omega arith
 spans-fuel : (n m : ℕ) (b : List ℕ) → length b < n → length b < m → spansN n b ≡ spansN m b
 unfolding spansN
 spans-fuel zero m b h g = absurd (omega arith)

@@ -13,8 +13,7 @@ use Rattle.laws.proofs.Lists.{drop-step, drop-end}
 use Rattle.mdr.specs.Frame.{unpacksOf}
 use Rattle.spans.specs.Scan.{begun, end, ended, spansN, restN, spansOf, restOf}
 use Rattle.search.specs.Seek.{seek}
-use Rattle.spans.specs.Scanning.{shorter}
-use Rattle.spans.proofs.Scanning.{rest-more}
+use Rattle.spans.proofs.Scanning.{shorter, rest-more}
 use Rattle.spans.specs.Bytewise.{Quiet}
 use Rattle.spans.proofs.Bytewise.{no-end, no-start, closes-first}
 use Rattle.spans.specs.Parts.{bit, tallyOne, tallyAll, Room, CountedIs}

@@ -1,5 +1,4 @@
 pub mod Scan
-pub mod Scanning
 pub mod Parts
 pub mod Spans
 pub mod Bytewise

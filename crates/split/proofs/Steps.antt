@@ -23,7 +23,8 @@ use Rattle.rfcomm.specs.PieceTable.{infosOf}
 use Rattle.spans.specs.Scan.{restOf, capped}
 use Rattle.search.specs.Seek.{seek}
 use Rattle.spans.specs.Spans.{scanner}
-use Rattle.spans.specs.Bytewise.{AllQuiet, quiet-scanned}
+use Rattle.spans.specs.Bytewise.{AllQuiet}
+use Rattle.spans.proofs.Bytewise.{quiet-scanned}
 use Rattle.spans.proofs.Scans.{rest-le}
 use Rattle.split.specs.Last.{lastn}
 use Rattle.split.specs.Rows.{rowOf, piece, dlciAt, tailAt, keyAt, lenAt, bytesAt, streamOf, heldIn, heldOf, streamTo, opened, Fits, joined, cappedLength, keysTo, liveTo, sign, Laid}

@@ -1,2 +1,3 @@
 pub mod Choosing
 pub mod Listing
+pub mod Streams

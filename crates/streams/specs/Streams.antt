@@ -1,6 +1,6 @@
 -- The DLCI chosen, with what is counted of it; and what the call that lists its spans answers.
-use Prim.Native.Nat.{ℕ, _+_, _*_, _/_, _<_, _≤_}
-use mathlib.Core.Path.{_≡_, refl}
+use Prim.Native.Nat.{ℕ, _+_, _*_, _/_}
+use mathlib.Core.Path.{_≡_}
 use mathlib.Core.List.{List, [], _∷_}
 use mathlib.Core.Option.{Option, none, some}
 use lib.ListN.{length}
@@ -48,10 +48,6 @@ pub record Ready (f w : List ℕ) (n : ℕ) : Type 0 where
 -- the bytes of work below the lengths held
 abbrev pub below : List ℕ → ℕ → ℕ
 below f n = 4 * (6 * (length f / 4) + n)
-
--- a table that holds a list of pieces is such a table
-pub tabled : (f w : List ℕ) (n : ℕ) (ps : List Piece) → Pieced f w n ps → Tabled f w n
-tabled f w n ps p = record { list = refl; within = p .within; few = p .few; small = p .small; room = p .room }
 
 -- ---- the choice
 
