@@ -10,7 +10,7 @@ use Rattle.words.proofs.Front.{front-word, front-less}
 use Rattle.table.specs.Table.{lookup}
 use Rattle.table.proofs.Table.{long-agree, lookup-agree}
 use Rattle.tree.specs.Tree.{indexed-agree}
-use Rattle.tree.proofs.TreeLaws.{stands-same}
+use Rattle.tree.specs.Tree.{stands-same}
 use Rattle.l2cap.specs.Pdus.{Pdu}
 use Rattle.l2cap.specs.PduTable.{pdusFrom, Reassembled}
 use Rattle.l2cap.proofs.PduFrames.{reassembled-front}

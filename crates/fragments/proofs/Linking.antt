@@ -16,7 +16,7 @@ use Rattle.table.specs.Table.{findIn, lookup, upd, sumOf, some}
 use Rattle.table.proofs.Table.{find-below, lookup-agree, long-agree, sum-agree}
 use Rattle.table.specs.declared.Row.the-variants.{At, Nothing}
 use Rattle.tree.specs.Tree.{Indexed, EnterPre, indexed-agree, find-agree}
-use Rattle.tree.proofs.TreeLaws.{indexed-none, found-key}
+use Rattle.tree.specs.Tree.{indexed-none, found-key}
 use Rattle.tree.specs.Seats.{Seated}
 use Rattle.tree.proofs.Seats.{split-row}
 use Rattle.tree.specs.declared.Tree.{Tree}

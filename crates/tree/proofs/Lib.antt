@@ -1,3 +1,2 @@
 pub mod Seats
 pub mod Turns
-pub mod TreeLaws

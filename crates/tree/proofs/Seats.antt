@@ -16,8 +16,7 @@ use Rattle.table.specs.Table.{findIn, Slot, none, some, lookup, upd, second, su
 use Rattle.table.proofs.Table.{find-below, lookup-found, lookup-nothing, long-agree, store-old}
 use Rattle.table.specs.declared.Row.{Row}
 use Rattle.table.specs.declared.Row.the-variants.{At, Nothing}
-use Rattle.tree.specs.Tree.{Indexed, SeekPre, EnterPre, Entered, Added, SpotIs, putNew, keyAt, find-agree, indexed-agree, enter-new}
-use Rattle.tree.proofs.TreeLaws.{stands-less, stands-same, enter-first}
+use Rattle.tree.specs.Tree.{Indexed, SeekPre, EnterPre, Entered, Added, SpotIs, putNew, keyAt, find-agree, indexed-agree, stands-less, stands-same, enter-first, enter-new}
 use Rattle.tree.specs.Seats.{seatOf, Seated, Sits, Nearby}
 use Rattle.tree.specs.declared.Tree.{Tree}
 use Rattle.tree.specs.declared.Seating.{Seating}
