@@ -9,8 +9,7 @@ use Rattle.words.specs.Front.{Front}
 use Rattle.words.proofs.Front.{front-word, front-less}
 use Rattle.table.specs.Table.{lookup}
 use Rattle.table.proofs.Table.{long-agree, lookup-agree}
-use Rattle.tree.specs.Tree.{indexed-agree}
-use Rattle.tree.specs.Tree.{stands-same}
+use Rattle.tree.specs.Tree.{indexed-agree, stands-same}
 use Rattle.l2cap.specs.Pdus.{Pdu}
 use Rattle.l2cap.specs.PduTable.{pdusFrom, Reassembled}
 use Rattle.l2cap.proofs.PduFrames.{reassembled-front}

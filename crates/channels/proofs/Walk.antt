@@ -12,8 +12,7 @@ use Rattle.words.specs.Words.{word}
 use Rattle.words.specs.Front.{Front}
 use Rattle.words.proofs.Front.{front-refl, front-then, front-less, front-word}
 use Rattle.table.specs.Table.{lookup, Agree}
-use Rattle.tree.specs.Tree.{Indexed, Stands, SeekPre, EnterPre}
-use Rattle.tree.specs.Tree.{stands-less, stands-same, indexed-none}
+use Rattle.tree.specs.Tree.{Indexed, Stands, SeekPre, EnterPre, stands-less, stands-same, indexed-none}
 use Rattle.tree.specs.declared.Tree.{Tree}
 use Rattle.items.specs.Items.{rxOf}
 use Rattle.items.specs.declared.Direction.{Direction}

@@ -15,14 +15,12 @@ use Rattle.words.proofs.Front.{front-refl, front-put, front-then, front-word}
 use Rattle.table.specs.Table.{findIn, lookup, upd, sumOf, some}
 use Rattle.table.proofs.Table.{find-below, lookup-agree, long-agree, sum-agree}
 use Rattle.table.specs.declared.Row.the-variants.{At, Nothing}
-use Rattle.tree.specs.Tree.{Indexed, EnterPre, indexed-agree, find-agree}
-use Rattle.tree.specs.Tree.{indexed-none, found-key}
+use Rattle.tree.specs.Tree.{Indexed, EnterPre, indexed-agree, find-agree, indexed-none, found-key}
 use Rattle.tree.specs.Seats.{Seated}
 use Rattle.tree.proofs.Seats.{split-row}
 use Rattle.tree.specs.declared.Tree.{Tree}
 use Rattle.tree.specs.declared.Seating.{Seating}
-use Rattle.fragments.specs.Links.{soonest, tagAt, Blank, firstOf, indexOf, SeatKey, headIn, headAt, headOf, headWith, Head, noted, Note}
-use Rattle.fragments.specs.Links.{LinkStep, LinkedStep, LinkRoom, LinkedTo}
+use Rattle.fragments.specs.Links.{soonest, tagAt, Blank, firstOf, indexOf, SeatKey, headIn, headAt, headOf, headWith, Head, noted, Note, LinkStep, LinkedStep, LinkRoom, LinkedTo}
 use Rattle.fragments.proofs.Chains.{soonest-agree, tag-empty, tag-full}
 
 -- ---- the row of a key

@@ -14,8 +14,7 @@ use Rattle.laws.specs.Keyed.{put}
 use Rattle.words.specs.Words.{word, putWord}
 use Rattle.table.specs.Table.{Slot, none, some, lookup, upd, Stored, Agree, findIn}
 use Rattle.table.proofs.Table.{find-below, lookup-found, lookup-nothing, lookup-agree}
-use Rattle.tree.specs.Tree.{SeekPre, EnterPre}
-use Rattle.tree.specs.Tree.{stands-less}
+use Rattle.tree.specs.Tree.{SeekPre, EnterPre, stands-less}
 use Rattle.tree.specs.Seats.{seatOf, Seated}
 use Rattle.tree.specs.declared.Tree.{Tree}
 use Rattle.tree.specs.declared.Seating.{Seating}

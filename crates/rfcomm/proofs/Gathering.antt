@@ -26,8 +26,7 @@ use Rattle.channels.proofs.Passing.{signalled-front}
 use Rattle.rfcomm.specs.Pieces.{Kind, asks, opens, passed, kindOf, judged, Counts, counted, pieceOf, brought, noCounts, pieces}
 use Rattle.rfcomm.proofs.Pieces.{judged-is}
 use Rattle.rfcomm.specs.PieceTable.{pieceAt, piecesFrom, infosOf, Within, Pieced}
-use Rattle.tree.specs.Tree.{Indexed, Entered, Stands, indexed-agree}
-use Rattle.tree.specs.Tree.{indexed-none}
+use Rattle.tree.specs.Tree.{Indexed, Entered, Stands, indexed-agree, indexed-none}
 use Rattle.tree.specs.declared.Seating.{Seating}
 use Rattle.rfcomm.specs.CountTable.{valueOf, countIndex, UpPre, CountedUp, Counted}
 use Rattle.rfcomm.proofs.CountTable.{up-count, counted-start, counted-agree, counted-none, counted-session, counted-link}
