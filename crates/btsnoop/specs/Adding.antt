@@ -34,7 +34,7 @@ pub record AddPre (f w : List ℕ) (at end count : ℕ) : Type 0 where
 pub record Added (f w : List ℕ) (at end datalink count : ℕ) (u : List ℕ) (r : ℕ) : Type 0 where
   pub list : packetsFrom f u 0 r ≡ packetsFrom f w 0 count ++ orNone (packetOf datalink (between f at end)) []
   pub fits : Fits f u r
-  pub total : 28 * r + dataOf u r ≤ 28 * count + dataOf w count + (end - at)
+  pub total : 25 * r + dataOf u r ≤ 25 * count + dataOf w count + (end - at)
   pub more : r ≤ count + 1
   pub size : length u ≡ length w
 
@@ -63,6 +63,6 @@ pub record Walking (f w₀ w : List ℕ) (at count : ℕ) : Type 0 where
   pub within : at ≤ length f
   pub size : length w ≡ length w₀
   pub fits : Fits f w count
-  pub total : 16 + 28 * count + dataOf w count ≤ at
+  pub total : 16 + 25 * count + dataOf w count ≤ at
   pub same : packetsFrom f w 0 count ++ packets (packetOf (datalink f)) (recordsIn (drop at f)) ≡ packets (packetOf (datalink f)) (records f)
   pub tail : at + length (flat (recordsIn (drop at f))) ≡ tailOffset f

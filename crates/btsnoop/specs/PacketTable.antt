@@ -36,7 +36,7 @@ pub record Fits (f w : List ℕ) (count : ℕ) : Type 0 where
 -- a table that holds packets of a file, and leaves work enough for the passes after it
 pub record Tabled (f w : List ℕ) (count : ℕ) : Type 0 where
   pub fits : Fits f w count
-  pub total : 16 + 28 * count + dataOf w count ≤ length f
+  pub total : 16 + 25 * count + dataOf w count ≤ length f
   pub small : length f ≤ 1048576
   pub room : 8 * length f ≤ length w
 

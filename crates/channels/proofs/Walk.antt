@@ -212,7 +212,7 @@ module _ (f w₀ : List ℕ) (made : ℕ) (ps : List Pdu) (p : Reassembled f w�
     row-size : word w (2 * (length f / 4) + 7 * i + 4) ≡ word w₀ (2 * (length f / 4) + 7 * i + 4)
     row-size = front-word (4 * (3 * (length f / 4))) w w₀ (2 * (length f / 4) + 7 * i + 4) (omega (arith, row-below)) table-front
 
-    few-more : 16 + 32 * made + 8 * rows + word w₀ (2 * (length f / 4) + 7 * i + 4) ≤ length f
+    few-more : 16 + 29 * made + 8 * rows + word w₀ (2 * (length f / 4) + 7 * i + 4) ≤ length f
     few-more = omega (arith, p .few, v .few, pays-next w₀ (2 * (length f / 4)) i, pays-mono w₀ (2 * (length f / 4)) (i + 1) made (omega arith))
 
     pub running-pre : NotePre f w (2 * (length f / 4) + 7 * i) (3 * (length f / 4)) rows

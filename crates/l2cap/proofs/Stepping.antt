@@ -397,7 +397,7 @@ module _ (f w : List ℕ) (q : ℕ) (t : Tables) (i : ℕ) (p : Step f w q t i) 
             let cmp : leb (4 + le16 B 0) (length B) ≡ true = le-leb (4 + le16 B 0) (length B) (omega (arith, s .1)) in
             step-set v (t .made + 1) top Closed 0 0 (record {
               front = front-less (4 * q) (t .top) v w (p .ready .bump) (fin .front);
-              rows = λ j lo hi. fin .above j (omega (arith, p .ready .made, p .tabled .total, p .ready .quarter));
+              rows = λ j lo hi. fin .above j (omega (arith, p .ready .made, p .tabled .total, p .ready .quarter, step-small));
               size = fin .size;
               most = omega (arith, p .ready .made);
               bump = omega (arith, p .ready .bump, fin .least);
@@ -406,7 +406,7 @@ module _ (f w : List ℕ) (q : ℕ) (t : Tables) (i : ℕ) (p : Step f w q t i) 
               placed = fin .placed;
               counted = λ a g z. never z;
               own = λ a g z. never z;
-              beyond = λ j h. fin .above j (omega (arith, h, p .ready .made, p .tabled .total, p .ready .quarter));
+              beyond = λ j h. fin .above j (omega (arith, h, p .ready .made, p .tabled .total, p .ready .quarter, step-small));
               list = fin .list ∙ rw (step-begun, ← held-next, cmp);
               held = rw (← held-next, cmp);
             }) (as-zero 0 0 refl) u eu

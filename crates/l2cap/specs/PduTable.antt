@@ -40,6 +40,6 @@ pub record Inside (f w : List ℕ) (at top : ℕ) : Type 0 where
 pub record Reassembled (f w : List ℕ) (made : ℕ) (ps : List Pdu) : Type 0 where
   pub list : pdusFrom f w (2 * (length f / 4)) 0 made ≡ ps
   pub placed : (j : ℕ) → j < made → Inside f w (2 * (length f / 4) + 7 * j) (8 * (length f / 4))
-  pub few : 16 + 32 * made + paysOf w (2 * (length f / 4)) made ≤ length f
+  pub few : 16 + 29 * made + paysOf w (2 * (length f / 4)) made ≤ length f
   pub small : length f ≤ 1048576
   pub room : 8 * length f ≤ length w

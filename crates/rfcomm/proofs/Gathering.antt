@@ -19,7 +19,7 @@ use Rattle.table.specs.Table.{lookup, Stored, Agree}
 use Rattle.table.proofs.Table.{long-agree}
 use Rattle.l2cap.specs.Pdus.{Pdu}
 use Rattle.l2cap.specs.PduTable.{pduAt, pdusFrom, paysOf}
-use Rattle.l2cap.proofs.PduFrames.{reassembled-lent, pdus-next, pdus-none, pays-next, pays-agree, pdus-agree}
+use Rattle.l2cap.proofs.PduFrames.{reassembled-lent, pdus-next, pdus-none, pays-next, pays-mono, pays-agree, pdus-agree}
 use Rattle.channels.specs.Signals.{Signal, signals}
 use Rattle.channels.specs.ChannelTable.{Tells}
 use Rattle.channels.proofs.Passing.{signalled-front}
@@ -83,7 +83,7 @@ module _ (f w : List ℕ) (q rows : ℕ) (t : Taken) (j : ℕ) (r : Ready f w q 
       start = start-small;
       len = omega (arith, c .few);
     };
-    room = omega (arith, r .pieces, r .few, r .quarter, r .room);
+    room = omega (arith, r .table, c .less, r .quarter, r .room);
     few = λ k. omega (arith, r .values k, r .few, r .small);
     joined = joined-small;
   } where
@@ -140,7 +140,7 @@ module _ (f w : List ℕ) (q rows : ℕ) (t : Taken) (j : ℕ) (r : Ready f w q 
       counts-front = let z : 4 * (6 * q) ≡ 24 * q = omega arith in rw z at (s .front)
 
       pieces-room : 4 * (5 * q + 8 * (0 + t .pieces)) ≤ 24 * q
-      pieces-room = omega (arith, r .pieces, r .few, r .quarter)
+      pieces-room = omega (arith, r .table, r .quarter)
 
       kept-pieces : piecesFrom f u (5 * q) 0 (t .pieces) ≡ piecesFrom f w (5 * q) 0 (t .pieces)
       kept-pieces = pieces-front (24 * q) f u w (5 * q) 0 (t .pieces) (8 * q) pieces-room counts-front (omega arith) (λ i h. r .within i (omega arith))
@@ -192,7 +192,7 @@ module _ (f w : List ℕ) (q rows : ℕ) (t : Taken) (j : ℕ) (r : Ready f w q 
       part = partOf w (2 * q + 7 * j) (6 * q) (t .counts) i
 
       row-room : 4 * (5 * q + 8 * t .pieces) + 32 ≤ 24 * q
-      row-room = omega (arith, r .pieces, r .few, r .quarter)
+      row-room = omega (arith, r .table, held .less, r .quarter)
 
       pre : PutPre w (5 * q + 8 * t .pieces) part
       unfolding part
@@ -302,6 +302,7 @@ module _ (f : List ℕ) (ps : List Pdu) (w₀ w : List ℕ) (made rows : ℕ) (t
     pieces = g .took;
     small = g .signalled .pdus .small;
     few = omega (arith, g .signalled .pdus .few);
+    table = omega (arith, g .few, g .signalled .pdus .few, pays-next w (2 * (length f / 4)) j, pays-mono w (2 * (length f / 4)) (j + 1) made (omega arith));
     room = g .signalled .pdus .room;
     values = g .counted .few;
     indexed = g .indexed;

@@ -60,7 +60,8 @@ pub record Ready (f w : List ℕ) (q rows : ℕ) (t : Taken) (j : ℕ) : Type 0 
   pub counts : t .counts ≤ j
   pub pieces : t .pieces ≤ j
   pub small : length f ≤ 1048576
-  pub few : 48 + 32 * j ≤ length f
+  pub few : 45 + 29 * j ≤ length f
+  pub table : 45 + 32 * t .pieces + word w (2 * q + 7 * j + 4) ≤ length f
   pub room : 8 * length f ≤ length w
   pub values : (k : ℕ) → valueOf (lookup w (6 * q) (t .counts) k) ≤ j
   pub indexed : Indexed w (countIndex (6 * q)) (t .counts)
@@ -73,7 +74,7 @@ pub record TakenIn (f w : List ℕ) (q rows : ℕ) (t : Taken) (j : ℕ) (u : Li
   pub list : (m : Key → Counts) (ss : List Signal) → Tells ss w (3 * q) rows → Counted m w (6 * q) (t .counts) j →
       piecesFrom f u (5 * q) 0 (r .pieces) ≡ piecesFrom f w (5 * q) 0 (t .pieces) ++ brought (m (pduAt f w (2 * q + 7 * j) .link ∷ [])) (pduAt f w (2 * q + 7 * j)) (kindOf ss (pduAt f w (2 * q + 7 * j)))
   pub within : (i : ℕ) → i < r .pieces → Within f u (5 * q + 8 * i) (8 * q)
-  pub few : 32 * r .pieces + infosOf u (5 * q) (r .pieces) ≤ 32 * t .pieces + infosOf w (5 * q) (t .pieces) + 32 + word w (2 * q + 7 * j + 4)
+  pub few : 32 * r .pieces + infosOf u (5 * q) (r .pieces) ≤ 32 * t .pieces + infosOf w (5 * q) (t .pieces) + 29 + word w (2 * q + 7 * j + 4)
   pub indexed : Indexed u (countIndex (6 * q)) (r .counts)
   pub more : r .counts ≤ t .counts + 1
   pub most : r .pieces ≤ t .pieces + 1
@@ -99,6 +100,6 @@ pub record Gathering (f : List ℕ) (ps : List Pdu) (w₀ w : List ℕ) (made ro
   pub counts : t .counts ≤ j
   pub took : t .pieces ≤ j
   pub within : (i : ℕ) → i < t .pieces → Within f w (5 * (length f / 4) + 8 * i) (8 * (length f / 4))
-  pub few : 32 * t .pieces + infosOf w (5 * (length f / 4)) (t .pieces) ≤ 32 * j + paysOf w (2 * (length f / 4)) j
+  pub few : 32 * t .pieces + infosOf w (5 * (length f / 4)) (t .pieces) ≤ 29 * j + paysOf w (2 * (length f / 4)) j
   pub same : piecesFrom f w (5 * (length f / 4)) 0 (t .pieces) ++ run counting states (map (told (signals ps)) (pdusFrom f w (2 * (length f / 4)) j (made - j))) ≡ pieces (judged ps)
   pub size : length w ≡ length w₀
