@@ -16,9 +16,11 @@ use words::Field;
 use words::field16;
 use words::get_be32;
 use words::get_be64;
+use words::narrow;
 use words::put32;
 use words::put64;
 use words::same;
+use words::wide16;
 use words::wide32;
 
 // What the header says: a datalink that is read here, refusal 3, or refusal 4 with the number.
@@ -201,21 +203,6 @@ fn start_of(handle: u16) -> u32
         return 0;
     }
     1
-}
-
-// A 16-bit number as a wider one.
-fn wide16(x: u16) -> usize
-    ensures { λ r. ⌜ (r ≡ x) × (r < 65536) ⌝ }
-{
-    x as usize
-}
-
-// A place in the file as a word.
-fn narrow(x: usize) -> u32
-    requires { ⌜ x < 4294967296 ⌝ }
-    ensures { λ r. ⌜ r ≡ x ⌝ }
-{
-    x as u32
 }
 
 // The ACL packet in the bytes of the file from one place up to another. A field that is not there skips it.

@@ -17,6 +17,7 @@ ghost use Rattle.channels.specs.Reading.{commandBytes, told};
 ghost use Rattle.channels.specs.Noting.{standingOf, requestGrade, responseGrade, RaisedIn, NotedIn};
 ghost use Rattle.channels.specs.Passing.{StepIs, PduStepPre, NotePreIn, PduNotedIn, NoneNoted, ReadChannels, Tries, Judged};
 use items::Direction;
+use items::direction_in;
 use l2cap::payload;
 use table::Row;
 use tree::Tree;
@@ -26,6 +27,7 @@ use words::Field;
 use words::field16;
 use words::get32;
 use words::put32;
+use words::wide16;
 use words::wide32;
 
 // A channel: data with this CID in this direction of a link.
@@ -44,13 +46,6 @@ pub enum Signal {
 }
 
 // ---- one command
-
-// A field as a number.
-fn wide16(x: u16) -> usize
-    ensures { λ r. ⌜ r ≡ x ⌝ }
-{
-    x as usize
-}
 
 // The body of a command; one passing the end reads as empty.
 fn body_of(c: &[u8]) -> &[u8]
@@ -301,23 +296,13 @@ fn step_at(s: &[u8], at: usize, link: u32, direction: Direction) -> Step
     }
 }
 
-// The direction that a row's first word says.
-fn direction_of(side: u32) -> Direction
-    ensures { λ r. ⌜ rxOf r ≡ side % 2 ⌝ }
-{
-    if side % 2 == 1 {
-        return Direction::Rx;
-    }
-    Direction::Tx
-}
-
 // One signalling step over the payload of the PDU whose row is at word row.
 fn pdu_step<'a>(file: &'a [u8], w: &'a [u8], row: usize, at: usize) -> Step
     requires { ⌜ PduStepPre (now file) (now w) row at ⌝ }
     ensures { λ r. ⌜ StepIs (pduAt (now (file .entry)) (now (w .entry)) row .payload) at (pduAt (now (file .entry)) (now (w .entry)) row .link) (pduAt (now (file .entry)) (now (w .entry)) row .rx) r ⌝ }
 {
     let side = get32(w, row);
-    step_at(payload(file, w, row), at, side / 2, direction_of(side))
+    step_at(payload(file, w, row), at, side / 2, direction_in(side))
 }
 
 // Notes what the PDU whose row is at word row says. Returns the count of rows.

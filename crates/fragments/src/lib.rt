@@ -1,8 +1,8 @@
 // The fragments of a trace by their keys, link and direction. Each packet is linked to the next one of its key that has bytes,
 // and the row of its key is noted: so the pass that puts PDUs together seeks no key, and walks the fragments of one alone.
 ghost use mathlib.Core.Path.{_≡_};
-ghost use Prim.Native.Nat.{_+_, _*_, _≤_, _<_, min};
-ghost use lib.ListN.{length, getD, take, drop};
+ghost use Prim.Native.Nat.{_+_, _*_, _≤_, _<_};
+ghost use lib.ListN.{length, getD, take};
 ghost use Rattle.laws.specs.Numbers.{le16};
 ghost use Rattle.laws.specs.Stores.{Writes};
 ghost use Rattle.words.specs.Words.{word};
@@ -15,16 +15,11 @@ use tree::Tree;
 use tree::seat;
 use words::copy_to;
 use words::get32;
+use words::least;
+use words::narrow;
+use words::part;
 use words::put32;
 use words::wide32;
-
-// A number as a word.
-pub fn narrow(x: usize) -> u32
-    requires { ⌜ x < 4294967296 ⌝ }
-    ensures { λ r. ⌜ r ≡ x ⌝ }
-{
-    x as u32
-}
 
 // A word as a key of a table.
 fn wide64(x: u32) -> u64
@@ -180,24 +175,6 @@ pub fn half(file: &[u8], w: &[u8], q: usize, first: usize, upto: usize, at: usiz
         byte_of(file, w, q, first, upto, at),
         byte_of(file, w, q, first, upto, at + 1),
     )
-}
-
-fn least(a: usize, b: usize) -> usize
-    ensures { λ r. ⌜ r ≡ min a b ⌝ }
-{
-    if a < b {
-        return a;
-    }
-    b
-}
-
-// n bytes from a place on.
-pub fn part(s: &[u8], a: usize, n: usize) -> &[u8]
-    requires { ⌜ a + n ≤ length (now s) ⌝ }
-    ensures { λ r. ⌜ now r ≡ take n (drop a (now (s .entry))) ⌝ }
-{
-    let e = a + n;
-    &s[a..e]
 }
 
 // Stores the bytes of packet i, left of them at most, and returns the place after them.

@@ -130,6 +130,16 @@ pub fn check(list: &[u8], which: Listing) -> Checked
     walk(list, which)
 }
 
+// The direction in the low bit of a row's side, 2 * link + direction.
+pub fn direction_in(side: u32) -> Direction
+    ensures { λ r. ⌜ rxOf r ≡ side % 2 ⌝ }
+{
+    if side % 2 == 1 {
+        return Direction::Rx;
+    }
+    Direction::Tx
+}
+
 // The direction that a span's kind says.
 fn direction_of(kind: u16) -> Direction
     ensures { λ r. ⌜ r ≡ directionOf kind ⌝ }

@@ -24,6 +24,7 @@ use tree::seat;
 use tree::seek_near;
 use words::get32;
 use words::get64;
+use words::narrow;
 use words::put32;
 use words::put64;
 use words::wide;
@@ -343,14 +344,6 @@ fn count_key(link: u32, dlci: u32) -> u64
     ensures { λ r. ⌜ r ≡ 64 * link + dlci ⌝ }
 {
     64 * (link as u64) + (dlci as u64)
-}
-
-// A place as a word.
-fn narrow(x: usize) -> u32
-    requires { ⌜ x < 4294967296 ⌝ }
-    ensures { λ r. ⌜ r ≡ x ⌝ }
-{
-    x as u32
 }
 
 // A piece, and the rows of its counts.

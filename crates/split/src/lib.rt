@@ -4,18 +4,18 @@
 // where its first 3C stands. The buffer of a key is then the last that many bytes of all that came under the key, and is
 // put together where a 3C closes it. No piece of another key is walked, and what counting finds is not searched for again.
 ghost use mathlib.Core.Path.{_≡_};
-ghost use Prim.Native.Nat.{_+_, _-_, _%_, _≤_, _<_, min};
+ghost use Prim.Native.Nat.{_+_, _-_, _%_, _≤_, _<_};
 ghost use lib.ListN.{length, take, drop};
 ghost use lib.Seq.{sets};
 ghost use Rattle.laws.specs.Stores.{Writes};
-ghost use Rattle.items.specs.Items.{rxOf, spanList};
+ghost use Rattle.items.specs.Items.{spanList};
 ghost use Rattle.spans.specs.Spans.{spans};
 ghost use Rattle.split.specs.Last.{lastn};
 ghost use Rattle.split.specs.Rows.{lenAt, inWork, bytesAt, heldOf, streamTo, cappedLength, sign, all, Laid};
 ghost use Rattle.split.specs.Walks.{Row, LinkRoom, LinkedTo, Chain, Earlier, StartIs, Placed, PutPre, GatherPre, JoinPre, Joined, Noted, OpenPre, Known, CountPre, CountHeld, JoinHeld, Behind, Stepped, CountIs, itemsOf, itemsFrom, WritePre, FirstOut, FirstWrote, RestPre, OutPre, GatherOut, ClosePre, closedItem, ListPre};
 use classes::Rows;
 use classes::link_all;
-use items::Direction;
+use items::direction_in;
 use items::put_head;
 use spans::Scanned;
 use spans::Tally;
@@ -27,6 +27,8 @@ use spans::write_part;
 use words::copy_to;
 use words::get32;
 use words::get64;
+use words::least;
+use words::part;
 use words::put_le;
 use words::put32;
 
@@ -107,15 +109,6 @@ pub fn link_pieces(w: &mut [u8], p: Plan, links: usize)
 
 // ---- the bytes of a piece
 
-// n bytes from a place on.
-fn part(s: &[u8], a: usize, n: usize) -> &[u8]
-    requires { ⌜ a + n ≤ length (now s) ⌝ }
-    ensures { λ r. ⌜ now r ≡ take n (drop a (now (s .entry))) ⌝ }
-{
-    let e = a + n;
-    &s[a..e]
-}
-
 // The bytes of a piece, where they lie: in the file, or in work if it was joined.
 fn piece<'a>(file: &'a [u8], w: &'a [u8], p: Plan, i: usize) -> &'a [u8]
     requires { ⌜ Placed (now file) (now w) p i ⌝ }
@@ -156,15 +149,6 @@ fn put_bytes(file: &[u8], w: &mut [u8], p: Plan, j: usize, skip: usize, m: usize
     }
     let end = start + m;
     copy_to(&file[start..end], w, to);
-}
-
-fn least(a: usize, b: usize) -> usize
-    ensures { λ r. ⌜ r ≡ min a b ⌝ }
-{
-    if a < b {
-        return a;
-    }
-    b
 }
 
 // Puts the last h bytes of what came under the key of i before i into the area: piece by piece, the newest first.
@@ -339,16 +323,6 @@ pub fn count_spans(file: &[u8], w: &mut [u8], p: Plan) -> Sums
 
 // ---- writing
 
-// The direction in the second word of a row.
-fn direction_of(word: u32) -> Direction
-    ensures { λ r. ⌜ rxOf r ≡ word % 2 ⌝ }
-{
-    if word % 2 == 1 {
-        return Direction::Rx;
-    }
-    Direction::Tx
-}
-
 // Copies m bytes of piece j, from skip on, to a place in out.
 fn put_out<'a>(
     file: &'a [u8],
@@ -472,7 +446,7 @@ fn write_rest<'a>(
         return at;
     }
     let row = p.rows + 8 * i;
-    let direction = direction_of(get32(w, row + 1));
+    let direction = direction_in(get32(w, row + 1));
     let ms = get64(w, row + 6);
     let c = write_part(part(piece(file, w, p, i), skip, n), direction, ms, out, at);
     c.at

@@ -6,9 +6,9 @@ use Rattle.btsnoop.proofs.read_fragment.Tie as tie
 use Rattle.btsnoop.proofs.read_fragment.Reads as reads
 use Rattle.btsnoop.proofs.read_fragment.Lts as lts
 use Rattle.btsnoop.proofs.key_of.Reads as key-of-reads
-use Rattle.btsnoop.proofs.narrow.Reads as narrow-reads
+use Rattle.words.proofs.narrow.Reads as narrow-reads
 use Rattle.btsnoop.proofs.start_of.Reads as start-of-reads
-use Rattle.btsnoop.proofs.wide16.Reads as wide16-reads
+use Rattle.words.proofs.wide16.Reads as wide16-reads
 use Rattle.words.proofs.field16.Reads as field16-reads
 
 -- src/lib.rt:153:13

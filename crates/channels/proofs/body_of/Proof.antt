@@ -6,7 +6,7 @@ use Rattle.channels.proofs.body_of.Statement.{statement}
 use Rattle.channels.proofs.body_of.Tie as tie
 use Rattle.channels.proofs.body_of.Reads as reads
 use Rattle.channels.proofs.body_of.Lts as lts
-use Rattle.channels.proofs.wide16.Reads as wide16-reads
+use Rattle.words.proofs.wide16.Reads as wide16-reads
 use Rattle.words.proofs.field16.Reads as field16-reads
 
 -- src/lib.rt:56:9

@@ -5,7 +5,7 @@ use Rattle.channels.proofs.command_len.Tie as tie
 use Rattle.channels.proofs.command_len.Reads as reads
 use Rattle.channels.proofs.command_len.Lts as lts
 use Rattle.words.proofs.field16.Reads as field16-reads
-use Rattle.channels.proofs.wide16.Reads as wide16-reads
+use Rattle.words.proofs.wide16.Reads as wide16-reads
 
 -- src/lib.rt:157:9
 field16-requires : tie.Need-field16-requires

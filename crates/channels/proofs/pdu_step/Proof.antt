@@ -4,7 +4,7 @@ use Rattle.channels.proofs.pdu_step.Statement.{statement}
 use Rattle.channels.proofs.pdu_step.Tie as tie
 use Rattle.channels.proofs.pdu_step.Reads as reads
 use Rattle.channels.proofs.pdu_step.Lts as lts
-use Rattle.channels.proofs.direction_of.Reads as direction-of-reads
+use Rattle.items.proofs.direction_in.Reads as direction-in-reads
 use Rattle.channels.proofs.step_at.Reads as step-at-reads
 use Rattle.l2cap.proofs.payload.Reads as payload-reads
 use Rattle.words.proofs.get32.Reads as get32-reads
@@ -18,8 +18,8 @@ payload-requires : tie.Need-payload-requires
 payload-requires c κs = search needs
 
 -- src/lib.rt:298:50
-direction-of-requires : tie.Need-direction-of-requires
-direction-of-requires c κs = search needs
+direction-in-requires : tie.Need-direction-in-requires
+direction-in-requires c κs = search needs
 
 -- src/lib.rt:298:5
 step-at-requires : tie.Need-step-at-requires
@@ -27,9 +27,9 @@ step-at-requires c κs = step-inside _ _ _ _ (c .before .before .before .before 
 
 -- src/lib.rt:293:1
 returns : tie.Need-returns
-returns c = pdu-step-is _ _ _ _ (c .before .before .before .before .before .before .pre) _ (c .before .before .payload .ensures) _ _ _ (c .before .before .before .get32 .ensures) (c .before .direction-of .ensures) (c .step-at .ensures)
+returns c = pdu-step-is _ _ _ _ (c .before .before .before .before .before .before .pre) _ (c .before .before .payload .ensures) _ _ _ (c .before .before .before .get32 .ensures) (c .before .direction-in .ensures) (c .step-at .ensures)
 
 pub pdu-step-spec : {M : Type 1} → statement M
 pdu-step-spec =
     tie.close
-    (tie.spec get32-requires payload-requires direction-of-requires step-at-requires returns)
+    (tie.spec get32-requires payload-requires direction-in-requires step-at-requires returns)

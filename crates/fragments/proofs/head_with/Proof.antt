@@ -5,7 +5,7 @@ use Rattle.fragments.proofs.head_with.Statement.{statement}
 use Rattle.fragments.proofs.head_with.Tie as tie
 use Rattle.fragments.proofs.head_with.Reads as reads
 use Rattle.fragments.proofs.head_with.Lts as lts
-use Rattle.fragments.proofs.narrow.Reads as narrow-reads
+use Rattle.words.proofs.narrow.Reads as narrow-reads
 
 -- src/lib.rt:341:9
 returns : tie.Need-returns

@@ -6,7 +6,7 @@ use Rattle.fragments.proofs.link_packets.Tie as tie
 use Rattle.fragments.proofs.link_packets.Reads as reads
 use Rattle.fragments.proofs.link_packets.Lts as lts
 use Rattle.fragments.proofs.link_row.Reads as link-row-reads
-use Rattle.fragments.proofs.narrow.Reads as narrow-reads
+use Rattle.words.proofs.narrow.Reads as narrow-reads
 
 abbrev Inv-loop : tie.InvT-loop
 Inv-loop w₀ q count none s₀ i₀ w s i = Linking w₀ q count w s i

@@ -5,7 +5,7 @@ use Rattle.fragments.proofs.note.Statement.{statement}
 use Rattle.fragments.proofs.note.Tie as tie
 use Rattle.fragments.proofs.note.Reads as reads
 use Rattle.fragments.proofs.note.Lts as lts
-use Rattle.fragments.proofs.narrow.Reads as narrow-reads
+use Rattle.words.proofs.narrow.Reads as narrow-reads
 use Rattle.words.proofs.put32.Reads as put32-reads
 
 -- src/lib.rt:351:14

@@ -5,9 +5,9 @@ use Rattle.fragments.proofs.paste.Statement.{statement}
 use Rattle.fragments.proofs.paste.Tie as tie
 use Rattle.fragments.proofs.paste.Reads as reads
 use Rattle.fragments.proofs.paste.Lts as lts
-use Rattle.fragments.proofs.least.Reads as least-reads
+use Rattle.words.proofs.least.Reads as least-reads
 use Rattle.fragments.proofs.len_of.Reads as len-of-reads
-use Rattle.fragments.proofs.part.Reads as part-reads
+use Rattle.words.proofs.part.Reads as part-reads
 use Rattle.fragments.proofs.place_of.Reads as place-of-reads
 use Rattle.words.proofs.copy_to.Reads as copy-to-reads
 

@@ -7,7 +7,7 @@ use Rattle.l2cap.proofs.payload.Statement.{statement}
 use Rattle.l2cap.proofs.payload.Tie as tie
 use Rattle.l2cap.proofs.payload.Reads as reads
 use Rattle.l2cap.proofs.payload.Lts as lts
-use Rattle.fragments.proofs.part.Reads as part-reads
+use Rattle.words.proofs.part.Reads as part-reads
 use Rattle.words.proofs.get32.Reads as get32-reads
 use Rattle.words.proofs.wide32.Reads as wide32-reads
 

@@ -7,7 +7,7 @@ use Rattle.l2cap.proofs.step.Reads as reads
 use Rattle.l2cap.proofs.step.Lts as lts
 use Rattle.l2cap.proofs.arrive.Reads as arrive-reads
 use Rattle.l2cap.proofs.finish.Reads as finish-reads
-use Rattle.fragments.proofs.narrow.Reads as narrow-reads
+use Rattle.words.proofs.narrow.Reads as narrow-reads
 use Rattle.l2cap.proofs.needed.Reads as needed-reads
 use Rattle.l2cap.proofs.row_of.Reads as row-of-reads
 use Rattle.l2cap.proofs.set_open.Reads as set-open-reads

@@ -8,7 +8,7 @@ use Rattle.rfcomm.proofs.piece_of.Reads as reads
 use Rattle.rfcomm.proofs.piece_of.Lts as lts
 use Rattle.rfcomm.proofs.count_key.Reads as count-key-reads
 use Rattle.rfcomm.proofs.count_of.Reads as count-of-reads
-use Rattle.rfcomm.proofs.narrow.Reads as narrow-reads
+use Rattle.words.proofs.narrow.Reads as narrow-reads
 use Rattle.words.proofs.get32.Reads as get32-reads
 
 -- src/lib.rt:367:9

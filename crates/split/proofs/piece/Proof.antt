@@ -7,7 +7,7 @@ use Rattle.split.proofs.piece.Reads as reads
 use Rattle.split.proofs.piece.Lts as lts
 use Rattle.split.proofs.is_joined.Reads as is-joined-reads
 use Rattle.split.proofs.length_of.Reads as length-of-reads
-use Rattle.split.proofs.part.Reads as part-reads
+use Rattle.words.proofs.part.Reads as part-reads
 use Rattle.split.proofs.start_of.Reads as start-of-reads
 
 -- src/lib.rt:124:9

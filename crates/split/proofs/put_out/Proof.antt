@@ -5,7 +5,7 @@ use Rattle.split.proofs.put_out.Statement.{statement}
 use Rattle.split.proofs.put_out.Tie as tie
 use Rattle.split.proofs.put_out.Reads as reads
 use Rattle.split.proofs.put_out.Lts as lts
-use Rattle.split.proofs.part.Reads as part-reads
+use Rattle.words.proofs.part.Reads as part-reads
 use Rattle.split.proofs.piece.Reads as piece-reads
 use Rattle.words.proofs.copy_to.Reads as copy-to-reads
 

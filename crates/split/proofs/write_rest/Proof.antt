@@ -6,9 +6,9 @@ use Rattle.split.proofs.write_rest.Tie as tie
 use Rattle.split.proofs.write_rest.Reads as reads
 use Rattle.split.proofs.write_rest.Lts as lts
 use Rattle.spans.proofs.write_part.Reads as write-part-reads
-use Rattle.split.proofs.direction_of.Reads as direction-of-reads
+use Rattle.items.proofs.direction_in.Reads as direction-in-reads
 use Rattle.split.proofs.length_of.Reads as length-of-reads
-use Rattle.split.proofs.part.Reads as part-reads
+use Rattle.words.proofs.part.Reads as part-reads
 use Rattle.split.proofs.piece.Reads as piece-reads
 use Rattle.words.proofs.get32.Reads as get32-reads
 use Rattle.words.proofs.get64.Reads as get64-reads
@@ -54,8 +54,8 @@ get32-requires-2 : tie.Need-get32-requires-2
 get32-requires-2 c κs = search needs
 
 -- src/lib.rt:464:9
-direction-of-requires : tie.Need-direction-of-requires
-direction-of-requires c κs = search needs
+direction-in-requires : tie.Need-direction-in-requires
+direction-in-requires c κs = search needs
 
 -- src/lib.rt:465:23
 add-get64 : tie.Need-add-get64
@@ -99,7 +99,7 @@ write-rest-spec =
     add-row
     add-get32-2
     get32-requires-2
-    direction-of-requires
+    direction-in-requires
     add-get64
     get64-requires
     piece-requires

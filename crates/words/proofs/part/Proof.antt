@@ -2,10 +2,10 @@ use mathlib.Core.Path.{_≡_}
 use Prim.Native.Nat.{_+_, _-_}
 use native.Mathlib.Omega.{arith}
 use borrow.Author.Needs.{needs}
-use Rattle.fragments.proofs.part.Statement.{statement}
-use Rattle.fragments.proofs.part.Tie as tie
-use Rattle.fragments.proofs.part.Reads as reads
-use Rattle.fragments.proofs.part.Lts as lts
+use Rattle.words.proofs.part.Statement.{statement}
+use Rattle.words.proofs.part.Tie as tie
+use Rattle.words.proofs.part.Reads as reads
+use Rattle.words.proofs.part.Lts as lts
 
 -- src/lib.rt:108:13
 add-e : tie.Need-add-e
