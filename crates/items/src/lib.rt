@@ -1,6 +1,6 @@
 // Item lists: spans and names, read, checked and written.
 ghost use mathlib.Core.Path.{_≡_};
-ghost use Prim.Native.Nat.{_+_, _-_, _<_, _≤_};
+ghost use Prim.Native.Nat.{_+_, _-_, _%_, _<_, _≤_};
 ghost use lib.ListN.{length};
 ghost use Rattle.laws.specs.Stores.{Writes};
 ghost use Rattle.items.specs.Items.{item, itemHead, spanItem, span, rxOf, spanTest, nameTest, readItems};
