@@ -9,7 +9,7 @@ use Rattle.words.specs.Front.{Front}
 use Rattle.words.proofs.Front.{front-word, front-less}
 use Rattle.table.specs.Table.{lookup}
 use Rattle.table.proofs.Table.{long-agree, lookup-agree}
-use Rattle.tree.specs.Tree.{indexed-agree, stands-same}
+use Rattle.tree.proofs.Index.{indexed-agree, stands-same}
 use Rattle.l2cap.specs.Pdus.{Pdu}
 use Rattle.l2cap.specs.PduTable.{pdusFrom, Reassembled}
 use Rattle.l2cap.proofs.PduFrames.{reassembled-front}
@@ -31,7 +31,7 @@ tells-front ss u w b n fr t = record {
   same : (k : ℕ) → lookup u b n k ≡ lookup w b n k
   same k = lookup-agree u w b n k (λ j lo hi. front-word (4 * (b + 4 * n)) u w j (omega arith) fr)
 
-tries-front : (u w : List ℕ) (q n : ℕ) → 3 * q + 4 * n ≤ 5 * q → Front (20 * q) u w → ((j : ℕ) → 7 * q ≤ j → word u j ≡ word w j) → length u ≡ length w → Tries w q n → Tries u q n
+tries-front : (u w : List ℕ) (q n : ℕ) → 3 * q + 4 * n ≤ 5 * q → Front (20 * q) u w → ((j : ℕ) → 6 * q + (6 * q) / 7 ≤ j → word u j ≡ word w j) → length u ≡ length w → Tries w q n → Tries u q n
 unfolding channelIndex
 tries-front u w q n few fr above l t = record {
   small = t .small;
@@ -41,8 +41,8 @@ tries-front u w q n few fr above l t = record {
   stands = stands-same u w (channelIndex q) n l (t .stands);
 }
 
--- the index stands in the last area, which has to stay too
-pub signalled-front : (f u w : List ℕ) (made : ℕ) (ps : List Pdu) (rows : ℕ) → Front (20 * (length f / 4)) u w → ((j : ℕ) → 7 * (length f / 4) ≤ j → word u j ≡ word w j) → length u ≡ length w → Signalled f w made ps rows → Signalled f u made ps rows
+-- the index stands in the last area and a seventh of the one before, which have to stay too
+pub signalled-front : (f u w : List ℕ) (made : ℕ) (ps : List Pdu) (rows : ℕ) → Front (20 * (length f / 4)) u w → ((j : ℕ) → 6 * (length f / 4) + (6 * (length f / 4)) / 7 ≤ j → word u j ≡ word w j) → length u ≡ length w → Signalled f w made ps rows → Signalled f u made ps rows
 signalled-front f u w made ps rows fr above l s =
     let q : ℕ = length f / 4 in
     record {

@@ -12,7 +12,8 @@ use Rattle.words.specs.Words.{word}
 use Rattle.words.specs.Front.{Front}
 use Rattle.words.proofs.Front.{front-refl, front-then, front-less, front-word}
 use Rattle.table.specs.Table.{lookup, Agree}
-use Rattle.tree.specs.Tree.{Indexed, Stands, SeekPre, EnterPre, stands-less, stands-same, indexed-none}
+use Rattle.tree.specs.Tree.{Indexed, Stands, SeekPre, EnterPre, ClearPre, Cleared, rootsFor}
+use Rattle.tree.proofs.Index.{stands-less, stands-same, roots-some, roots-few}
 use Rattle.tree.specs.declared.Tree.{Tree}
 use Rattle.items.specs.Items.{rxOf}
 use Rattle.items.specs.declared.Direction.{Direction}
@@ -30,6 +31,7 @@ use Rattle.channels.specs.declared.Standing.{Standing}
 use Rattle.channels.specs.declared.Standing.the-variants.{Named, Unnamed}
 use Rattle.channels.specs.declared.Signal.{Signal as Said}
 use Rattle.channels.specs.declared.Step.{Step}
+use Rattle.channels.proofs.Passing.{reassembled-own}
 use Rattle.channels.proofs.Commands.{body-room, command-first, command-more, command-within, commands-end}
 use Rattle.channels.proofs.Grades.{side-key, admits-grade, standing-unnamed, standing-named, telling-start, telling-end}
 
@@ -168,11 +170,11 @@ noting-enter f w₀ row x n₀ p w n at v h = record {
 -- the channels and their index have room for so many
 channel-stands : (f w : List ℕ) (n : ℕ) → 16 ≤ length f → length f ≤ 1048576 → 8 * length f ≤ length w → 8 * n + 16 ≤ length f → Stands w (channelIndex (length f / 4)) n
 unfolding channelIndex
-channel-stands f w n some small room few = record { rows = omega arith; room = omega arith; few = omega arith }
+channel-stands f w n some small room few = record { rows = omega arith; room = omega (arith, roots-few (length f / 4) (omega arith)); few = omega arith }
 
-pub index-is : (q : ℕ) → record { rows = 3 * q; links = 7 * q } ≡ channelIndex q
+pub index-is : (q m : ℕ) → m ≡ rootsFor q → record { rows = 3 * q; links = 6 * q + (6 * q) / 7; roots = m } ≡ channelIndex q
 unfolding channelIndex
-index-is q = refl
+index-is q m e = rw e
 
 pub record Running (f w₀ : List ℕ) (made : ℕ) (w : List ℕ) (rows i : ℕ) : Type 0 where
   pub within : i ≤ made
@@ -309,5 +311,25 @@ module _ (w : List ℕ) (q n side cid : ℕ) (t : Tries w q n) (x : Tree) (ex : 
 
 -- ---- the table empty, and then all PDUs
 
-pub none-noted : (f w : List ℕ) (made : ℕ) → Reassembled f w made (pdusFrom f w (2 * (length f / 4)) 0 made) → (q : ℕ) → q ≡ length f / 4 → NoneNoted f w made q
-none-noted f w made p q eq = record { quarter = eq; pdus = p; indexed = indexed-none w (channelIndex q) }
+module _ (f w : List ℕ) (made : ℕ) (ps : List Pdu) (p : Reassembled f w made ps) (x : Tree) (ex : x ≡ channelIndex (length f / 4)) where
+  pub note-clear : ClearPre w x
+  unfolding channelIndex
+  note-clear = rw ex (record { some = roots-some (length f / 4); room = omega (arith, p .few, p .room, roots-few (length f / 4) (omega (arith, p .few))) })
+
+  module _ (v : List ℕ) (c : Cleared w x v) where
+    front : Front (12 * (length f / 4)) v w
+    unfolding channelIndex
+    front = front-less (12 * (length f / 4)) (4 * (6 * (length f / 4) + (6 * (length f / 4)) / 7)) v w (omega arith) (rw ex at (c .front))
+
+    kept : Reassembled f v made ps
+    kept = reassembled-front f v w made ps front (c .size) p
+
+    pub none-noted : NoneNoted f v made (length f / 4)
+    none-noted = record { quarter = refl; pdus = reassembled-own f v made ps kept; indexed = rw ex at (c .indexed) }
+
+    pub noted-cleared : (u : List ℕ) (r : ℕ) → ReadChannels f v made u r → ReadChannels f w made u r
+    noted-cleared u r s = record {
+      signalled = rw (kept .list ∙ sym (p .list)) at (s .signalled);
+      front = front-then (12 * (length f / 4)) u v w (s .front) front;
+      size = s .size ∙ c .size;
+    }

@@ -21,6 +21,8 @@ use items::direction_in;
 use l2cap::payload;
 use table::Row;
 use tree::Tree;
+use tree::clear;
+use tree::roots_for;
 use tree::seat;
 use tree::seek_near;
 use words::Field;
@@ -325,14 +327,16 @@ fn note_pdu(file: &[u8], w: &mut [u8], row: usize, x: Tree, rows: usize) -> usiz
     n
 }
 
-// Where the channels stand in work: their rows in two areas, their links in the last one, which is free until spans are split.
+// Where the channels stand in work: their rows in two areas; the roots of their trees in the last seventh of an area that counts
+// leave free, and their links behind them, in the last area, which is free until spans are split.
 fn index_of(q: usize) -> Tree
     requires { ⌜ q ≤ 1048576 ⌝ }
     ensures { λ r. ⌜ r ≡ channelIndex q ⌝ }
 {
     Tree {
         rows: 3 * q,
-        links: 7 * q,
+        links: 6 * q + 6 * q / 7,
+        roots: roots_for(q),
     }
 }
 
@@ -357,6 +361,7 @@ pub fn read_channels(file: &[u8], w: &mut [u8], made: usize) -> usize
     ensures { λ r. ⌜ ReadChannels (now (file .entry)) (now (w .entry)) made (now (w .exit)) r ⌝ }
 {
     let q = file.len() / 4;
+    clear(w, index_of(q));
     note_pdus(file, w, made, q)
 }
 

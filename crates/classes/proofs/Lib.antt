@@ -1,5 +1,4 @@
 pub mod Bits
-pub mod Forest
 pub mod Walking
 pub mod Chains
 pub mod Turns

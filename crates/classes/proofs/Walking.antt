@@ -14,16 +14,16 @@ use Rattle.laws.proofs.Keys.{eqK-true, eq-eqK}
 use Rattle.words.specs.Words.{word, putWord}
 use Rattle.words.proofs.Words.{length-put, word-put-same, word-put-other}
 use Rattle.words.proofs.Front.{front-put, front-refl}
-use Rattle.tree.specs.Paths.{nextOf}
+use Rattle.tree.specs.Paths.{nextOf, nodeAt, Slots, Keeps}
+use Rattle.tree.proofs.Paths.{node-step, node-past, node-below, node-kept, Grew, grew-keeps, grew-slots, slots-agree}
 use Rattle.classes.specs.First.{classOf}
 use Rattle.classes.proofs.First.{class-key, class-most, class-new}
 use Rattle.classes.specs.Bits.{firstOf, rootsOf, turnOf, bitsOf, Roots}
-use Rattle.classes.specs.Classes.{keyAt, linksIn, rootIn, nodeAt, pathOf, Slots, Keeps, TwoRows, RowPre, MetAt, FreeAt, SpotIs, NotePre, Repeats, Classes, Known, Noted}
+use Rattle.classes.specs.Classes.{keyAt, linksIn, rootIn, pathOf, TwoRows, RowPre, MetAt, FreeAt, SpotIs, NotePre, Repeats, Classes, Known, Noted}
 use Rattle.classes.specs.declared.Rows.{Rows}
 use Rattle.classes.specs.declared.Spot.{Spot}
 use Rattle.classes.specs.declared.Spot.the-variants.{Met, Free}
 use Rattle.classes.proofs.Bits.{roots-some, root-few}
-use Rattle.classes.proofs.Forest.{node-step, node-past, node-below, node-kept, Grew, grew-keeps, grew-slots, slots-agree}
 
 no-zero : {A : Type 0} (a : ℕ) → 0 ≡ suc a → A
 no-zero a e = absurd (omega (arith, e))

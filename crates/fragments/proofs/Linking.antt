@@ -11,19 +11,24 @@ use Rattle.laws.proofs.Choice.{split≡}
 use Rattle.words.specs.Words.{word, long, putWord}
 use Rattle.words.proofs.Words.{length-put, word-put-same, word-put-other}
 use Rattle.words.specs.Front.{Front}
-use Rattle.words.proofs.Front.{front-refl, front-put, front-then, front-word}
+use Rattle.words.proofs.Front.{front-refl, front-less, front-put, front-then, front-word}
 use Rattle.table.specs.Table.{findIn, lookup, upd, sumOf, some}
 use Rattle.table.proofs.Table.{find-below, lookup-agree, long-agree, sum-agree}
 use Rattle.table.specs.declared.Row.the-variants.{At, Nothing}
-use Rattle.tree.specs.Tree.{Indexed, EnterPre, indexed-agree, find-agree, indexed-none, found-key}
+use Rattle.tree.specs.Tree.{Indexed, EnterPre, rootsFor, ClearPre, Cleared}
+use Rattle.tree.proofs.Index.{indexed-agree, find-agree, found-key, roots-some, roots-few}
 use Rattle.tree.specs.Seats.{Seated}
 use Rattle.tree.proofs.Seats.{split-row}
 use Rattle.tree.specs.declared.Tree.{Tree}
 use Rattle.tree.specs.declared.Seating.{Seating}
-use Rattle.fragments.specs.Links.{soonest, tagAt, Blank, firstOf, indexOf, SeatKey, headIn, headAt, headOf, headWith, Head, noted, Note, LinkStep, LinkedStep, LinkRoom, LinkedTo}
+use Rattle.fragments.specs.Links.{soonest, tagAt, Blank, firstOf, indexOf, SeatKey, headIn, headAt, headOf, headWith, Head, noted, Note}
+use Rattle.fragments.specs.Links.{LinkStep, LinkedStep, LinkRoom, LinkBegun, LinkedTo}
 use Rattle.fragments.proofs.Chains.{soonest-agree, tag-empty, tag-full}
 
 -- ---- the row of a key
+
+pub index-is : (q m : ℕ) → m ≡ rootsFor q → record { rows = 3 * q; links = 5 * q; roots = m } ≡ indexOf q
+index-is q m e = rw e
 
 module _ (w : List ℕ) (q n : ℕ) (p : SeatKey w q n) (x : Tree) (ex : x ≡ indexOf q) where
   pub seat-pre : EnterPre w x n
@@ -232,7 +237,10 @@ cond-suc : (t : Bool) (a b : ℕ) → cond t (suc a) (suc b) ≡ suc (cond t a b
 cond-suc true a b = refl
 cond-suc false a b = refl
 
-module _ (w₀ : List ℕ) (q count : ℕ) (g : LinkRoom w₀ q count) where
+module _ (w₀ : List ℕ) (q count : ℕ) (b : LinkBegun w₀ q count) where
+  g : LinkRoom w₀ q count
+  g = b .room
+
   pub linking-start : (a : ℕ) → Linking w₀ q count w₀ (record { rows = 0; at = a }) count
   unfolding soonest findIn headIn lookup firstOf sumOf
   linking-start a = record {
@@ -240,7 +248,7 @@ module _ (w₀ : List ℕ) (q count : ℕ) (g : LinkRoom w₀ q count) where
     few = omega arith;
     size = refl;
     front = front-refl (4 * (3 * q)) w₀;
-    indexed = indexed-none w₀ (indexOf q);
+    indexed = b .indexed;
     blank = record { says = λ k. refl; sum = refl };
     heads = λ k. let z : count - count ≡ 0 = omega arith in rw z;
     links = λ j lo hi. absurd (omega arith);
@@ -254,14 +262,14 @@ module _ (w₀ : List ℕ) (q count : ℕ) (g : LinkRoom w₀ q count) where
         enter = record {
           stands = record {
             rows = omega (arith, v .few, g .low);
-            room = omega (arith, v .few, g .low, g .room, v .size);
+            room = omega (arith, v .few, g .low, g .room, v .size, roots-few q (g .some));
             few = omega (arith, v .few, g .low, g .small);
           };
           indexed = v .indexed;
         };
         small = g .small;
       };
-      few = omega (arith, v .few, g .low);
+      few = omega (arith, v .few, g .low, roots-few q (g .some));
       low = omega (arith, v .within, g .low);
       room = omega (arith, g .room, v .size);
     }
@@ -344,3 +352,26 @@ module _ (w₀ : List ℕ) (q count : ℕ) (g : LinkRoom w₀ q count) where
         (j : ℕ) → j < count →
         soonest (tagAt w₀ (keyIn w₀ j)) (keyIn w₀ j) (suc j) (count - suc j) ≡ soonest (tagAt w (keyIn w j)) (keyIn w j) (suc j) (count - suc j)
     same j l = rw (← key j l) (tags (keyIn w₀ j) j)
+
+-- ---- the table empty, and then all packets
+
+module _ (w : List ℕ) (q count : ℕ) (g : LinkRoom w q count) (x : Tree) (ex : x ≡ indexOf q) where
+  pub link-clear : ClearPre w x
+  link-clear = rw ex (record { some = roots-some q; room = omega (arith, g .some, g .room, roots-few q (g .some)) })
+
+  module _ (v : List ℕ) (c : Cleared w x v) where
+    pub link-begun : LinkBegun v q count
+    link-begun = record {
+      room = record { some = g .some; low = g .low; small = g .small; room = rw (c .size) (g .room) };
+      indexed = rw ex at (c .indexed);
+    }
+
+    pub link-cleared : (u : List ℕ) (n : ℕ) → LinkedTo v q count u n → LinkedTo w q count u n
+    link-cleared u n t = record {
+      linked = t .linked;
+      seats = t .seats;
+      few = t .few;
+      blank = t .blank;
+      front = front-then (4 * (3 * q)) u v w (t .front) (front-less (4 * (3 * q)) (4 * (5 * q)) v w (omega arith) (rw ex at (c .front)));
+      size = t .size ∙ c .size;
+    }

@@ -11,7 +11,7 @@ use Rattle.words.specs.Front.{Front}
 use Rattle.table.specs.Table.{Slot, none, some, findIn, lookup, sumOf}
 use Rattle.table.specs.declared.Row.{Row}
 use Rattle.table.specs.declared.Row.the-variants.{At, Nothing}
-use Rattle.tree.specs.Tree.{Indexed, EnterPre}
+use Rattle.tree.specs.Tree.{Indexed, EnterPre, rootsFor}
 use Rattle.tree.specs.declared.Tree.{Tree}
 use Rattle.tree.specs.declared.Seating.{Seating}
 
@@ -48,7 +48,7 @@ pub record Blank (w : List ℕ) (b n : ℕ) : Type 0 where
 
 -- where the open PDUs stand and their index
 abbrev pub indexOf : ℕ → Tree
-indexOf q = record { rows = 3 * q; links = 5 * q }
+indexOf q = record { rows = 3 * q; links = 5 * q; roots = rootsFor q }
 
 pub record SeatKey (w : List ℕ) (q n : ℕ) : Type 0 where
   pub enter : EnterPre w (indexOf q) n
@@ -85,7 +85,7 @@ pub record Note (w : List ℕ) (q i a : ℕ) : Type 0 where
 -- packet i can be linked, with the keys of those behind it in n rows
 pub record LinkStep (w : List ℕ) (q n i : ℕ) : Type 0 where
   pub seat : SeatKey w q n
-  pub few : 2 * n + 2 ≤ q
+  pub few : rootsFor q + 2 * n + 2 ≤ q
   pub low : 24 * i + 24 ≤ 4 * q
   pub room : 32 * q ≤ length w
 
@@ -104,9 +104,15 @@ pub record LinkedStep (w : List ℕ) (q n i x : ℕ) (u : List ℕ) (r : Seating
 
 -- room to link the packets, with a table of their keys from word 3 * q on
 pub record LinkRoom (w : List ℕ) (q count : ℕ) : Type 0 where
+  pub some : 0 < q
   pub low : 6 * count ≤ q
   pub small : q ≤ 1048576
   pub room : 32 * q ≤ length w
+
+-- and the table is empty
+pub record LinkBegun (w : List ℕ) (q count : ℕ) : Type 0 where
+  pub room : LinkRoom w q count
+  pub indexed : Indexed w (indexOf q) 0
 
 -- the packets are linked, and n rows with their keys say nothing
 pub record LinkedTo (w : List ℕ) (q count : ℕ) (u : List ℕ) (n : ℕ) : Type 0 where

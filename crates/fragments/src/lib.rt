@@ -8,10 +8,12 @@ ghost use Rattle.laws.specs.Stores.{Writes};
 ghost use Rattle.words.specs.Words.{word};
 ghost use Rattle.tree.specs.Seats.{Seated};
 ghost use Rattle.btsnoop.specs.PacketTable.{packetAt};
-ghost use Rattle.fragments.specs.Links.{indexOf, headOf, headWith, Head, noted, Note, SeatKey, LinkStep, LinkedStep, LinkRoom, LinkedTo};
+ghost use Rattle.fragments.specs.Links.{indexOf, headOf, headWith, Head, noted, Note, SeatKey, LinkStep, LinkedStep, LinkRoom, LinkBegun, LinkedTo};
 ghost use Rattle.fragments.specs.Bytes.{begun, Next, Walk, Paste, Gather};
 use tree::Seating;
 use tree::Tree;
+use tree::clear;
+use tree::roots_for;
 use tree::seat;
 use words::copy_to;
 use words::get32;
@@ -36,6 +38,7 @@ fn index_of(q: usize) -> Tree
     Tree {
         rows: 3 * q,
         links: 5 * q,
+        roots: roots_for(q),
     }
 }
 
@@ -95,9 +98,9 @@ fn link_row(w: &mut [u8], q: usize, s: Seating, i: usize, none: u32) -> Seating
     t
 }
 
-// Links each packet to the next one under its key, from the last to the first, and returns the count of keys.
-pub fn link_packets(w: &mut [u8], q: usize, count: usize) -> usize
-    requires { ⌜ LinkRoom (now w) q count ⌝ }
+// The same for all packets, from the last to the first, with a table of keys that is empty. Returns the count of keys.
+fn link_rows(w: &mut [u8], q: usize, count: usize) -> usize
+    requires { ⌜ LinkBegun (now w) q count ⌝ }
     ensures { λ r. ⌜ LinkedTo (now (w .entry)) q count (now (w .exit)) r ⌝ }
 {
     let none = narrow(count + 1);
@@ -108,6 +111,15 @@ pub fn link_packets(w: &mut [u8], q: usize, count: usize) -> usize
         s = link_row(w, q, s, i, none);
     }
     s.rows
+}
+
+// Links each packet to the next one under its key, and returns the count of keys.
+pub fn link_packets(w: &mut [u8], q: usize, count: usize) -> usize
+    requires { ⌜ LinkRoom (now w) q count ⌝ }
+    ensures { λ r. ⌜ LinkedTo (now (w .entry)) q count (now (w .exit)) r ⌝ }
+{
+    clear(w, index_of(q));
+    link_rows(w, q, count)
 }
 
 // ---- the bytes of a key

@@ -14,7 +14,7 @@ use Rattle.words.proofs.Front.{front-then, front-put}
 use Rattle.table.specs.Table.{Slot, none as no-row, some as row, findIn, lookup, second, Stored}
 use Rattle.table.proofs.Table.{lookup-found, find-below, long-agree, store-old}
 use Rattle.table.specs.declared.Row.the-variants.{At}
-use Rattle.tree.specs.Tree.{find-agree}
+use Rattle.tree.proofs.Index.{find-agree}
 use Rattle.fragments.specs.Links.{firstOf}
 use Rattle.l2cap.specs.Steps.{asOpen, openAt, openIn, longer, grown, nextAt, nextBy, Arrive, putOpen}
 use Rattle.l2cap.specs.declared.Open.{Open}

@@ -142,7 +142,7 @@ module _ (f w₀ : List ℕ) (q n count : ℕ) (pre : Run f w₀ q n count) wher
 
 module _ (f w : List ℕ) (count : ℕ) (pre : Tabled f w count) (q : ℕ) (e : q ≡ length f / 4) where
   pub link-room : LinkRoom w q count
-  link-room = record { low = omega (arith, pre .total); small = omega (arith, pre .small); room = omega (arith, pre .room) }
+  link-room = record { some = omega (arith, pre .total); low = omega (arith, pre .total); small = omega (arith, pre .small); room = omega (arith, pre .room) }
 
   module _ (v : List ℕ) (c : ℕ) (l : LinkedTo w q count v c) where
     low₀ : 24 * count ≤ 4 * (3 * q)

@@ -16,7 +16,7 @@ use Rattle.words.proofs.Front.{front-then, front-word, front-less, front-refl}
 use Rattle.table.specs.Table.{some as row, findIn, lookup, upd, second, sumOf, Stored, Agree}
 use Rattle.table.proofs.Table.{find-below, lookup-found, lookup-agree, long-agree, sum-agree, second-le}
 use Rattle.table.specs.declared.Row.the-variants.{At}
-use Rattle.tree.specs.Tree.{find-agree}
+use Rattle.tree.proofs.Index.{find-agree}
 use Rattle.btsnoop.specs.PacketTable.{packetAt, dataOf}
 use Rattle.btsnoop.proofs.PacketFrames.{data-next, data-front}
 use Rattle.fragments.specs.Bytes.{since, begun, Walk}

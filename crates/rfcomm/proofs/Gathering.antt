@@ -22,11 +22,14 @@ use Rattle.l2cap.specs.PduTable.{pduAt, pdusFrom, paysOf}
 use Rattle.l2cap.proofs.PduFrames.{reassembled-lent, pdus-next, pdus-none, pays-next, pays-mono, pays-agree, pdus-agree}
 use Rattle.channels.specs.Signals.{Signal, signals}
 use Rattle.channels.specs.ChannelTable.{Tells}
+use Rattle.channels.specs.Passing.{Signalled}
 use Rattle.channels.proofs.Passing.{signalled-front}
 use Rattle.rfcomm.specs.Pieces.{Kind, asks, opens, passed, kindOf, judged, Counts, counted, pieceOf, brought, noCounts, pieces}
 use Rattle.rfcomm.proofs.Pieces.{judged-is}
 use Rattle.rfcomm.specs.PieceTable.{pieceAt, piecesFrom, infosOf, Within, Pieced}
-use Rattle.tree.specs.Tree.{Indexed, Entered, Stands, indexed-agree, indexed-none}
+use Rattle.tree.specs.Tree.{Indexed, Entered, Stands, ClearPre, Cleared}
+use Rattle.tree.specs.declared.Tree.{Tree}
+use Rattle.tree.proofs.Index.{indexed-agree}
 use Rattle.tree.specs.declared.Seating.{Seating}
 use Rattle.rfcomm.specs.CountTable.{valueOf, countIndex, UpPre, CountedUp, Counted}
 use Rattle.rfcomm.proofs.CountTable.{up-count, counted-start, counted-agree, counted-none, counted-session, counted-link}
@@ -40,7 +43,7 @@ use Rattle.rfcomm.specs.declared.Near.{Near}
 use Rattle.rfcomm.specs.declared.Taken.{Taken}
 use Rattle.rfcomm.specs.declared.Verdict.{Verdict}
 use Rattle.rfcomm.specs.declared.Verdict.the-variants.{Asks, Opens, Carries, Passed}
-use Rattle.rfcomm.specs.Gathering.{partOf, TakePre, Ready, TakenIn, PiecesPre, ReadPieces, Gathering}
+use Rattle.rfcomm.specs.Gathering.{partOf, TakePre, Ready, TakenIn, PiecesPre, PiecesBegun, ReadPieces, Gathering}
 
 pub part-is : (w : List ℕ) (row b n : ℕ) (i : Info) (side k₁ k₂ s l cid start len : ℕ) → side ≡ word w row → k₁ ≡ 64 * (side / 2) + 0 → s ≡ valueOf (lookup w b n k₁) → k₂ ≡ 64 * (side / 2) + i .dlci → l ≡ valueOf (lookup w b n k₂) →
     cid ≡ word w (row + 1) → start ≡ i .start → len ≡ i .len →
@@ -145,7 +148,7 @@ module _ (f w : List ℕ) (q rows : ℕ) (t : Taken) (j : ℕ) (r : Ready f w q 
       kept-pieces : piecesFrom f u (5 * q) 0 (t .pieces) ≡ piecesFrom f w (5 * q) 0 (t .pieces)
       kept-pieces = pieces-front (24 * q) f u w (5 * q) 0 (t .pieces) (8 * q) pieces-room counts-front (omega arith) (λ i h. r .within i (omega arith))
 
-      beyond : (i : ℕ) → 7 * q ≤ i → word u i ≡ word w i
+      beyond : (i : ℕ) → 6 * q + (6 * q) / 7 ≤ i → word u i ≡ word w i
       unfolding countIndex
       beyond i h = at .beyond i (omega (arith, h, r .counts, r .few, r .quarter))
 
@@ -271,17 +274,17 @@ module _ (f w : List ℕ) (q rows : ℕ) (t : Taken) (j : ℕ) (r : Ready f w q 
         size = rw eu (length-puts (rowOf (partOf w (2 * q + 7 * j) (6 * q) (t .counts) i) (long w (2 * q + 7 * j + 5))) w (5 * q + 8 * t .pieces));
       }
 
-pub gather-start : (f w : List ℕ) (made rows : ℕ) (near : Near) → PiecesPre f w made rows →
+pub gather-start : (f w : List ℕ) (made rows : ℕ) (near : Near) → PiecesBegun f w made rows →
     Gathering f (pdusFrom f w (2 * (length f / 4)) 0 made) w w made rows (record { counts = 0; pieces = 0; near = near }) 0
 unfolding piecesFrom infosOf paysOf pieces
 gather-start f w made rows near p =
     let z : made - 0 ≡ made = omega arith in
     record {
       all = omega arith;
-      signalled = p .signalled;
+      signalled = p .pre .signalled;
       states = noCounts;
       counted = counted-start w (6 * (length f / 4));
-      indexed = indexed-none w (countIndex (6 * (length f / 4)));
+      indexed = p .indexed;
       counts = omega arith;
       took = omega arith;
       within = λ i h. absurd (omega arith);
@@ -354,3 +357,28 @@ module _ (f : List ℕ) (ps : List Pdu) (w₀ w : List ℕ) (made rows : ℕ) (t
 
 pub gathered : (f w₀ w : List ℕ) (made rows : ℕ) (t : Taken) (j : ℕ) → Gathering f (pdusFrom f w₀ (2 * (length f / 4)) 0 made) w₀ w made rows t j → made ≤ j → ReadPieces f w₀ made w (t .pieces)
 gathered f w₀ w made rows t j g h = record { pieced = gather-end f (pdusFrom f w₀ (2 * (length f / 4)) 0 made) w₀ w made rows t j g h; size = g .size }
+
+-- ---- the table of counts empty, and then all PDUs
+
+module _ (f w : List ℕ) (made rows : ℕ) (p : PiecesPre f w made rows) (x : Tree) (ex : x ≡ countIndex (6 * (length f / 4))) where
+  pub count-clear : ClearPre w x
+  unfolding countIndex
+  count-clear = rw ex (record { some = omega arith; room = omega (arith, p .signalled .pdus .few, p .signalled .pdus .room) })
+
+  module _ (v : List ℕ) (c : Cleared w x v) where
+    front : Front (20 * (length f / 4)) v w
+    unfolding countIndex
+    front = front-less (20 * (length f / 4)) (4 * (6 * (length f / 4) + 4 * ((6 * (length f / 4)) / 42))) v w (omega arith) (rw ex at (c .front))
+
+    above : (n : ℕ) → 6 * (length f / 4) + (6 * (length f / 4)) / 7 ≤ n → word v n ≡ word w n
+    unfolding countIndex
+    above n h = (rw ex at (c .beyond)) n (omega (arith, p .signalled .pdus .few))
+
+    kept : Signalled f v made (pdusFrom f w (2 * (length f / 4)) 0 made) rows
+    kept = signalled-front f v w made (pdusFrom f w (2 * (length f / 4)) 0 made) rows front above (c .size) (p .signalled)
+
+    pub pieces-begun : PiecesBegun f v made rows
+    pieces-begun = record { pre = record { signalled = rw (kept .pdus .list) kept }; indexed = rw ex at (c .indexed) }
+
+    pub pieces-cleared : (u : List ℕ) (r : ℕ) → ReadPieces f v made u r → ReadPieces f w made u r
+    pieces-cleared u r g = record { pieced = rw (kept .pdus .list) at (g .pieced); size = g .size ∙ c .size }

@@ -79,13 +79,18 @@ pub record TakenIn (f w : List ℕ) (q rows : ℕ) (t : Taken) (j : ℕ) (u : Li
   pub more : r .counts ≤ t .counts + 1
   pub most : r .pieces ≤ t .pieces + 1
   pub front : Front (20 * q) u w
-  pub above : (n : ℕ) → 7 * q ≤ n → word u n ≡ word w n
+  pub above : (n : ℕ) → 6 * q + (6 * q) / 7 ≤ n → word u n ≡ word w n
   pub size : length u ≡ length w
 
 -- ---- all PDUs
 
 pub record PiecesPre (f w : List ℕ) (made rows : ℕ) : Type 0 where
   pub signalled : Signalled f w made (pdusFrom f w (2 * (length f / 4)) 0 made) rows
+
+-- and no key is counted yet
+pub record PiecesBegun (f w : List ℕ) (made rows : ℕ) : Type 0 where
+  pub pre : PiecesPre f w made rows
+  pub indexed : Indexed w (countIndex (6 * (length f / 4))) 0
 
 pub record ReadPieces (f w : List ℕ) (made : ℕ) (u : List ℕ) (r : ℕ) : Type 0 where
   pub pieced : Pieced f u r (pieces (judged (pdusFrom f w (2 * (length f / 4)) 0 made)))

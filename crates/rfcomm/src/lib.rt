@@ -13,13 +13,14 @@ ghost use Rattle.rfcomm.specs.PieceRows.{stretchOf, bytesOf, rowOf, PutP
 ghost use Rattle.table.specs.Table.{lookup};
 ghost use Rattle.words.specs.Rows.{putWords};
 ghost use Rattle.words.specs.Words.{long};
-ghost use Rattle.rfcomm.specs.Gathering.{partOf, PiecePre, TakePre, Ready, TakenIn, PiecesPre, ReadPieces};
+ghost use Rattle.rfcomm.specs.Gathering.{partOf, PiecePre, TakePre, Ready, TakenIn, PiecesPre, PiecesBegun, ReadPieces};
 use channels::asks;
 use channels::is_tried;
 use l2cap::payload;
 use table::Row;
 use tree::Seating;
 use tree::Tree;
+use tree::clear;
 use tree::seat;
 use tree::seek_near;
 use words::get32;
@@ -144,14 +145,16 @@ pub fn read_frame(p: &[u8]) -> Frame
     Frame::Other
 }
 
-// Where the counts from word base on have their links: base is 6 areas, and rows and links share the seventh.
+// Where the counts from word base on have their links: base is 6 areas, and rows and links share the seventh, but for the last
+// seventh of it, where the index of the channels begins.
 fn index_of(base: usize) -> Tree
     requires { ⌜ base ≤ 8388608 ⌝ }
     ensures { λ r. ⌜ r ≡ countIndex base ⌝ }
 {
     Tree {
         rows: base,
-        links: base + 4 * (base / 36),
+        links: base + 4 * (base / 42),
+        roots: 1,
     }
 }
 
@@ -444,9 +447,9 @@ fn take_pdu(file: &[u8], w: &mut [u8], q: usize, rows: usize, t: Taken, j: usize
     }
 }
 
-// Reads the pieces of all PDUs into their table, and returns how many there are.
-pub fn read_pieces(file: &[u8], w: &mut [u8], made: usize, rows: usize) -> usize
-    requires { ⌜ PiecesPre (now file) (now w) made rows ⌝ }
+// Takes in all PDUs, with a table of counts that is empty, and returns how many pieces there are.
+fn take_pdus(file: &[u8], w: &mut [u8], made: usize, rows: usize) -> usize
+    requires { ⌜ PiecesBegun (now file) (now w) made rows ⌝ }
     ensures { λ r. ⌜ ReadPieces (now (file .entry)) (now (w .entry)) made (now (w .exit)) r ⌝ }
 {
     let q = file.len() / 4;
@@ -464,4 +467,14 @@ pub fn read_pieces(file: &[u8], w: &mut [u8], made: usize, rows: usize) -> usize
         j += 1;
     }
     t.pieces
+}
+
+// Reads the pieces of all PDUs into their table, and returns how many there are.
+pub fn read_pieces(file: &[u8], w: &mut [u8], made: usize, rows: usize) -> usize
+    requires { ⌜ PiecesPre (now file) (now w) made rows ⌝ }
+    ensures { λ r. ⌜ ReadPieces (now (file .entry)) (now (w .entry)) made (now (w .exit)) r ⌝ }
+{
+    let q = file.len() / 4;
+    clear(w, index_of(6 * q));
+    take_pdus(file, w, made, rows)
 }

@@ -1,2 +1,4 @@
+pub mod Paths
+pub mod Index
 pub mod Seats
 pub mod Turns

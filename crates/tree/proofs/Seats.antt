@@ -16,7 +16,8 @@ use Rattle.table.specs.Table.{findIn, Slot, none, some, lookup, upd, second, su
 use Rattle.table.proofs.Table.{find-below, lookup-found, lookup-nothing, long-agree, store-old}
 use Rattle.table.specs.declared.Row.{Row}
 use Rattle.table.specs.declared.Row.the-variants.{At, Nothing}
-use Rattle.tree.specs.Tree.{Indexed, SeekPre, EnterPre, Entered, Added, SpotIs, putNew, keyAt, find-agree, indexed-agree, stands-less, stands-same, enter-first, enter-new}
+use Rattle.tree.specs.Tree.{Indexed, SeekPre, EnterPre, Entered, Added, SpotIs, putNew, keyAt}
+use Rattle.tree.proofs.Index.{find-agree, indexed-agree, stands-less, stands-same, enter-new}
 use Rattle.tree.specs.Seats.{seatOf, Seated, Sits, Nearby}
 use Rattle.tree.specs.declared.Tree.{Tree}
 use Rattle.tree.specs.declared.Seating.{Seating}
@@ -78,13 +79,6 @@ module _ (w : List ℕ) (x : Tree) (n k y z : ℕ) (p : EnterPre w x n) where
     between = a .entered .between;
     beyond = a .entered .beyond;
   }
-
-  pub row-first : n ≡ 0 → (u : List ℕ) → u ≡ putNew w x 0 k y z → Seated w x n k y z u (record { rows = 1; at = 0 })
-  unfolding findIn
-  row-first e u eu =
-      let f : findIn w (x .rows) k n ≡ Nothing = rw e in
-      let g : Seated w x n k y z u (record { rows = n + 1; at = n }) = seated-added f u (enter-first w x n k y z p e u eu) in
-      rw e (rw e at g)
 
   pub row-taken : (i : ℕ) (r : Spot) → SpotIs w x n k r → r ≡ Taken i → Seated w x n k y z w (record { rows = n; at = i })
   row-taken i r s e = seated-known i (s .taken i e)

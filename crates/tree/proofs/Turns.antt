@@ -1,16 +1,15 @@
 -- A walk is no longer than a key has bits: after 64 turns it has met the key's own row or has ended.
-use mathlib.Core.Path.{_≡_, refl, sym, ap, _∙_}
+use mathlib.Core.Path.{_≡_, refl, sym, ap, ap₂, _∙_}
 use mathlib.Core.List.{List}
-use Prim.Native.Nat.{ℕ, zero, suc, _+_, _*_, _/_, _%_, _<_, _≤_}
+use Prim.Native.Nat.{ℕ, zero, suc, _+_, _-_, _*_, _/_, _%_, _<_, _≤_}
 use native.Mathlib.Omega.{arith}
+use native.Mathlib.Nat.{div-le-self, mod-add-div}
 use Rattle.laws.proofs.Choice.{split≤}
-use Rattle.table.specs.Table.{findIn}
-use Rattle.table.specs.declared.Row.{Row}
-use Rattle.table.specs.declared.Row.the-variants.{At}
-use Rattle.tree.specs.Paths.{nodeAt, restAt, node-past, node-below}
-use Rattle.tree.specs.Tree.{mixOf, keyAt, pathTo, Indexed, Seeking}
+use Rattle.tree.specs.Paths.{restAt}
+use Rattle.tree.specs.Tree.{mixOf, keyAt, linksIn, rootIn, bitsIn, pathTo, Indexed, Seeking}
 use Rattle.tree.specs.declared.Tree.{Tree}
-use Rattle.tree.proofs.Seats.{same-row}
+use Rattle.tree.proofs.Paths.{one-way}
+use Rattle.tree.proofs.Index.{root-low, path-below}
 
 -- ---- numbers and their bits
 
@@ -55,12 +54,18 @@ mix-same a b h l e =
     (λ c. split≤ b a (λ d. omega arith) (λ d. absurd (omega (arith, e, mix-less a b l d))))
     (λ c. absurd (omega (arith, e, mix-less b a h c)))
 
-bits-same : (a b : ℕ) → a < 9223372036854775808 → b < 9223372036854775808 → ((e : ℕ) → e < 64 → restAt (mixOf a) e % 2 ≡ restAt (mixOf b) e % 2) → a ≡ b
+-- keys of one of m trees, with the same bits
+bits-same : (m a b : ℕ) → a < 9223372036854775808 → b < 9223372036854775808 → mixOf a % m ≡ mixOf b % m →
+    ((e : ℕ) → e < 64 → restAt (mixOf a / m) e % 2 ≡ restAt (mixOf b / m) e % 2) → a ≡ b
 unfolding twos
-bits-same a b h l s =
-    let p : restAt (mixOf a) 64 < 1 = rest-below (mixOf a) 64 1 (omega (arith, mix-below a h)) in
-    let q : restAt (mixOf b) 64 < 1 = rest-below (mixOf b) 64 1 (omega (arith, mix-below b l)) in
-    mix-same a b h l (same-bits (mixOf a) (mixOf b) 64 (omega arith) s)
+bits-same m a b h l t s =
+    let p : restAt (mixOf a / m) 64 < 1 = rest-below (mixOf a / m) 64 1 (omega (arith, mix-below a h, div-le-self (mixOf a) m)) in
+    let q : restAt (mixOf b / m) 64 < 1 = rest-below (mixOf b / m) 64 1 (omega (arith, mix-below b l, div-le-self (mixOf b) m)) in
+    let d : mixOf a / m ≡ mixOf b / m = same-bits (mixOf a / m) (mixOf b / m) 64 (omega arith) s in
+    mix-same a b h l (sym (mod-add-div (mixOf a) m) ∙ ap₂ (λ (r c : ℕ). r + m * c) t d ∙ mod-add-div (mixOf b) m)
+
+same-part : (l a b : ℕ) → l + a ≡ l + b → a ≡ b
+same-part l a b e = omega (arith, e)
 
 -- ---- the walk
 
@@ -68,24 +73,16 @@ module _ (w : List ℕ) (x : Tree) (n : ℕ) (s : Indexed w x n) (keys : (i : �
     (k : ℕ) (small : k < 9223372036854775808) where
   -- a row that 64 turns or more lead to has the key
   pub far-row : (d i : ℕ) → 64 ≤ d → i < n → pathTo w x k d ≡ suc i → keyAt w x i ≡ k
-  far-row d i far l h = bits-same (keyAt w x i) k (keys i l) small (λ e b. sym (s .only (restAt (mixOf k)) d i l h .1 e (omega arith)))
+  far-row d i far l h = sym (bits-same (x .roots) k (keyAt w x i) small (keys i l) (same-part (x .links) _ _ (way .1 .0)) (λ e b. way .1 .1 e (omega arith))) where
+    way : (d ≡ s .depth i) × ((rootIn x k ≡ rootIn x (keyAt w x i)) × ((c : ℕ) → c < d → bitsIn x k c % 2 ≡ bitsIn x (keyAt w x i) c % 2))
+    way = one-way w (x .links) (linksIn x) n (s .slots) (s .apart) (omega arith) (rootIn x k) (rootIn x (keyAt w x i)) (bitsIn x k) (bitsIn x (keyAt w x i))
+        (omega arith) (root-low w x n k s) (omega arith) (root-low w x n (keyAt w x i) s) d (s .depth i) i h (s .path i l)
 
-  -- so after 65 there is none
-  pub far-end : 0 < n → (d : ℕ) → 64 < d → pathTo w x k d ≡ 0
-  far-end some d far = go (pathTo w x k 64) (pathTo w x k d) refl refl where
-    below : (e i : ℕ) → pathTo w x k e ≡ suc i → i < n
-    below e i h = omega (arith, h, node-below w (x .links) (restAt (mixOf k)) n (s .links) some e)
-
-    own : (e i : ℕ) → 64 ≤ e → pathTo w x k e ≡ suc i → findIn w (x .rows) k n ≡ At i
-    own e i l h = rw (far-row e i l (below e i h) h) at (s .own i (below e i h))
-
-    go : (a b : ℕ) → pathTo w x k 64 ≡ a → pathTo w x k d ≡ b → b ≡ 0
-    go a zero p q = refl
-    go zero (suc j) p q = sym q ∙ node-past w (x .links) (restAt (mixOf k)) 64 d (omega arith) p
-    go (suc i) (suc j) p q =
-        let z : i ≡ j = same-row (findIn w (x .rows) k n) i j (own 64 i (omega arith) p) (own d j (omega arith) q) in
-        absurd (omega (arith, s .only (restAt (mixOf k)) 64 i (below 64 i p) p .0, rw (← z) at (s .only (restAt (mixOf k)) d j (below d j q) q .0)))
-
-  -- the loop of place, wherever it has come to, is at most 64 turns from the first row
-  pub few-turns : (j rest : ℕ) (q : Seeking w x n k j rest) → q .depth ≤ 64
-  few-turns j rest q = split≤ (q .depth) 64 (λ h. h) (λ h. absurd (omega (arith, q .some, sym (q .here) ∙ far-end (omega (arith, q .some, q .few)) (q .depth) h)))
+  -- the loop of place, wherever it has come to, is at most 64 turns from the root
+  pub few-turns : (at rest : ℕ) (q : Seeking w x n k at rest) → q .depth ≤ 64
+  few-turns at rest q = split≤ (q .depth) 64 (λ h. h) (λ h. absurd (far h (pathTo w x k (q .depth - 1)) refl)) where
+    far : 64 < q .depth → (v : ℕ) → pathTo w x k (q .depth - 1) ≡ v → ⊥
+    far h zero e = omega (arith, e, q .met (q .depth - 1) (omega arith))
+    far h (suc i) e = q .others (q .depth - 1) i (omega arith) e (far-row (q .depth - 1) i (omega arith) few e) where
+      few : i < n
+      few = omega (arith, e, path-below w x n s k (q .depth - 1))

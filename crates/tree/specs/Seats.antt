@@ -32,7 +32,7 @@ pub record Seated (w : List ℕ) (x : Tree) (n k y z : ℕ) (u : List ℕ) (r : 
   pub front : Front (4 * x .rows) u w
   pub size : length u ≡ length w
   pub between : (j : ℕ) → x .rows + 4 * (n + 1) ≤ j → j < x .links → word u j ≡ word w j
-  pub beyond : (j : ℕ) → x .links + 2 * (n + 1) ≤ j → word u j ≡ word w j
+  pub beyond : (j : ℕ) → x .links + x .roots + 2 * (n + 1) ≤ j → word u j ≡ word w j
 
 -- whether row i is the key's
 pub record Sits (w : List ℕ) (x : Tree) (n k i : ℕ) (r : Bool) : Type 0 where

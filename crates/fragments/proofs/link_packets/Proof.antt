@@ -1,67 +1,34 @@
-use Rattle.fragments.proofs.Linking.{Linking, linking-start, linking-step, linking-turn, linking-end}
-use borrow.Author.Needs.{needs}
+use Rattle.fragments.proofs.Linking.{link-clear, link-begun, link-cleared}
 use native.Mathlib.Omega.{arith}
+use borrow.Author.Needs.{needs}
 use Rattle.fragments.proofs.link_packets.Statement.{statement}
 use Rattle.fragments.proofs.link_packets.Tie as tie
 use Rattle.fragments.proofs.link_packets.Reads as reads
 use Rattle.fragments.proofs.link_packets.Lts as lts
-use Rattle.fragments.proofs.link_row.Reads as link-row-reads
-use Rattle.words.proofs.narrow.Reads as narrow-reads
+use Rattle.fragments.proofs.index_of.Reads as index-of-reads
+use Rattle.fragments.proofs.link_rows.Reads as link-rows-reads
+use Rattle.tree.proofs.clear.Reads as clear-reads
 
-abbrev Inv-loop : tie.InvT-loop
-Inv-loop w₀ q count none s₀ i₀ w s i = Linking w₀ q count w s i
+-- src/lib.rt:126:14
+index-of-requires : tie.Need-index-of-requires
+index-of-requires c κs = search needs
 
-abbrev μ-loop : tie.MeasureT-loop
-μ-loop w₀ q count none s₀ i₀ w s i = i
+-- src/lib.rt:126:5
+clear-requires : tie.Need-clear-requires
+clear-requires c κs = search link-clear
 
--- src/lib.rt:376:23
-add-narrow : tie.Need-add-narrow Inv-loop μ-loop
-add-narrow c = search needs
+-- src/lib.rt:127:5
+link-rows-requires : tie.Need-link-rows-requires
+link-rows-requires c κs = search link-begun
 
--- src/lib.rt:376:9
-narrow-requires : tie.Need-narrow-requires Inv-loop μ-loop
-narrow-requires c κs = search needs
+-- src/lib.rt:122:1
+same-length : tie.Need-same-length
+same-length c = search needs
 
--- src/lib.rt:379:5
-loop-holds : tie.Need-loop-holds Inv-loop μ-loop
-loop-holds c = search linking-start
-
--- src/lib.rt:380:9
-sub-i : tie.Need-sub-i Inv-loop μ-loop
-sub-i c = search needs
-
--- src/lib.rt:381:9
-link-row-requires : tie.Need-link-row-requires Inv-loop μ-loop
-link-row-requires c κs = search linking-step
-
--- src/lib.rt:379:5
-loop-less : tie.Need-loop-less Inv-loop μ-loop
-loop-less c = search needs
-
--- src/lib.rt:379:5
-loop-again : tie.Need-loop-again Inv-loop μ-loop
-loop-again c = search linking-turn
-
--- src/lib.rt:372:1
-same-length : tie.Need-same-length Inv-loop μ-loop
-same-length c = c .before .loop .inv .size
-
--- src/lib.rt:372:1
-returns : tie.Need-returns Inv-loop μ-loop
-returns c = search linking-end
+-- src/lib.rt:122:1
+returns : tie.Need-returns
+returns c = search link-cleared
 
 pub link-packets-spec : {M : Type 1} → statement M
 link-packets-spec =
-    tie.close
-    (tie.spec
-    Inv-loop
-    μ-loop
-    add-narrow
-    narrow-requires
-    loop-holds
-    sub-i
-    link-row-requires
-    loop-less
-    loop-again
-    same-length
-    returns)
+    tie.close (tie.spec index-of-requires clear-requires link-rows-requires same-length returns)

@@ -6,15 +6,15 @@ use Rattle.rfcomm.proofs.index_of.Tie as tie
 use Rattle.rfcomm.proofs.index_of.Reads as reads
 use Rattle.rfcomm.proofs.index_of.Lts as lts
 
--- src/lib.rt:153:23
+-- src/lib.rt:155:23
 mul-t3 : tie.Need-mul-t3
 mul-t3 c = search needs
 
--- src/lib.rt:153:16
+-- src/lib.rt:155:16
 add-t4 : tie.Need-add-t4
 add-t4 c = search needs
 
--- src/lib.rt:147:1
+-- src/lib.rt:149:1
 returns : tie.Need-returns
 returns c = search index-is
 

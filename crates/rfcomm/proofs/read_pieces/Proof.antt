@@ -1,61 +1,39 @@
-use Rattle.rfcomm.specs.Gathering.{Gathering}
-use Rattle.rfcomm.proofs.Gathering.{gather-start, gather-ready, gather-turn, gathered}
-use Rattle.l2cap.specs.PduTable.{pdusFrom}
-use mathlib.Core.Path.{_≡_, refl}
-use Prim.Native.Nat.{_-_, _*_, _/_}
-use lib.ListN.{length}
-use borrow.Author.Needs.{needs}
+use Rattle.rfcomm.proofs.Gathering.{count-clear, pieces-begun, pieces-cleared}
 use native.Mathlib.Omega.{arith}
+use borrow.Author.Needs.{needs}
 use Rattle.rfcomm.proofs.read_pieces.Statement.{statement}
 use Rattle.rfcomm.proofs.read_pieces.Tie as tie
 use Rattle.rfcomm.proofs.read_pieces.Reads as reads
 use Rattle.rfcomm.proofs.read_pieces.Lts as lts
-use Rattle.rfcomm.proofs.take_pdu.Reads as take-pdu-reads
+use Rattle.rfcomm.proofs.index_of.Reads as index-of-reads
+use Rattle.rfcomm.proofs.take_pdus.Reads as take-pdus-reads
+use Rattle.tree.proofs.clear.Reads as clear-reads
 
-abbrev Inv-loop : tie.InvT-loop
-Inv-loop file w₀ made rows q t₀ j₀ w t j = (q ≡ length file / 4) × Gathering file (pdusFrom file w₀ (2 * (length file / 4)) 0 made) w₀ w made rows t j
+-- src/lib.rt:485:23
+mul-index-of : tie.Need-mul-index-of
+mul-index-of c = search needs
 
-abbrev μ-loop : tie.MeasureT-loop
-μ-loop file w₀ made rows q t₀ j₀ w t j = made - j
+-- src/lib.rt:485:14
+index-of-requires : tie.Need-index-of-requires
+index-of-requires c κs = search needs
 
--- src/lib.rt:387:5
-loop-holds : tie.Need-loop-holds Inv-loop μ-loop
-loop-holds c = (refl, search gather-start)
+-- src/lib.rt:485:5
+clear-requires : tie.Need-clear-requires
+clear-requires c κs = search count-clear
 
--- src/lib.rt:388:9
-take-pdu-requires : tie.Need-take-pdu-requires Inv-loop μ-loop
-take-pdu-requires c κs = search gather-ready
+-- src/lib.rt:486:5
+take-pdus-requires : tie.Need-take-pdus-requires
+take-pdus-requires c κs = search pieces-begun
 
--- src/lib.rt:389:9
-add-j : tie.Need-add-j Inv-loop μ-loop
-add-j c = search needs
+-- src/lib.rt:480:1
+same-length : tie.Need-same-length
+same-length c = search needs
 
--- src/lib.rt:387:5
-loop-less : tie.Need-loop-less Inv-loop μ-loop
-loop-less c = search needs
-
--- src/lib.rt:387:5
-loop-again : tie.Need-loop-again Inv-loop μ-loop
-loop-again c = (c .before .before .before .before .before .loop .inv .0, search gather-turn)
-
--- src/lib.rt:380:1
-same-length : tie.Need-same-length Inv-loop μ-loop
-same-length c = c .before .loop .inv .1 .size
-
--- src/lib.rt:380:1
-returns : tie.Need-returns Inv-loop μ-loop
-returns c = search gathered
+-- src/lib.rt:480:1
+returns : tie.Need-returns
+returns c = search pieces-cleared
 
 pub read-pieces-spec : {M : Type 1} → statement M
 read-pieces-spec =
     tie.close
-    (tie.spec
-    Inv-loop
-    μ-loop
-    loop-holds
-    take-pdu-requires
-    add-j
-    loop-less
-    loop-again
-    same-length
-    returns)
+    (tie.spec mul-index-of index-of-requires clear-requires take-pdus-requires same-length returns)

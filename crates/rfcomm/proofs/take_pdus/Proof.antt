@@ -1,0 +1,61 @@
+use Rattle.rfcomm.specs.Gathering.{Gathering}
+use Rattle.rfcomm.proofs.Gathering.{gather-start, gather-ready, gather-turn, gathered}
+use Rattle.l2cap.specs.PduTable.{pdusFrom}
+use mathlib.Core.Path.{_≡_, refl}
+use Prim.Native.Nat.{_-_, _*_, _/_}
+use lib.ListN.{length}
+use borrow.Author.Needs.{needs}
+use native.Mathlib.Omega.{arith}
+use Rattle.rfcomm.proofs.take_pdus.Statement.{statement}
+use Rattle.rfcomm.proofs.take_pdus.Tie as tie
+use Rattle.rfcomm.proofs.take_pdus.Reads as reads
+use Rattle.rfcomm.proofs.take_pdus.Lts as lts
+use Rattle.rfcomm.proofs.take_pdu.Reads as take-pdu-reads
+
+abbrev Inv-loop : tie.InvT-loop
+Inv-loop file w₀ made rows q t₀ j₀ w t j = (q ≡ length file / 4) × Gathering file (pdusFrom file w₀ (2 * (length file / 4)) 0 made) w₀ w made rows t j
+
+abbrev μ-loop : tie.MeasureT-loop
+μ-loop file w₀ made rows q t₀ j₀ w t j = made - j
+
+-- src/lib.rt:387:5
+loop-holds : tie.Need-loop-holds Inv-loop μ-loop
+loop-holds c = (refl, search gather-start)
+
+-- src/lib.rt:388:9
+take-pdu-requires : tie.Need-take-pdu-requires Inv-loop μ-loop
+take-pdu-requires c κs = search gather-ready
+
+-- src/lib.rt:389:9
+add-j : tie.Need-add-j Inv-loop μ-loop
+add-j c = search needs
+
+-- src/lib.rt:387:5
+loop-less : tie.Need-loop-less Inv-loop μ-loop
+loop-less c = search needs
+
+-- src/lib.rt:387:5
+loop-again : tie.Need-loop-again Inv-loop μ-loop
+loop-again c = (c .before .before .before .before .before .loop .inv .0, search gather-turn)
+
+-- src/lib.rt:380:1
+same-length : tie.Need-same-length Inv-loop μ-loop
+same-length c = c .before .loop .inv .1 .size
+
+-- src/lib.rt:380:1
+returns : tie.Need-returns Inv-loop μ-loop
+returns c = search gathered
+
+pub take-pdus-spec : {M : Type 1} → statement M
+take-pdus-spec =
+    tie.close
+    (tie.spec
+    Inv-loop
+    μ-loop
+    loop-holds
+    take-pdu-requires
+    add-j
+    loop-less
+    loop-again
+    same-length
+    returns)
