@@ -31,6 +31,7 @@ use Rattle.unpacking.specs.declared.Reading.{Reading}
 use Rattle.unpacking.specs.declared.Reading.the-variants.{Whole, Refused}
 use Rattle.blocks.proofs.Counting.{total-append}
 use Rattle.unescaping.proofs.Flaws.{told-as}
+use Rattle.unescaping.proofs.Places.{ahead-bare}
 use Rattle.unescaping.proofs.Unescaping.{unescape-bare, pushes-gives, weighed, closing, Ends, ends}
 
 bare-sound : (s : List ℕ) → sentries s ≡ 0 → unescape s ≡ gives [] s
