@@ -10,6 +10,7 @@ ghost use Rattle.blocks.specs.Blocks.{OneIf, Minus, Tallied, Bare, Full,
 
 // ---- sums and counts
 
+// Whether a byte lies between two values.
 pub fn is_within(b: u8, lo: u8, hi: u8) -> bool
     ensures { λ r. ⌜ r ≡ within lo hi b ⌝ }
 {

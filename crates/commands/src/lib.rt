@@ -404,6 +404,7 @@ fn place_of(i: usize) -> Place
     place_in(&starts, &lens, i)
 }
 
+// How long the name with a number is.
 pub fn name_len(i: usize) -> usize
     requires { ⌜ i < 246 ⌝ }
     ensures { λ r. ⌜ (r ≡ length (nameAt i)) × (r ≤ 4406) ⌝ }
@@ -412,6 +413,7 @@ pub fn name_len(i: usize) -> usize
     p.end - p.start
 }
 
+// Writes the name with a number at a place, and returns the place after it.
 pub fn put_name(out: &mut [u8], at: usize, i: usize) -> usize
     requires { ⌜ i < 246 ⌝ }
     requires { ⌜ at + length (nameAt i) ≤ length (now out) ⌝ }

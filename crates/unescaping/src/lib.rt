@@ -150,6 +150,7 @@ pub struct Got {
     pub next: usize,
 }
 
+// The byte at a place.
 pub fn get(s: &[u8], i: usize) -> Got
     requires { ⌜ 1 ≤ length (ahead (now s) i) ⌝ }
     ensures { λ r. ⌜ GotIs (now (s .entry)) i r ⌝ }
@@ -276,6 +277,7 @@ fn fill_block(s: &[u8], from: usize, out: &mut [u8], at: usize, dense: bool) -> 
     fill_few(s, from, out, at, 16)
 }
 
+// Stores the next count unescaped bytes at the front of the output, block by block.
 pub fn fill(s: &[u8], from: usize, out: &mut [u8], count: usize) -> usize
     requires { ⌜ count ≤ length (ahead (now s) from) ⌝ }
     requires { ⌜ count ≤ length (now out) ⌝ }
