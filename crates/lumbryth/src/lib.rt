@@ -4,7 +4,7 @@ ghost use mathlib.Core.Path.{_≡_};
 ghost use Rattle.fixtures.specs.Plan.{planOf};
 ghost use Rattle.items.specs.Items.{rxOf};
 ghost use Rattle.mdr.specs.Frame.{unpackOf, packOf};
-ghost use Rattle.names.specs.Commands.{isCommandName};
+ghost use Rattle.commands.specs.Commands.{isCommandName};
 ghost use Rattle.names.specs.Names.{fixtureName};
 ghost use Rattle.order.specs.Order.{captureOrder};
 ghost use Rattle.imports.specs.Numbers.{optionsIn, optionsNumber};
@@ -28,7 +28,7 @@ use telling::tell;
 pub extern "C" fn lumbryth_unpack(wire: &[u8], out: &mut [u8], values: &mut [u64]) -> u32
     ensures { λ r. ⌜ Calls (unpackOf (now (wire .entry))) (now (out .entry)) (now (out .exit)) (now (values .entry)) r (now (values .exit)) ⌝ }
 {
-    let u = mdr::unpack(wire, out);
+    let u = unpacking::unpack(wire, out);
     let s = shown_unpacked(u);
     tell(s, values)
 }
@@ -44,7 +44,7 @@ pub extern "C" fn lumbryth_pack(
 ) -> u32
     ensures { λ r. ⌜ Calls (packOf kind seq (now (payload .entry))) (now (out .entry)) (now (out .exit)) (now (values .entry)) r (now (values .exit)) ⌝ }
 {
-    let p = mdr::pack(kind, seq, payload, out);
+    let p = packing::pack(kind, seq, payload, out);
     let s = shown_packed(p);
     tell(s, values)
 }
@@ -82,7 +82,7 @@ pub extern "C" fn lumbryth_fixture_name(
 pub extern "C" fn lumbryth_is_command_name(name: &[u8]) -> u32
     ensures { λ r. ⌜ r ≡ bit (isCommandName (now (name .entry))) ⌝ }
 {
-    if names::is_command_name(name) {
+    if commands::is_command_name(name) {
         return 1;
     }
     0

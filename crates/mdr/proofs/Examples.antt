@@ -7,6 +7,8 @@ use Rattle.laws.specs.Answers.{refuses}
 use Rattle.mdr.specs.Sum.{checksumOf}
 use Rattle.mdr.specs.Escape.{within, escape}
 use Rattle.mdr.specs.Frame.{packOf, judged, unpackOf}
+use Rattle.mdr.specs.Told.{told, glance}
+use Rattle.mdr.specs.declared.Unpacked.the-variants.{BadEscapee, LengthMismatch, BadChecksum}
 
 pub examples :
     (unpackOf [] ≡ refuses 10 [])
@@ -19,6 +21,14 @@ pub examples :
     × (unpackOf (0x3E ∷ 0x01 ∷ 0x00 ∷ 0x00 ∷ 0x00 ∷ 0x00 ∷ 0x00 ∷ 0x02 ∷ 0x3C ∷ []) ≡ refuses 17 (2 ∷ 1 ∷ []))
 unfolding unpackOf judged within checksumOf be32
 examples = (refl, refl, refl, refl, refl, refl, refl, refl)
+
+-- those with values, as the cases of the answer tell them
+pub cases :
+    (glance (unpackOf (0x3E ∷ 0x3D ∷ 0x00 ∷ 0x00 ∷ 0x00 ∷ 0x00 ∷ 0x00 ∷ 0x00 ∷ 0x3C ∷ [])) ≡ told (BadEscapee 0x00))
+    × (glance (unpackOf (0x3E ∷ 0x01 ∷ 0x00 ∷ 0x00 ∷ 0x00 ∷ 0x00 ∷ 0x01 ∷ 0x02 ∷ 0x3C ∷ [])) ≡ told (LengthMismatch 1 0))
+    × (glance (unpackOf (0x3E ∷ 0x01 ∷ 0x00 ∷ 0x00 ∷ 0x00 ∷ 0x00 ∷ 0x00 ∷ 0x02 ∷ 0x3C ∷ [])) ≡ told (BadChecksum 2 1))
+unfolding unpackOf judged within checksumOf be32 glance
+cases = (refl, refl, refl)
 
 pub too-long : packOf 0x01 0x00 (replicate 32761 0x00) ≡ refuses 18 []
 unfolding packOf

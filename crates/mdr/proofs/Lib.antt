@@ -1,11 +1,3 @@
-pub mod Counting
-pub mod Unescaping
-pub mod Flaws
-pub mod Places
-pub mod Judging
-pub mod Pairs
-pub mod Filling
-pub mod Escapes
 pub mod Glance
 pub mod Escaping
 pub mod Examples

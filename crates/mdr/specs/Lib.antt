@@ -3,7 +3,6 @@ pub mod Escape
 pub mod Frame
 pub mod Told
 pub mod Escaping
-pub mod Steps
 pub mod Wire
 pub mod Glance
 pub mod Types

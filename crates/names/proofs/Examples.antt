@@ -2,18 +2,17 @@
 use Prim.Native.Nat.{ℕ}
 use Prim.Native.String.{String}
 use mathlib.Core.Path.{_≡_, refl}
-use mathlib.Core.Bool.{true, false}
 use mathlib.Core.List.{List, [], _∷_}
 use Rattle.laws.specs.Answers.{Outcome, refuses}
-use Rattle.laws.specs.Keys.{eqK}
 use Rattle.laws.specs.Numbers.{be32}
 use Rattle.mdr.specs.Sum.{checksumOf}
 use Rattle.mdr.specs.Frame.{judged, unpackOf}
 use Rattle.mdr.specs.Types.{typeOf}
-use Rattle.names.specs.Text.{ascii}
+use Rattle.commands.specs.Text.{ascii}
 use Rattle.names.specs.Digits.{hexDigit, hex2, decimal, decimal6, digits}
-use Rattle.names.specs.Commands.{t1, t2, nameIn, hasName, isCommandName}
-use Rattle.names.specs.Names.{typeName, tableOf, commandName, wayName, frameName, given, fixtureName}
+use Rattle.commands.specs.Commands.{t1, t2, nameIn}
+use Rattle.commands.specs.Labels.{typeName, tableOf, commandName}
+use Rattle.names.specs.Names.{wayName, frameName, given, fixtureName}
 
 -- a frame without payload, of a type and with the sum that belongs to it
 empty : ℕ → List ℕ
@@ -34,10 +33,5 @@ examples :
     × (fixtureName 7 42 1 (single 0x2D 0x00 0x06 0x34) ≡ text "mdr-packet-7-000042-rx.type-UNKNOWN-2d.seq-00.cmd-UNKNOWN-06.bin")
     × (fixtureName 7 42 1 [] ≡ refuses 10 [])
     × (fixtureName 7 42 1 (single 0x0C 0x00 0x06 0x14) ≡ refuses 17 (0x14 ∷ 0x13 ∷ []))
-    × (isCommandName (ascii "GET_TEST") ≡ true)
-    × (isCommandName (ascii "PERI_GET_STATUS") ≡ true)
-    × (isCommandName (ascii "UNKNOWN") ≡ true)
-    × (isCommandName (ascii "NO_COMMAND") ≡ false)
-    × (isCommandName (ascii "GENERAL_SETTING_NTFY_PARAM") ≡ false)
-unfolding empty single text fixtureName unpackOf judged checksumOf be32 typeOf frameName typeName commandName tableOf nameIn t1 t2 wayName decimal digits decimal6 hex2 hexDigit isCommandName hasName eqK
-examples = (refl, refl, refl, refl, refl, refl, refl, refl, refl, refl, refl, refl)
+unfolding empty single text fixtureName unpackOf judged checksumOf be32 typeOf frameName typeName commandName tableOf nameIn t1 t2 wayName decimal digits decimal6 hex2 hexDigit
+examples = (refl, refl, refl, refl, refl, refl, refl)

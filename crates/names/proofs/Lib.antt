@@ -1,6 +1,4 @@
 pub mod Counting
-pub mod Places
-pub mod Searching
 pub mod Writing
 pub mod Naming
 pub mod Digits

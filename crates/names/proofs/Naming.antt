@@ -22,7 +22,7 @@ use Rattle.names.specs.Names.{frameName, lookOf, lookAt, given, named, f
 use Rattle.names.specs.Parts.{NameLen}
 use Rattle.names.proofs.Parts.{length-frame-name, fixture-seen}
 use Rattle.names.specs.Told.{toldNamed, refusalOf}
-use Rattle.names.specs.declared.Frame.{Frame}
+use Rattle.commands.specs.declared.Frame.{Frame}
 use Rattle.names.specs.declared.Look.the-variants.{Seen, Unseen}
 use Rattle.names.specs.declared.Named.{Named}
 

@@ -9,11 +9,12 @@ use Rattle.laws.proofs.Choice.{splitB}
 use Rattle.laws.specs.Answers.{Outcome, gives, refuses}
 use Rattle.mdr.specs.Types.{typeOf}
 use Rattle.mdr.specs.Frame.{unpackOf}
-use Rattle.names.specs.Text.{ascii}
+use Rattle.commands.specs.Text.{ascii}
 use Rattle.names.specs.Digits.{hex2}
 use Rattle.names.proofs.Digits.{length-hex}
-use Rattle.names.specs.Names.{typeName, commandName, wayName, frameName, nameLen, frameOf, lookOf, lookAt, given, named, fixtureName}
-use Rattle.names.specs.declared.Frame.{Frame}
+use Rattle.commands.specs.Labels.{typeName, commandName}
+use Rattle.names.specs.Names.{wayName, frameName, nameLen, frameOf, lookOf, lookAt, given, named, fixtureName}
+use Rattle.commands.specs.declared.Frame.{Frame}
 use Rattle.names.specs.declared.Look.the-variants.{Seen}
 use Rattle.names.specs.Parts.{headOf, headLen, partOf, partLen, typePart, typeLen, seqPart, commandPart, commandLen}
 

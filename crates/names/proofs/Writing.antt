@@ -7,15 +7,16 @@ use lib.ListN.{length}
 use Rattle.laws.specs.Stores.{Writes}
 use Rattle.laws.proofs.Stores.{writes-then}
 use Rattle.mdr.specs.Types.{typeOf}
-use Rattle.names.specs.Text.{ascii}
+use Rattle.commands.specs.Text.{ascii}
 use Rattle.names.specs.Digits.{decimal, decimal6, hex2, DigitCount}
 use Rattle.names.proofs.Digits.{length-six}
-use Rattle.names.specs.Names.{typeName, commandName, wayName, frameName, nameLen}
+use Rattle.commands.specs.Labels.{typeName, commandName}
+use Rattle.names.specs.Names.{wayName, frameName, nameLen}
 use Rattle.names.specs.Parts.{headOf, partOf, typePart, seqPart, commandPart, NameLen}
 use Rattle.names.proofs.Parts.{name-parts}
-use Rattle.names.specs.Run.{nameAt, Spot}
+use Rattle.commands.specs.Run.{nameAt, Spot}
 use Rattle.mdr.specs.declared.DataType.{DataType}
-use Rattle.names.specs.declared.Frame.{Frame}
+use Rattle.commands.specs.declared.Frame.{Frame}
 
 module _ (d₀ : List ℕ) (at : ℕ) where
   pub head-written : (ms counter rx : ℕ) (a b c d e r : ℕ) (d₁ d₂ d₃ d₄ d₅ d₆ : List ℕ) → Writes d₀ at (ascii "mdr-packet-") a d₁ → Writes d₁ a (decimal ms) b d₂ → Writes d₂ b (ascii "-") c d₃ → Writes d₃ c (decimal6 counter) d d₄ → Writes d₄ d (ascii "-") e d₅ → Writes d₅ e (wayName rx) r d₆ → Writes d₀ at (headOf ms counter rx) r d₆

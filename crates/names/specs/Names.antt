@@ -5,44 +5,14 @@ use Prim.Native.Nat.{ℕ, _+_}
 use lib.Dec.{eqb}
 use lib.ListN.{length, getD}
 use Rattle.laws.specs.Answers.{Outcome, gives, refuses}
-use Rattle.mdr.specs.declared.DataType.{DataType}
-use Rattle.mdr.specs.declared.DataType.the-variants.{Data, Ack, DataMcNo1, DataIcd, DataEv, DataMdr, DataCommon, DataMdrNo2, Shot, ShotMcNo1, ShotIcd, ShotEv, ShotMdr, ShotCommon, ShotMdrNo2, Unknown}
-use Rattle.mdr.specs.Types.{typeOf, byteOf}
+use Rattle.mdr.specs.Types.{typeOf}
 use Rattle.mdr.specs.Frame.{unpackOf}
-use Rattle.names.specs.Text.{ascii}
+use Rattle.commands.specs.Text.{ascii}
+use Rattle.commands.specs.Labels.{typeName, commandName}
 use Rattle.names.specs.Digits.{decimal, decimal6, hex2}
-use Rattle.names.specs.Commands.{Entry, t1, t2, nameIn}
-use Rattle.names.specs.declared.Frame.{Frame}
+use Rattle.commands.specs.declared.Frame.{Frame}
 use Rattle.names.specs.declared.Look.{Look}
 use Rattle.names.specs.declared.Look.the-variants.{Seen, Unseen}
-
--- sixteen cases: fifteen values and the rest
-unfoldable pub typeName : DataType → List ℕ
-typeName Data = ascii "DATA"
-typeName Ack = ascii "ACK"
-typeName DataMcNo1 = ascii "DATA_MC_NO1"
-typeName DataIcd = ascii "DATA_ICD"
-typeName DataEv = ascii "DATA_EV"
-typeName DataMdr = ascii "DATA_MDR"
-typeName DataCommon = ascii "DATA_COMMON"
-typeName DataMdrNo2 = ascii "DATA_MDR_NO2"
-typeName Shot = ascii "SHOT"
-typeName ShotMcNo1 = ascii "SHOT_MC_NO1"
-typeName ShotIcd = ascii "SHOT_ICD"
-typeName ShotEv = ascii "SHOT_EV"
-typeName ShotMdr = ascii "SHOT_MDR"
-typeName ShotCommon = ascii "SHOT_COMMON"
-typeName ShotMdrNo2 = ascii "SHOT_MDR_NO2"
-typeName (Unknown b) = ascii "UNKNOWN"
-
--- the table that a type byte selects; the other types have none
-unfoldable pub tableOf : ℕ → List Entry
-tableOf b = cond (eqb b (byteOf DataMdr)) t1 (cond (eqb b (byteOf DataMdrNo2)) t2 [])
-
--- a frame is its type byte, its sequence number, its payload's length, and the payload's first byte, 0 if it has none
-
-unfoldable pub commandName : Frame → List ℕ
-commandName f = cond (eqb (f .size) 0) (ascii "NO_COMMAND") (nameIn (tableOf (f .kind)) (f .first))
 
 unfoldable pub wayName : ℕ → List ℕ
 wayName rx = cond (eqb rx 1) (ascii "rx") (ascii "tx")

@@ -4,10 +4,11 @@ use mathlib.Core.List.{List, _++_}
 use Prim.Native.Nat.{ℕ, _+_, _<_}
 use lib.ListN.{length}
 use Rattle.mdr.specs.Types.{typeOf}
-use Rattle.names.specs.Text.{ascii}
+use Rattle.commands.specs.Text.{ascii}
 use Rattle.names.specs.Digits.{decimal, decimal6, hex2}
-use Rattle.names.specs.Names.{typeName, commandName, wayName, nameLen}
-use Rattle.names.specs.declared.Frame.{Frame}
+use Rattle.commands.specs.Labels.{typeName, commandName}
+use Rattle.names.specs.Names.{wayName, nameLen}
+use Rattle.commands.specs.declared.Frame.{Frame}
 
 -- mdr-packet-<ms>-<counter>-<rx|tx>
 unfoldable pub headOf : ℕ → ℕ → ℕ → List ℕ

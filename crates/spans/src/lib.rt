@@ -8,9 +8,9 @@ ghost use Rattle.spans.specs.Parts.{NextIs, Room, bit, tallyOne, Counted
 ghost use Rattle.spans.specs.Scans.{UpTo, Begins, ScanPre, AddedIs, FirstPre, FirstIs, FromPre, OpenPre, OpenIs, ScannedIs};
 use items::Direction;
 use items::put_span;
-use mdr::unpacks;
 use search::find_byte;
 use search::find_soon;
+use unpacking::unpacks;
 
 // What stands next in a buffer: a span, with its start and its end; or what is left, from its start on.
 pub enum Next {

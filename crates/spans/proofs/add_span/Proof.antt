@@ -5,7 +5,7 @@ use Rattle.spans.proofs.add_span.Statement.{statement}
 use Rattle.spans.proofs.add_span.Tie as tie
 use Rattle.spans.proofs.add_span.Reads as reads
 use Rattle.spans.proofs.add_span.Lts as lts
-use Rattle.mdr.proofs.unpacks.Reads as unpacks-reads
+use Rattle.unpacking.proofs.unpacks.Reads as unpacks-reads
 use Rattle.spans.proofs.bit_of.Reads as bit-of-reads
 
 -- src/lib.rt:223:20

@@ -1,0 +1,5 @@
+pub mod Unescaping
+pub mod Flaws
+pub mod Places
+pub mod Pairs
+pub mod Filling
