@@ -1,7 +1,7 @@
 -- The worked example and the recording with everything are honest, and import of their cuts is computed. Each rule that is broken alone breaks the claim.
 use Prim.Native.Nat.{ℕ, zero, suc, _/_}
 use mathlib.Core.Path.{_≡_, refl}
-use mathlib.Core.Bool.{Bool, false}
+use mathlib.Core.Bool.{Bool, true, false}
 use mathlib.Core.List.{List, [], _∷_, _++_, map}
 use mathlib.Core.Option.{some}
 use Rattle.laws.specs.Answers.{isGiven}
@@ -84,6 +84,11 @@ pub all-tested :
     (tested newLink ≡ but settled) × (tested newSession ≡ but settled) × (tested otherData ≡ but alone) × (tested otherDlci ≡ but alone) × (tested onlyCut ≡ but alone)
 unfolding rules every once ends headerTest wholeTest smallTest dlciTest dynamicTest channelTest channelsTest informationTest sizesTest beginningsTest settledIn settledTest aloneIn aloneTest handlesTest dataTest markTest fragmentsTest leftFrom recordsLeft sent dataOf dataLeft pdusIn markedPdus withMarks judgedIn isDataOf toData afterData adds carriesOn file isBtsnoop datalink isDatalink eqK recordSize be32 be64 le16 packetsIn packets packetOf milliseconds fragment h4Packet hciPacket monitorPacket pdus run after of joined isComplete stillOpen pduOf completed commandSize isCommand commands chop chopFrom body signalOf signalsIn pduSignals signals any names named asksFor admits admittedAfter admitted isTried asksRfcomm asksSession isSabm isUih shortLength infoLength infoStart creditOf frameOf uihKind frameKind kindBy triedBy judgedFrom judgedBy rxOf packed bodyOf summedOf headOf checksumOf within
 all-tested = (refl, refl, refl, refl, refl, refl, refl, refl, refl, refl, refl, refl, refl, refl, refl, refl, refl, refl, refl)
+
+-- two of them break their rule in a cut only: by the whole file they pass
+pub broken-in-a-cut : (settledIn newSession source (newSession .records) 0x40 ≡ true) × (aloneIn onlyCut source (onlyCut .records) ≡ true)
+unfolding rules every once ends headerTest wholeTest smallTest dlciTest dynamicTest channelTest channelsTest informationTest sizesTest beginningsTest settledIn settledTest aloneIn aloneTest handlesTest dataTest markTest fragmentsTest leftFrom recordsLeft sent dataOf dataLeft pdusIn markedPdus withMarks judgedIn isDataOf toData afterData adds carriesOn file isBtsnoop datalink isDatalink eqK recordSize be32 be64 le16 packetsIn packets packetOf milliseconds fragment h4Packet hciPacket monitorPacket pdus run after of joined isComplete stillOpen pduOf completed commandSize isCommand commands chop chopFrom body signalOf signalsIn pduSignals signals any names named asksFor admits admittedAfter admitted isTried asksRfcomm asksSession isSabm isUih shortLength infoLength infoStart creditOf frameOf uihKind frameKind kindBy triedBy judgedFrom judgedBy rxOf packed bodyOf summedOf headOf checksumOf within
+broken-in-a-cut = (refl, refl)
 
 -- so the claim is not empty
 pub example-honest : Honest source example

@@ -16,6 +16,8 @@ pub mod Tests
 pub mod Made
 pub mod Recordings
 pub mod Computed
+pub mod Datalinks
+pub mod JudgedEarly
 pub mod Needed
 pub mod Whole
 pub mod BareWire

@@ -2,4 +2,5 @@ pub mod Glance
 pub mod Escaping
 pub mod Examples
 pub mod Wire
+pub mod RoundTrip
 pub mod Types

@@ -1,10 +1,12 @@
--- The worked example, its cut by one byte, and each refusal but the first, by computation.
-use Prim.Native.Nat.{ℕ, _+_, _-_, _*_, _/_, _%_}
+-- By computation: the worked example and its cut by one byte, each refusal, document 01's own examples of 1 to 7, and whose buffers are counted.
+use Prim.Native.Nat.{ℕ, _+_, _-_, _*_, _/_, _%_, _<_}
 use mathlib.Core.Path.{_≡_, refl}
 use mathlib.Core.List.{List, [], _∷_, _++_}
 use mathlib.Core.Option.{Option, none, some}
-use lib.ListN.{length, take, drop}
-use Rattle.laws.specs.Answers.{refused, refuses, answer, isGiven}
+use native.Mathlib.Omega.{arith}
+use lib.ListN.{length, take, drop, replicate, length-replicate}
+use borrow.Author.Tests.{lt-leb}
+use Rattle.laws.specs.Answers.{Answer, refused, refuses, answer, isGiven}
 use Rattle.laws.specs.Chop.{chop, chopFrom}
 use Rattle.laws.specs.Keys.{eqK}
 use Rattle.laws.specs.Keyed.{run, after}
@@ -27,7 +29,7 @@ use Rattle.rfcomm.specs.Pieces.{uihKind, frameKind, kindBy, judgedFrom, judgedB
 use Rattle.search.specs.Seek.{seek}
 use Rattle.spans.specs.Scan.{spansN, restN, spansOf, restOf, capped}
 use Rattle.spans.specs.Spans.{spans, unfinished, onDlci}
-use Rattle.outcome.specs.Import.{Tail, strict, tolerant, bySource, onChannel, first, hasFrame, chosen, Found, found, missing, listed, filePieces, read, endsWell, outcome, given, fits, workSuffices, placesSuffice, imported, importedIn}
+use Rattle.outcome.specs.Import.{Options, Tail, strict, tolerant, bySource, onChannel, first, hasFrame, chosen, Found, found, missing, listed, filePieces, read, endsWell, outcome, given, fits, workSuffices, placesSuffice, imported, importedIn}
 
 abbrev pub sample : List ℕ
 sample =
@@ -63,3 +65,52 @@ pub refusals :
     (answer (imported btsnoop sample 496 (bySource (some 9) strict)) 22 ≡ refused 7 (23 ∷ []))
 unfolding outcome isBtsnoop datalink isDatalink endsWell read tailOffset records recordsIn chop chopFrom isWhole recordSize be32 be64 le16 eqK filePieces packetsIn packets packetOf milliseconds fragment h4Packet hciPacket monitorPacket pdus run after joined isComplete stillOpen pduOf completed commandSize isCommand commands body signalOf signalsIn pduSignals signals any names named asksFor admits admittedAfter admitted isTried asksRfcomm asksSession isSabm isUih shortLength infoLength infoStart creditOf frameOf uihKind frameKind kindBy triedBy judgedFrom judgedBy counted pieceOf brought pieces seek spansN restN spansOf restOf capped spans unfinished onDlci count nub mem onChannel first hasFrame chosen listed unpacksOf unpackOf judgedFrame isGiven checksumOf imported importedIn fits workSuffices placesSuffice given answer item spanItem spanList le32 le64
 refusals = (refl, refl, refl, refl, refl, refl, refl, refl)
+
+-- ---- document 01's own examples
+
+-- over 1,048,576 bytes, whatever else is asked
+over : (f : List ℕ) (n : ℕ) → length f ≡ n → 1048576 < n → (work : ℕ) (o : Options) → imported btsnoop f work o ≡ refuses 1 []
+unfolding imported fits
+over f n e h work o = rw (e, lt-leb n 1048576 h)
+
+-- 1: 1,048,577 zeros
+pub zeros : (work : ℕ) (o : Options) → imported btsnoop (replicate 1048577 0x00) work o ≡ refuses 1 []
+zeros work o = over (replicate 1048577 0x00) 1048577 (length-replicate {A = ℕ} 1048577 0x00) (omega arith) work o
+
+abbrev bareHeader : List ℕ
+bareHeader = take 16 sample
+
+-- the answer of strict import on any channel, with so many bytes of work and output lent
+abbrev told : List ℕ → ℕ → ℕ → Answer
+told f work room = answer (imported btsnoop f work (bySource none strict)) room
+
+-- 2: bare header, work of 127. 3: 15 bytes. 4: n = 1003. 5: header and one byte. 6: bare header. 7: one 9-byte span, 22 lent
+pub literal :
+    (told bareHeader 127 0 ≡ refused 2 []) ×
+    (told (take 15 sample) 120 0 ≡ refused 3 []) ×
+    (told (take 14 sample ++ (0x03 ∷ 0xEB ∷ [])) 128 0 ≡ refused 4 (1003 ∷ [])) ×
+    (told (bareHeader ++ (0x00 ∷ [])) 136 0 ≡ refused 5 (16 ∷ [])) ×
+    (told bareHeader 128 0 ≡ refused 6 []) ×
+    (told sample 496 22 ≡ refused 7 (23 ∷ []))
+unfolding outcome isBtsnoop datalink isDatalink endsWell read tailOffset records recordsIn chop chopFrom isWhole recordSize be32 be64 le16 eqK filePieces packetsIn packets packetOf milliseconds fragment h4Packet hciPacket monitorPacket pdus run after joined isComplete stillOpen pduOf completed commandSize isCommand commands body signalOf signalsIn pduSignals signals any names named asksFor admits admittedAfter admitted isTried asksRfcomm asksSession isSabm isUih shortLength infoLength infoStart creditOf frameOf uihKind frameKind kindBy triedBy judgedFrom judgedBy counted pieceOf brought pieces seek spansN restN spansOf restOf capped spans unfinished onDlci count nub mem onChannel first hasFrame chosen listed unpacksOf unpackOf judgedFrame isGiven checksumOf imported importedIn fits workSuffices placesSuffice given answer item spanItem spanList le32 le64
+literal = (refl, refl, refl, refl, refl, refl)
+
+-- ---- `unfinished` counts buffers of the DLCI chosen only
+
+-- a record with the beginning of a frame, on the handle and in the direction of the example's: by a CID and the first byte of RFCOMM
+abbrev beginning : ℕ → ℕ → List ℕ
+beginning cid address =
+    0x00 ∷ 0x00 ∷ 0x00 ∷ 0x10 ∷ 0x00 ∷ 0x00 ∷ 0x00 ∷ 0x10 ∷ 0x00 ∷ 0x00 ∷ 0x00 ∷ 0x01 ∷ 0x00 ∷ 0x00 ∷ 0x00 ∷ 0x00 ∷
+    0x00 ∷ 0xDC ∷ 0xDD ∷ 0xB3 ∷ 0x0F ∷ 0x2F ∷ 0x80 ∷ 0x00 ∷
+    0x02 ∷ 0x40 ∷ 0x20 ∷ 0x0B ∷ 0x00 ∷ 0x07 ∷ 0x00 ∷ cid ∷ 0x00 ∷ address ∷ 0xEF ∷ 0x07 ∷ 0x3E ∷ 0x01 ∷ 0x00 ∷ 0x00 ∷ []
+
+abbrev withBeginning : ℕ → ℕ → List ℕ
+withBeginning cid address = bareHeader ++ (beginning cid address ++ drop 16 sample)
+
+-- DLCI 20 in the frame's own stretch and in another, before the frame: not counted. DLCI 18 in another stretch: counted
+pub unfinished-of-chosen :
+    (outcome btsnoop (withBeginning 0x41 0x51) (bySource none strict) ≡ found 18 (record { rx = 1; time = 0; wire = frame } ∷ []) 0 102) ×
+    (outcome btsnoop (withBeginning 0x42 0x51) (bySource none strict) ≡ found 18 (record { rx = 1; time = 0; wire = frame } ∷ []) 0 102) ×
+    (outcome btsnoop (withBeginning 0x42 0x49) (bySource none strict) ≡ found 18 (record { rx = 1; time = 0; wire = frame } ∷ []) 1 102)
+unfolding outcome isBtsnoop datalink isDatalink endsWell read tailOffset records recordsIn chop chopFrom isWhole recordSize be32 be64 le16 eqK filePieces packetsIn packets packetOf milliseconds fragment h4Packet hciPacket monitorPacket pdus run after joined isComplete stillOpen pduOf completed commandSize isCommand commands body signalOf signalsIn pduSignals signals any names named asksFor admits admittedAfter admitted isTried asksRfcomm asksSession isSabm isUih shortLength infoLength infoStart creditOf frameOf uihKind frameKind kindBy triedBy judgedFrom judgedBy counted pieceOf brought pieces seek spansN restN spansOf restOf capped spans unfinished onDlci count nub mem onChannel first hasFrame chosen listed unpacksOf unpackOf judgedFrame isGiven checksumOf
+unfinished-of-chosen = (refl, refl, refl)
