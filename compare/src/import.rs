@@ -483,6 +483,28 @@ fn fragments(import: &mut Import) -> Checked {
     sequences(4, &alphabet, &Trace::new(2001), &step, &mut |trace| import.file(&trace.file, NO_CHANNEL))
 }
 
+/// Every three fragments out of twenty: parts of two PDUs in a row, as starts and as
+/// continuations, so that one may have bytes of the other in excess.
+fn excess(import: &mut Import) -> Checked {
+    let one = trace::l2cap(0x41, &trace::uih(18, &ack(0), None, false));
+    let both = [&one[..], &trace::l2cap(0x41, &trace::uih(18, &ack(1), None, false))].concat();
+    let cuts = [0, 5, one.len(), one.len() + 2, one.len() + 9, both.len()];
+    let mut alphabet: Vec<(u16, &[u8])> = Vec::new();
+    for (i, &from) in cuts.iter().enumerate() {
+        for &to in &cuts[i + 1..] {
+            alphabet.push((1, &both[from..to]));
+            if from == 0 {
+                alphabet.push((2, &both[..to]));
+            }
+        }
+    }
+    let step = |trace: &mut Trace, (flag, data): &(u16, &[u8])| {
+        let stamp = EPOCH + trace.file.len() as u64 * 1000;
+        trace.fragment(Rx, stamp, 0x40, *flag, data);
+    };
+    sequences(3, &alphabet, &Trace::new(1001), &step, &mut |trace| import.file(&trace.file, NO_CHANNEL))
+}
+
 /// One step on a link: direction, CID, payload.
 type Step = (Direction, u16, Vec<u8>);
 
@@ -581,6 +603,49 @@ fn signalling(import: &mut Import) -> Checked {
                 }
             }
         }
+    }
+    Ok(())
+}
+
+/// Every four PDUs on CID 1 that admit it or carry data on it, with a request for PSM 3, one
+/// for another or half of one behind, then a frame on another channel.
+fn doubled(import: &mut Import) -> Checked {
+    let cut = &trace::request(3, 0x41)[..7];
+    let alphabet: Vec<Step> = vec![
+        (Tx, 1, trace::request(3, 1)),
+        (Rx, 1, trace::request(3, 1)),
+        (Tx, 1, trace::request(1, 1)),
+        (Rx, 1, trace::asking(18, &ack(1), None, &trace::command(2, 1, &[3, 0]))),
+        (Rx, 1, trace::asking(18, &ack(2), Some(7), &trace::request(3, 0x41))),
+        (Rx, 1, trace::asking(18, &ack(3), None, &trace::request(1, 0x41))),
+        (Tx, 1, trace::asking(18, &ack(4), None, &trace::command(2, 1, &[3, 0]))),
+        (Tx, 1, trace::asking(18, &ack(5), None, cut)),
+        (Rx, 1, trace::asking(18, &ack(6)[..5], None, &trace::command(2, 1, &[3, 0]))),
+        (Rx, 1, trace::uih(18, &ack(6)[5..], None, false)),
+    ];
+    sequences(4, &alphabet, &Trace::new(1002), &send, &mut |trace| {
+        import.file(&trace.file, NO_CHANNEL)?;
+        send(trace, &(Rx, 0x43, trace::uih(18, &ack(7), None, false)));
+        import.file(&trace.file, NO_CHANNEL)
+    })
+}
+
+/// Two traces that a wrong reading finds a frame more in.
+fn fixed(import: &mut Import) -> Checked {
+    // In excess of a PDU's length comes the start of another, and a continuation has its rest.
+    let pdu = trace::l2cap(0x40, &trace::uih(18, &ack(0), None, false));
+    let mut excess = Trace::new(1001);
+    excess.fragment(Rx, EPOCH + 5000, 0x40, 2, &[&pdu[..], &pdu[..8]].concat());
+    excess.fragment(Rx, EPOCH + 6000, 0x40, 1, &pdu[8..]);
+    // CID 1 is admitted, and data on it are also a request for PSM 3.
+    let mut request = Trace::new(1001);
+    request.pdu(Tx, EPOCH + 5000, 0x40, 1, &trace::request(3, 1));
+    let asking = trace::asking(18, &ack(0), None, &trace::command(2, 1, &[3, 0]));
+    request.pdu(Rx, EPOCH + 6000, 0x40, 1, &asking);
+    for (file, number, frames) in [(excess.file, 0, Some(1)), (request.file, 6, None)] {
+        let found = expected::import_strict(&file, NO_CHANNEL);
+        assert!((found.number, found.values.get(1).copied()) == (number, frames), "a fixed trace has its answer");
+        import.file(&file, NO_CHANNEL)?;
     }
     Ok(())
 }
@@ -718,6 +783,8 @@ pub fn run_rule(subject: &dyn Subject, options: &Options, group: &'static str, r
     log.line("damaged traces", &import.lender);
     limits(&mut |file| import.file(file, NO_CHANNEL), &mut rng)?;
     log.line("long buffers", &import.lender);
+    fixed(&mut import)?;
+    log.line("fixed traces", &import.lender);
     short(&mut import, &mut rng)?;
     log.line("short files and every beginning of good ones", &import.lender);
     if rule == Rule::NotTolerant {
@@ -727,10 +794,14 @@ pub fn run_rule(subject: &dyn Subject, options: &Options, group: &'static str, r
     log.line("every one-byte change of small traces", &import.lender);
     fragments(&mut import)?;
     log.line("every four fragments", &import.lender);
+    excess(&mut import)?;
+    log.line("every three fragments of two PDUs", &import.lender);
     packets(&mut import)?;
     log.line("every short packet", &import.lender);
     signalling(&mut import)?;
     log.line("every three commands", &import.lender);
+    doubled(&mut import)?;
+    log.line("every four PDUs on CID 1", &import.lender);
     rfcomm(&mut import)?;
     log.line("every short RFCOMM frame", &import.lender);
     stretches(&mut import)?;
@@ -740,6 +811,24 @@ pub fn run_rule(subject: &dyn Subject, options: &Options, group: &'static str, r
     large(&mut import, &mut rng)?;
     log.line("traces of about 1,048,576 bytes", &import.lender);
     Ok(())
+}
+
+/// The random traces alone.
+pub fn run_random(subject: &dyn Subject, options: &Options) -> Checked {
+    random(&mut Import::new(subject, Rule::Strict), &mut Rng::new(options.seed), options.size.unwrap_or(50_000))
+}
+
+/// One part alone.
+pub fn run_fixed(subject: &dyn Subject, _: &Options) -> Checked {
+    fixed(&mut Import::new(subject, Rule::Strict))
+}
+
+pub fn run_excess(subject: &dyn Subject, _: &Options) -> Checked {
+    excess(&mut Import::new(subject, Rule::Strict))
+}
+
+pub fn run_doubled(subject: &dyn Subject, _: &Options) -> Checked {
+    doubled(&mut Import::new(subject, Rule::Strict))
 }
 
 pub fn run(subject: &dyn Subject, options: &Options) -> Checked {

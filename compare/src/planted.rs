@@ -3,6 +3,7 @@
 
 use crate::answer::{Answer, Stretch, Subject};
 use crate::expected::LONGEST_FILE;
+use crate::import;
 use crate::model::{self, Reading, RIGHT};
 use crate::{Group, Options};
 
@@ -142,7 +143,24 @@ fn changed(file: &[u8], work: usize, channel: u32, tolerant: bool, change: fn(&m
     answer
 }
 
-/// Each fault with the group that has to report it.
+/// Parts of a group, for faults that each of them has to report alone.
+const RANDOM: &str = "import, random traces";
+const FIXED: &str = "import, fixed traces";
+const FRAGMENTS: &str = "import, every three fragments of two PDUs";
+const CID_1: &str = "import, every four PDUs on CID 1";
+const PARTS: [(&str, Group); 4] = [
+    (RANDOM, import::run_random),
+    (FIXED, import::run_fixed),
+    (FRAGMENTS, import::run_excess),
+    (CID_1, import::run_doubled),
+];
+
+const EXCESS: Planted =
+    Planted { import: |f, w, c, t| read(f, w, c, t, Reading { excess_dropped: false, ..RIGHT }), ..NONE };
+const TRIED_TOO: Planted =
+    Planted { import: |f, w, c, t| read(f, w, c, t, Reading { request_ends: false, ..RIGHT }), ..NONE };
+
+/// Each fault with the group, or part of one, that has to report it.
 fn faults() -> Vec<(&'static str, &'static str, Planted)> {
     vec![
         (
@@ -492,6 +510,14 @@ fn faults() -> Vec<(&'static str, &'static str, Planted)> {
             "a PDU has the time of its first fragment",
             Planted { import: |f, w, c, t| read(f, w, c, t, Reading { last_time: false, ..RIGHT }), ..NONE },
         ),
+        (RANDOM, "bytes in excess of a PDU begin the next, random traces", EXCESS),
+        (FIXED, "bytes in excess of a PDU begin the next, fixed traces", EXCESS),
+        (FRAGMENTS, "bytes in excess of a PDU begin the next, every three fragments", EXCESS),
+        ("tolerant", "bytes in excess of a PDU begin the next, tolerant", EXCESS),
+        (RANDOM, "a PDU with a PSM 3 request is tried as well, random traces", TRIED_TOO),
+        (FIXED, "a PDU with a PSM 3 request is tried as well, fixed traces", TRIED_TOO),
+        (CID_1, "a PDU with a PSM 3 request is tried as well, every four PDUs on CID 1", TRIED_TOO),
+        ("tolerant", "a PDU with a PSM 3 request is tried as well, tolerant", TRIED_TOO),
         (
             "import",
             "65,536 bytes are cleared",
@@ -637,7 +663,7 @@ pub fn unreported(groups: &[(&'static str, Group)], options: &Options) -> (usize
     let mut missed = Vec::new();
     let faults = faults();
     for (name, label, planted) in &faults {
-        let (_, group) = groups.iter().find(|(group, _)| group == name).expect("a group");
+        let (_, group) = groups.iter().chain(&PARTS).find(|(group, _)| group == name).expect("a group");
         if group(planted, options).is_ok() {
             missed.push(*label);
         }
