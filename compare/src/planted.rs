@@ -874,6 +874,12 @@ fn numbered(file: &[u8], work: usize, options: &[u64], number: u32, change: fn(&
     answer
 }
 
+/// The groups that report something where no fault is planted; what they say of a fault would
+/// mean nothing.
+pub fn reported_without(groups: &[(&'static str, Group)], options: &Options) -> Vec<&'static str> {
+    groups.iter().filter(|(_, group)| group(&NONE, options).is_err()).map(|(name, _)| *name).collect()
+}
+
 /// Runs every fault's group on it; the labels of those that no one reported.
 pub fn unreported(groups: &[(&'static str, Group)], options: &Options) -> (usize, Vec<&'static str>) {
     let mut missed = Vec::new();
