@@ -9,14 +9,16 @@
  *
  * How every call works
  *
- * - A slice is a pointer and a length: so many bytes, or so many uint64_t, that
- *   can be read there, and written if the pointer is not const. For a length of 0
- *   nothing is read or written, but pass a pointer that is not NULL.
+ * - A slice is a pointer and a length: so many bytes, uint64_t or struct
+ *   lumbryth_stretch that can be read there, and written if the pointer is not
+ *   const. For a length of 0 nothing is read or written, but pass a pointer that is
+ *   not NULL.
  * - The caller owns all memory. Nothing is allocated, freed or kept after the call
  *   returns, and there is no hidden state: any number of threads may call at once,
  *   each with its own buffers.
- * - What is lent to be written (`out`, `work`, `starts`, `values`) overlaps nothing
- *   else that is lent to the same call. What is lent to be read may overlap.
+ * - What is lent to be written (`out`, `work`, `stretches`, `starts`, `values`)
+ *   overlaps nothing else that is lent to the same call. What is lent to be read may
+ *   overlap.
  * - A call returns 0, or the number of its refusal (below). Only
  *   lumbryth_is_command_name returns a yes or no instead.
  * - At the front of `values` it stores what it answers or, after a refusal, what
@@ -177,7 +179,8 @@ uint32_t lumbryth_capture_order(const uint8_t *names, size_t names_len,
  * (after refusals 1 and 2 it is as it was).
  *
  * Values: DLCI, frames (every span in the list, also those that do not unpack),
- * unfinished (frames that had begun and not ended), tail offset, bytes written.
+ * unfinished (how many stretches and directions of the DLCI hold bytes without an end
+ * marker, 3C), tail offset, bytes written.
  * The tail offset is where reading stopped: the file's length, or where the record
  * starts inside which the file ends. If it is less than `file_len`, the file was cut.
  *
@@ -226,9 +229,10 @@ uint32_t lumbryth_import_with(const uint8_t *file, size_t file_len,
     const uint64_t *options, size_t options_len, uint64_t *values, size_t values_len);
 
 /*
- * A stretch and direction that holds bytes at the end of a trace: twice the handle, and
- * one more if they came from the headset; CID and DLCI; the sessions and links of the
- * handle that were counted before it; and how many bytes are held.
+ * A stretch and direction that holds bytes without an end marker at the end of a trace:
+ * twice the handle, and one more if they came from the headset; CID and DLCI; the
+ * sessions and links of the handle that were counted before it; and how many bytes are
+ * held.
  */
 struct lumbryth_stretch {
     uint32_t way;

@@ -73,14 +73,19 @@ pub trait Subject {
     ) -> u32;
     /// Import by a list of options: the channel, the tail rule; what it lacks has its default.
     fn import_with(&self, file: &[u8], work: &mut [u8], out: &mut [u8], options: &[u64], values: &mut [u64]) -> u32 {
-        let channel = options.first().map_or(NO_CHANNEL, |&n| n.min(u64::from(NO_CHANNEL)) as u32);
-        let tolerant = u32::from(options.get(1).is_some_and(|&n| n != 0));
-        self.import(file, work, out, channel, tolerant, values)
+        let (channel, tolerant) = chosen(options);
+        self.import(file, work, out, channel, u32::from(tolerant), values)
     }
     /// Whether the call with stretches is linked.
     fn has_stretches(&self) -> bool {
         true
     }
+}
+
+/// What a list of options chooses: the channel, and whether the rule is tolerant.
+pub fn chosen(options: &[u64]) -> (u32, bool) {
+    let channel = options.first().map_or(NO_CHANNEL, |&n| n.min(u64::from(NO_CHANNEL)) as u32);
+    (channel, options.get(1).is_some_and(|&n| n != 0))
 }
 
 /// A stretch and direction with bytes held, as the library lays it out.

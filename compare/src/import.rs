@@ -23,8 +23,25 @@ pub enum Rule {
     NotTolerant,
 }
 
-/// How many places for stretches are lent, if the call takes them.
-type Places = Option<usize>;
+/// How a call is told what to import.
+#[derive(Clone, Copy)]
+enum By {
+    /// Channel and tail rule by number.
+    Numbers,
+    /// By a list of options.
+    Options,
+    /// By number, with so many places for stretches lent.
+    Places(usize),
+}
+
+impl By {
+    fn places(self) -> usize {
+        match self {
+            By::Places(places) => places,
+            _ => 0,
+        }
+    }
+}
 
 pub struct Import<'a> {
     subject: &'a dyn Subject,
@@ -57,27 +74,33 @@ impl<'a> Import<'a> {
         }
     }
 
-    fn case(&self, file: &[u8], channel: u32, work: usize, places: Places) -> Case {
+    fn case(&self, file: &[u8], channel: u32, work: usize, by: By) -> Case {
+        let inputs = vec![("file", file.to_vec())];
         let rule = match self.rule {
             Rule::Strict => "import_strict",
             Rule::Tolerant => "import, tolerant",
             Rule::NotTolerant => "import, strict",
         };
-        let channel = if channel == NO_CHANNEL { "no channel".into() } else { format!("channel {channel}") };
-        let places = places.map_or_else(String::new, |n| format!(", {n} places for stretches"));
-        Case { call: format!("{rule}, {channel}, {work} bytes of work{places}"), inputs: vec![("file", file.to_vec())] }
+        let asked = if channel == NO_CHANNEL { "no channel".into() } else { format!("channel {channel}") };
+        let call = match by {
+            By::Numbers => format!("{rule}, {asked}, {work} bytes of work"),
+            By::Options => format!("import_with, options {:?}, {work} bytes of work", self.options(channel)),
+            By::Places(n) => format!("{rule}, {asked}, {work} bytes of work, {n} places for stretches"),
+        };
+        Case { call, inputs }
     }
 
-    fn call(&self, file: &[u8], lent: usize, places: Places, out: &mut [u8], channel: u32, values: &mut [u64]) -> u32 {
+    fn call(&self, file: &[u8], lent: usize, by: By, out: &mut [u8], channel: u32, values: &mut [u64]) -> u32 {
         let work = &mut self.work.borrow_mut()[..lent];
         let tolerant = u32::from(self.rule == Rule::Tolerant);
-        if let Some(places) = places {
-            let stretches = &mut self.stretches.borrow_mut()[..places];
-            return self.subject.import_stretches(file, work, stretches, out, channel, tolerant, values);
-        }
-        match self.rule {
-            Rule::Strict => self.subject.import_strict(file, work, out, channel, values),
-            _ => self.subject.import(file, work, out, channel, tolerant, values),
+        match by {
+            By::Places(places) => {
+                let stretches = &mut self.stretches.borrow_mut()[..places];
+                self.subject.import_stretches(file, work, stretches, out, channel, tolerant, values)
+            }
+            By::Options => self.subject.import_with(file, work, out, &self.options(channel), values),
+            By::Numbers if self.rule == Rule::Strict => self.subject.import_strict(file, work, out, channel, values),
+            By::Numbers => self.subject.import(file, work, out, channel, tolerant, values),
         }
     }
 
@@ -124,19 +147,19 @@ impl<'a> Import<'a> {
     fn held_by(&self, lender: &mut Lender, file: &[u8], channel: u32, expected: &Answer) -> Checked {
         let enough = 8 * file.len() + [0, 0, 1, 64][self.files % 4];
         let fill = [None, None, Some(0), Some(0xFF), Some(0x3E)][self.files % 5];
-        self.lend(enough, fill);
-        lender.about(expected, &mut |out, values| self.call(file, enough, None, out, channel, values), &|| {
-            self.case(file, channel, enough, None)
-        })?;
-        self.guards(enough, file, channel)?;
-        if self.rule != Rule::Strict {
-            self.with_options(lender, file, channel, expected, enough, fill)?;
-        }
-        if expected.number == 1 {
-            self.unworked(lender, file, channel, expected, enough, None)?;
-        } else if self.files % 7 == 0 && !file.is_empty() {
-            self.unworked(lender, file, channel, &Answer::refused(2, &[]), 8 * file.len() - 1, None)?;
-            self.unworked(lender, file, channel, &Answer::refused(2, &[]), self.files % (8 * file.len()), None)?;
+        let ways: &[By] = if self.rule == Rule::Strict { &[By::Numbers] } else { &[By::Numbers, By::Options] };
+        for &by in ways {
+            self.lend(enough, fill);
+            lender.about(expected, &mut |out, values| self.call(file, enough, by, out, channel, values), &|| {
+                self.case(file, channel, enough, by)
+            })?;
+            self.guards(enough, file, channel, by)?;
+            if expected.number == 1 {
+                self.unworked(lender, file, channel, expected, enough, by)?;
+            } else if self.files % 7 == 0 && !file.is_empty() {
+                self.unworked(lender, file, channel, &Answer::refused(2, &[]), 8 * file.len() - 1, by)?;
+                self.unworked(lender, file, channel, &Answer::refused(2, &[]), self.files % (8 * file.len()), by)?;
+            }
         }
         if self.subject.has_stretches() {
             self.with_stretches(lender, file, channel, expected, enough, fill)?;
@@ -155,32 +178,6 @@ impl<'a> Import<'a> {
             2 => vec![channel, tolerant, 1, 2, 3],
             _ => vec![channel, tolerant],
         }
-    }
-
-    /// The same by a list of options.
-    fn with_options(
-        &self,
-        lender: &mut Lender,
-        file: &[u8],
-        channel: u32,
-        expected: &Answer,
-        lent: usize,
-        fill: Option<u8>,
-    ) -> Checked {
-        let options = self.options(channel);
-        self.lend(lent, fill);
-        lender.about(
-            expected,
-            &mut |out, values| {
-                let work = &mut self.work.borrow_mut()[..lent];
-                self.subject.import_with(file, work, out, &options, values)
-            },
-            &|| Case {
-                call: format!("import_with, options {options:?}, {lent} bytes of work"),
-                inputs: vec![("file", file.to_vec())],
-            },
-        )?;
-        self.guards(lent, file, channel)
     }
 
     /// The same with a list of stretches lent, of as many places as are wanted; at times
@@ -204,24 +201,24 @@ impl<'a> Import<'a> {
             expected,
             lent,
             room,
-            &mut |out, values| self.call(file, enough, Some(places), out, channel, values),
-            &|| self.case(file, channel, enough, Some(places)),
+            &mut |out, values| self.call(file, enough, By::Places(places), out, channel, values),
+            &|| self.case(file, channel, enough, By::Places(places)),
         )?;
-        self.guards(enough, file, channel)?;
+        self.guards(enough, file, channel, By::Places(places))?;
         match expected.within(lent).number {
             0 => self.listed(file, channel, expected, enough, places)?,
-            1 => self.unfilled(file, channel, enough, places, 0)?,
-            _ => self.unfilled(file, channel, enough, places, places)?,
+            1 => self.unfilled(file, channel, enough, By::Places(places), 0)?,
+            _ => self.unfilled(file, channel, enough, By::Places(places), places)?,
         }
         if expected.number == 1 {
-            self.unworked(lender, file, channel, expected, enough, Some(places))?;
-            return self.unworked(lender, file, channel, expected, enough, Some(0));
+            self.unworked(lender, file, channel, expected, enough, By::Places(places))?;
+            return self.unworked(lender, file, channel, expected, enough, By::Places(0));
         }
         if self.files % 7 == 1 && places > 0 {
             let short = Answer::refused(2, &[]);
-            self.unworked(lender, file, channel, &short, enough, Some(places - 1))?;
-            self.unworked(lender, file, channel, &short, enough, Some(self.files % places))?;
-            self.unworked(lender, file, channel, &short, 8 * file.len() - 1, Some(places))?;
+            self.unworked(lender, file, channel, &short, enough, By::Places(places - 1))?;
+            self.unworked(lender, file, channel, &short, enough, By::Places(self.files % places))?;
+            self.unworked(lender, file, channel, &short, 8 * file.len() - 1, By::Places(places))?;
         }
         Ok(())
     }
@@ -238,7 +235,8 @@ impl<'a> Import<'a> {
     /// proved call promises.
     fn listed(&self, file: &[u8], channel: u32, expected: &Answer, lent: usize, places: usize) -> Checked {
         let unfinished = expected.values[2] as usize;
-        self.unfilled(file, channel, lent, places, unfinished)?;
+        let by = By::Places(places);
+        self.unfilled(file, channel, lent, by, unfinished)?;
         let mut found = self.stretches.borrow()[..unfinished].to_vec();
         found.sort();
         let wrong = if self.files % 5 == 0 && file.len() < 20_000 {
@@ -248,16 +246,16 @@ impl<'a> Import<'a> {
             let fits = |s: &Stretch| u64::from(s.dlci) == expected.values[0] && (1..=65_536).contains(&s.held);
             (!found.iter().all(fits)).then(|| format!("bytes held on DLCI {}", expected.values[0]))
         };
-        wrong.map_or(Ok(()), |open| Err(self.differs(file, channel, lent, Some(places), open, format!("{found:?}"))))
+        wrong.map_or(Ok(()), |open| Err(self.differs(file, channel, lent, by, open, format!("{found:?}"))))
     }
 
     /// From place `from` on, all are empty, the one after those lent too.
-    fn unfilled(&self, file: &[u8], channel: u32, lent: usize, places: usize, from: usize) -> Checked {
+    fn unfilled(&self, file: &[u8], channel: u32, lent: usize, by: By, from: usize) -> Checked {
         match self.stretches.borrow().iter().skip(from).position(|s| *s != EMPTY) {
             None => Ok(()),
             Some(at) => {
                 let expected = format!("place {} of the stretches is left as it was", from + at);
-                Err(self.differs(file, channel, lent, Some(places), expected, "it was changed".into()))
+                Err(self.differs(file, channel, lent, by, expected, "it was changed".into()))
             }
         }
     }
@@ -270,23 +268,23 @@ impl<'a> Import<'a> {
         channel: u32,
         expected: &Answer,
         lent: usize,
-        places: Places,
+        by: By,
     ) -> Checked {
         self.lend(lent, Some(self.files as u8));
-        self.lend_stretches(places.unwrap_or(0));
+        self.lend_stretches(by.places());
         let room = lender.room(expected);
         lender.call(
             expected,
             self.files % 40,
             room,
-            &mut |out, values| self.call(file, lent, places, out, channel, values),
-            &|| self.case(file, channel, lent, places),
+            &mut |out, values| self.call(file, lent, by, out, channel, values),
+            &|| self.case(file, channel, lent, by),
         )?;
-        self.unfilled(file, channel, lent, places.unwrap_or(0), 0)?;
+        self.unfilled(file, channel, lent, by, 0)?;
         let first = self.work.borrow().first().copied();
         match self.work.borrow()[..lent].iter().position(|b| Some(*b) != first) {
-            None => self.guards(lent, file, channel),
-            Some(at) => Err(self.touched(file, channel, lent, at)),
+            None => self.guards(lent, file, channel, by),
+            Some(at) => Err(self.touched(file, channel, lent, by, at)),
         }
     }
 
@@ -301,16 +299,16 @@ impl<'a> Import<'a> {
         work[lent..lent + GUARD].fill(GUARDED);
     }
 
-    fn guards(&self, lent: usize, file: &[u8], channel: u32) -> Checked {
+    fn guards(&self, lent: usize, file: &[u8], channel: u32, by: By) -> Checked {
         match self.work.borrow()[lent..lent + GUARD].iter().position(|b| *b != GUARDED) {
             None => Ok(()),
-            Some(at) => Err(self.touched(file, channel, lent, lent + at)),
+            Some(at) => Err(self.touched(file, channel, lent, by, lent + at)),
         }
     }
 
-    fn touched(&self, file: &[u8], channel: u32, lent: usize, at: usize) -> Box<Difference> {
+    fn touched(&self, file: &[u8], channel: u32, lent: usize, by: By, at: usize) -> Box<Difference> {
         let expected = format!("byte {at} of work is left as it was");
-        self.differs(file, channel, lent, None, expected, "it was changed".into())
+        self.differs(file, channel, lent, by, expected, "it was changed".into())
     }
 
     fn differs(
@@ -318,11 +316,11 @@ impl<'a> Import<'a> {
         file: &[u8],
         channel: u32,
         lent: usize,
-        places: Places,
+        by: By,
         expected: String,
         got: String,
     ) -> Box<Difference> {
-        let case = self.case(file, channel, lent, places);
+        let case = self.case(file, channel, lent, by);
         let lent = format!("{lent} bytes of work");
         Box::new(Difference { call: case.call, inputs: case.inputs, lent, expected, got })
     }
@@ -483,6 +481,28 @@ fn fragments(import: &mut Import) -> Checked {
     sequences(4, &alphabet, &Trace::new(2001), &step, &mut |trace| import.file(&trace.file, NO_CHANNEL))
 }
 
+/// Every three fragments out of twenty: parts of two PDUs in a row, as starts and as
+/// continuations, so that one may have bytes of the other in excess.
+fn excess(import: &mut Import) -> Checked {
+    let one = trace::l2cap(0x41, &trace::uih(18, &ack(0), None, false));
+    let both = [&one[..], &trace::l2cap(0x41, &trace::uih(18, &ack(1), None, false))].concat();
+    let cuts = [0, 5, one.len(), one.len() + 2, one.len() + 9, both.len()];
+    let mut alphabet: Vec<(u16, &[u8])> = Vec::new();
+    for (i, &from) in cuts.iter().enumerate() {
+        for &to in &cuts[i + 1..] {
+            alphabet.push((1, &both[from..to]));
+            if from == 0 {
+                alphabet.push((2, &both[..to]));
+            }
+        }
+    }
+    let step = |trace: &mut Trace, (flag, data): &(u16, &[u8])| {
+        let stamp = EPOCH + trace.file.len() as u64 * 1000;
+        trace.fragment(Rx, stamp, 0x40, *flag, data);
+    };
+    sequences(3, &alphabet, &Trace::new(1001), &step, &mut |trace| import.file(&trace.file, NO_CHANNEL))
+}
+
 /// One step on a link: direction, CID, payload.
 type Step = (Direction, u16, Vec<u8>);
 
@@ -581,6 +601,49 @@ fn signalling(import: &mut Import) -> Checked {
                 }
             }
         }
+    }
+    Ok(())
+}
+
+/// Every four PDUs on CID 1 that admit it or carry data on it, with a request for PSM 3, one
+/// for another or half of one behind, then a frame on another channel.
+fn doubled(import: &mut Import) -> Checked {
+    let cut = &trace::request(3, 0x41)[..7];
+    let alphabet: Vec<Step> = vec![
+        (Tx, 1, trace::request(3, 1)),
+        (Rx, 1, trace::request(3, 1)),
+        (Tx, 1, trace::request(1, 1)),
+        (Rx, 1, trace::asking(18, &ack(1), None, &trace::command(2, 1, &[3, 0]))),
+        (Rx, 1, trace::asking(18, &ack(2), Some(7), &trace::request(3, 0x41))),
+        (Rx, 1, trace::asking(18, &ack(3), None, &trace::request(1, 0x41))),
+        (Tx, 1, trace::asking(18, &ack(4), None, &trace::command(2, 1, &[3, 0]))),
+        (Tx, 1, trace::asking(18, &ack(5), None, cut)),
+        (Rx, 1, trace::asking(18, &ack(6)[..5], None, &trace::command(2, 1, &[3, 0]))),
+        (Rx, 1, trace::uih(18, &ack(6)[5..], None, false)),
+    ];
+    sequences(4, &alphabet, &Trace::new(1002), &send, &mut |trace| {
+        import.file(&trace.file, NO_CHANNEL)?;
+        send(trace, &(Rx, 0x43, trace::uih(18, &ack(7), None, false)));
+        import.file(&trace.file, NO_CHANNEL)
+    })
+}
+
+/// Two traces that a wrong reading finds a frame more in.
+fn fixed(import: &mut Import) -> Checked {
+    // In excess of a PDU's length comes the start of another, and a continuation has its rest.
+    let pdu = trace::l2cap(0x40, &trace::uih(18, &ack(0), None, false));
+    let mut excess = Trace::new(1001);
+    excess.fragment(Rx, EPOCH + 5000, 0x40, 2, &[&pdu[..], &pdu[..8]].concat());
+    excess.fragment(Rx, EPOCH + 6000, 0x40, 1, &pdu[8..]);
+    // CID 1 is admitted, and data on it are also a request for PSM 3.
+    let mut request = Trace::new(1001);
+    request.pdu(Tx, EPOCH + 5000, 0x40, 1, &trace::request(3, 1));
+    let asking = trace::asking(18, &ack(0), None, &trace::command(2, 1, &[3, 0]));
+    request.pdu(Rx, EPOCH + 6000, 0x40, 1, &asking);
+    for (file, number, frames) in [(excess.file, 0, Some(1)), (request.file, 6, None)] {
+        let found = expected::import_strict(&file, NO_CHANNEL);
+        assert!((found.number, found.values.get(1).copied()) == (number, frames), "a fixed trace has its answer");
+        import.file(&file, NO_CHANNEL)?;
     }
     Ok(())
 }
@@ -718,6 +781,8 @@ pub fn run_rule(subject: &dyn Subject, options: &Options, group: &'static str, r
     log.line("damaged traces", &import.lender);
     limits(&mut |file| import.file(file, NO_CHANNEL), &mut rng)?;
     log.line("long buffers", &import.lender);
+    fixed(&mut import)?;
+    log.line("fixed traces", &import.lender);
     short(&mut import, &mut rng)?;
     log.line("short files and every beginning of good ones", &import.lender);
     if rule == Rule::NotTolerant {
@@ -727,10 +792,14 @@ pub fn run_rule(subject: &dyn Subject, options: &Options, group: &'static str, r
     log.line("every one-byte change of small traces", &import.lender);
     fragments(&mut import)?;
     log.line("every four fragments", &import.lender);
+    excess(&mut import)?;
+    log.line("every three fragments of two PDUs", &import.lender);
     packets(&mut import)?;
     log.line("every short packet", &import.lender);
     signalling(&mut import)?;
     log.line("every three commands", &import.lender);
+    doubled(&mut import)?;
+    log.line("every four PDUs on CID 1", &import.lender);
     rfcomm(&mut import)?;
     log.line("every short RFCOMM frame", &import.lender);
     stretches(&mut import)?;
@@ -740,6 +809,24 @@ pub fn run_rule(subject: &dyn Subject, options: &Options, group: &'static str, r
     large(&mut import, &mut rng)?;
     log.line("traces of about 1,048,576 bytes", &import.lender);
     Ok(())
+}
+
+/// The random traces alone.
+pub fn run_random(subject: &dyn Subject, options: &Options) -> Checked {
+    random(&mut Import::new(subject, Rule::Strict), &mut Rng::new(options.seed), options.size.unwrap_or(50_000))
+}
+
+/// One part alone.
+pub fn run_fixed(subject: &dyn Subject, _: &Options) -> Checked {
+    fixed(&mut Import::new(subject, Rule::Strict))
+}
+
+pub fn run_excess(subject: &dyn Subject, _: &Options) -> Checked {
+    excess(&mut Import::new(subject, Rule::Strict))
+}
+
+pub fn run_doubled(subject: &dyn Subject, _: &Options) -> Checked {
+    doubled(&mut Import::new(subject, Rule::Strict))
 }
 
 pub fn run(subject: &dyn Subject, options: &Options) -> Checked {

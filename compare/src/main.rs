@@ -191,7 +191,9 @@ fn selfcheck(options: Options) -> bool {
     missed.extend(unseen);
     println!("selfcheck: {} of {planted} planted faults reported", planted - missed.len());
     missed.iter().for_each(|label| println!("  not reported: {label}"));
-    missed.is_empty()
+    let without = planted::reported_without(&GROUPS, &options);
+    without.iter().for_each(|group| println!("  reported without a fault: {group}"));
+    missed.is_empty() && without.is_empty()
 }
 
 /// False if something differs.

@@ -106,6 +106,10 @@ pub struct Reading {
     pub longest: usize,
     /// A request admits its source without a response.
     pub request_admits: bool,
+    /// Bytes past a PDU's length are dropped, and do not begin the next.
+    pub excess_dropped: bool,
+    /// A PDU on CID 1 with a PSM 3 request is done with, and not tried as well.
+    pub request_ends: bool,
 }
 
 pub const RIGHT: Reading = Reading {
@@ -115,6 +119,8 @@ pub const RIGHT: Reading = Reading {
     sessions: true,
     longest: 65_536,
     request_admits: true,
+    excess_dropped: true,
+    request_ends: true,
 };
 
 // MDR frames.
@@ -429,7 +435,11 @@ pub fn pdus(datalink: u64, rows: &[&[u8]], reading: Reading) -> Vec<Pdu> {
         match le16(&bytes, 0) {
             Some(length) if bytes.len() >= 4 + usize::from(length) => {
                 let cid = le16(&bytes, 2).unwrap();
-                pdus.push(Pdu { ms, way, handle, cid, payload: bytes[4..4 + usize::from(length)].to_vec() });
+                let (pdu, excess) = bytes.split_at(4 + usize::from(length));
+                pdus.push(Pdu { ms, way, handle, cid, payload: pdu[4..].to_vec() });
+                if !reading.excess_dropped && !excess.is_empty() {
+                    open.insert((handle, way), (ms, excess.to_vec()));
+                }
             }
             _ => {
                 open.insert((handle, way), (first, bytes));
@@ -511,7 +521,9 @@ pub fn pieces(pdus: &[Pdu], reading: Reading) -> Vec<Piece> {
         }
         if asks(pdu) {
             *sessions.entry(pdu.handle).or_insert(0) += 1;
-            continue;
+            if reading.request_ends {
+                continue;
+            }
         }
         let triple = (pdu.handle, pdu.way, pdu.cid);
         let guessed = pdu.cid >= 0x40 && named.binary_search(&triple).is_err();

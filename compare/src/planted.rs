@@ -1,10 +1,11 @@
 //! Wrong answers planted on purpose: each must be reported, or the comparison could
 //! not fail.
 
-use crate::answer::{Answer, Stretch, Subject};
+use crate::answer::{chosen, Answer, Stretch, Subject, NO_CHANNEL};
 use crate::expected::LONGEST_FILE;
+use crate::import;
 use crate::model::{self, Reading, RIGHT};
-use crate::{Group, Options};
+use crate::{tolerant, Group, Options};
 
 /// The model with some of its calls replaced.
 #[derive(Clone, Copy)]
@@ -24,6 +25,11 @@ struct Planted {
     import_in: fn(&Planted, &[u8], usize, usize, u32, bool) -> Answer,
     /// Fills the places with the open stretches, after this number.
     fill: fn(u32, &mut [Stretch], &[Stretch]),
+    /// Import by a list of options, with so much work, and how its answer is stored.
+    import_with: fn(&[u8], usize, &[u64]) -> Answer,
+    store_with: fn(&Answer, &mut [u8], &mut [u64]) -> u32,
+    /// Changes work in the call with options, whatever the answer.
+    spoils_with: bool,
 }
 
 fn read(file: &[u8], work: usize, channel: u32, tolerant: bool, reading: Reading) -> Answer {
@@ -49,7 +55,14 @@ const NONE: Planted = Planted {
             model::fill(places, open);
         }
     },
+    import_with: |file, work, options| by_options(file, work, chosen(options)),
+    store_with: model::store,
+    spoils_with: false,
 };
+
+fn by_options(file: &[u8], work: usize, (channel, tolerant): (u32, bool)) -> Answer {
+    read(file, work, channel, tolerant, RIGHT)
+}
 
 /// How many places a file wants; one that is too long is refused before.
 fn places_want(length: usize) -> usize {
@@ -127,6 +140,13 @@ impl Subject for Planted {
         (self.fill)(number, stretches, &open);
         number
     }
+
+    fn import_with(&self, file: &[u8], work: &mut [u8], out: &mut [u8], options: &[u64], values: &mut [u64]) -> u32 {
+        if self.spoils_with && !work.is_empty() {
+            work[work.len() / 2] ^= 0xFF;
+        }
+        (self.store_with)(&(self.import_with)(file, work.len(), options), out, values)
+    }
 }
 
 fn swap(text: &[u8], from: &str, to: &str) -> Vec<u8> {
@@ -142,7 +162,26 @@ fn changed(file: &[u8], work: usize, channel: u32, tolerant: bool, change: fn(&m
     answer
 }
 
-/// Each fault with the group that has to report it.
+/// Parts of a group, for faults that each of them has to report alone.
+const RANDOM: &str = "import, random traces";
+const FIXED: &str = "import, fixed traces";
+const FRAGMENTS: &str = "import, every three fragments of two PDUs";
+const CID_1: &str = "import, every four PDUs on CID 1";
+const STRICT: &str = "tolerant, switched to strict";
+const PARTS: [(&str, Group); 5] = [
+    (RANDOM, import::run_random),
+    (FIXED, import::run_fixed),
+    (FRAGMENTS, import::run_excess),
+    (CID_1, import::run_doubled),
+    (STRICT, tolerant::run_strict),
+];
+
+const EXCESS: Planted =
+    Planted { import: |f, w, c, t| read(f, w, c, t, Reading { excess_dropped: false, ..RIGHT }), ..NONE };
+const TRIED_TOO: Planted =
+    Planted { import: |f, w, c, t| read(f, w, c, t, Reading { request_ends: false, ..RIGHT }), ..NONE };
+
+/// Each fault with the group, or part of one, that has to report it.
 fn faults() -> Vec<(&'static str, &'static str, Planted)> {
     vec![
         (
@@ -492,6 +531,14 @@ fn faults() -> Vec<(&'static str, &'static str, Planted)> {
             "a PDU has the time of its first fragment",
             Planted { import: |f, w, c, t| read(f, w, c, t, Reading { last_time: false, ..RIGHT }), ..NONE },
         ),
+        (RANDOM, "bytes in excess of a PDU begin the next, random traces", EXCESS),
+        (FIXED, "bytes in excess of a PDU begin the next, fixed traces", EXCESS),
+        (FRAGMENTS, "bytes in excess of a PDU begin the next, every three fragments", EXCESS),
+        ("tolerant", "bytes in excess of a PDU begin the next, tolerant", EXCESS),
+        (RANDOM, "a PDU with a PSM 3 request is tried as well, random traces", TRIED_TOO),
+        (FIXED, "a PDU with a PSM 3 request is tried as well, fixed traces", TRIED_TOO),
+        (CID_1, "a PDU with a PSM 3 request is tried as well, every four PDUs on CID 1", TRIED_TOO),
+        ("tolerant", "a PDU with a PSM 3 request is tried as well, tolerant", TRIED_TOO),
         (
             "import",
             "65,536 bytes are cleared",
@@ -536,7 +583,7 @@ fn faults() -> Vec<(&'static str, &'static str, Planted)> {
         (
             "import",
             "the channel is not looked at",
-            Planted { import: |f, w, _, t| read(f, w, crate::answer::NO_CHANNEL, t, RIGHT), ..NONE },
+            Planted { import: |f, w, _, t| read(f, w, NO_CHANNEL, t, RIGHT), ..NONE },
         ),
         (
             "import",
@@ -632,12 +679,214 @@ fn faults() -> Vec<(&'static str, &'static str, Planted)> {
     ]
 }
 
+/// Faults of the call with options alone.
+fn faults_of_options() -> Vec<(&'static str, &'static str, Planted)> {
+    vec![
+        (
+            "tolerant",
+            "options: the channel is not looked at",
+            Planted { import_with: |f, w, o| by_options(f, w, (NO_CHANNEL, chosen(o).1)), ..NONE },
+        ),
+        (
+            "tolerant",
+            "options: the rule is strict whatever they say",
+            Planted { import_with: |f, w, o| by_options(f, w, (chosen(o).0, false)), ..NONE },
+        ),
+        (
+            STRICT,
+            "options: the rule is tolerant whatever they say",
+            Planted { import_with: |f, w, o| by_options(f, w, (chosen(o).0, true)), ..NONE },
+        ),
+        (
+            "tolerant",
+            "options: the channel is read from the place of the rule",
+            Planted {
+                import_with: |f, w, o| by_options(f, w, (chosen(o.get(1..).unwrap_or(&[])).0, chosen(o).1)),
+                ..NONE
+            },
+        ),
+        (
+            STRICT,
+            "options: the rule is read from the place of the channel",
+            Planted {
+                import_with: |f, w, o| by_options(f, w, (chosen(o).0, o.first().is_some_and(|&n| n != 0))),
+                ..NONE
+            },
+        ),
+        (
+            "tolerant",
+            "options: the rule is read from the place after its own",
+            Planted {
+                import_with: |f, w, o| by_options(f, w, (chosen(o).0, o.get(2).is_some_and(|&n| n != 0))),
+                ..NONE
+            },
+        ),
+        (
+            "tolerant",
+            "options: 1 alone is tolerant",
+            Planted { import_with: |f, w, o| by_options(f, w, (chosen(o).0, o.get(1) == Some(&1))), ..NONE },
+        ),
+        (
+            "tolerant",
+            "options: a channel is cut to 32 bits",
+            Planted {
+                import_with: |f, w, o| {
+                    by_options(f, w, (o.first().map_or(NO_CHANNEL, |&n| (n as u32).min(NO_CHANNEL)), chosen(o).1))
+                },
+                ..NONE
+            },
+        ),
+        (
+            "tolerant",
+            "options: a channel is cut to 8 bits",
+            Planted {
+                import_with: |f, w, o| {
+                    by_options(f, w, (o.first().map_or(NO_CHANNEL, |&n| u32::from(n as u8)), chosen(o).1))
+                },
+                ..NONE
+            },
+        ),
+        (
+            STRICT,
+            "options: without a channel, 0 is asked for",
+            Planted {
+                import_with: |f, w, o| by_options(f, w, if o.is_empty() { (0, false) } else { chosen(o) }),
+                ..NONE
+            },
+        ),
+        (
+            STRICT,
+            "options: without a rule, it is tolerant",
+            Planted { import_with: |f, w, o| by_options(f, w, (chosen(o).0, o.len() < 2 || chosen(o).1)), ..NONE },
+        ),
+        (
+            "tolerant",
+            "options: of more than there are, none counts",
+            Planted { import_with: |f, w, o| by_options(f, w, chosen(if o.len() > 2 { &[] } else { o })), ..NONE },
+        ),
+        (
+            "tolerant",
+            "options: one frame too many is counted",
+            Planted { import_with: |f, w, o| numbered(f, w, o, 0, |a, _| a.values[1] += 1), ..NONE },
+        ),
+        (
+            "tolerant",
+            "options: unfinished is invented",
+            Planted { import_with: |f, w, o| numbered(f, w, o, 0, |a, _| a.values[2] = 0), ..NONE },
+        ),
+        (
+            "tolerant",
+            "options: the tail offset is the file's length",
+            Planted { import_with: |f, w, o| numbered(f, w, o, 0, |a, f| a.values[3] = f.len() as u64), ..NONE },
+        ),
+        (
+            "tolerant",
+            "options: the tail offset counts from after the header",
+            Planted { import_with: |f, w, o| numbered(f, w, o, 0, |a, _| a.values[3] -= 16), ..NONE },
+        ),
+        (
+            "tolerant",
+            "options: a list is told one byte shorter than it is",
+            Planted { import_with: |f, w, o| numbered(f, w, o, 0, |a, _| a.values[4] -= 1), ..NONE },
+        ),
+        (
+            "tolerant",
+            "options: 4 carries nothing",
+            Planted { import_with: |f, w, o| numbered(f, w, o, 4, |a, _| a.values.clear()), ..NONE },
+        ),
+        (
+            STRICT,
+            "options: 5 carries the file's length",
+            Planted { import_with: |f, w, o| numbered(f, w, o, 5, |a, f| a.values[0] = f.len() as u64), ..NONE },
+        ),
+        (
+            "tolerant",
+            "options: 6 is told as 5",
+            Planted { import_with: |f, w, o| numbered(f, w, o, 6, |a, _| a.number = 5), ..NONE },
+        ),
+        (
+            "tolerant",
+            "options: 7 carries what is lent",
+            Planted {
+                store_with: |answer, out, values| {
+                    let short = Answer::refused(7, &[out.len() as u64]);
+                    let fits = answer.written.len() <= out.len();
+                    model::store(if fits { answer } else { &short }, out, values)
+                },
+                ..NONE
+            },
+        ),
+        (
+            "tolerant",
+            "options: a refusal writes",
+            Planted {
+                store_with: |answer, out, values| {
+                    let number = model::store(answer, out, values);
+                    if let (Some(first), true) = (out.first_mut(), number != 0) {
+                        *first ^= 1;
+                    }
+                    number
+                },
+                ..NONE
+            },
+        ),
+        (
+            "tolerant",
+            "options: an output that is too short is filled",
+            Planted {
+                store_with: |answer, out, values| {
+                    let number = model::store(answer, out, values);
+                    if number == 7 {
+                        out.copy_from_slice(&answer.written[..out.len()]);
+                    }
+                    number
+                },
+                ..NONE
+            },
+        ),
+        (
+            "tolerant",
+            "options: the last value is not stored",
+            Planted {
+                store_with: |answer, out, values| {
+                    let mut fewer = answer.within(out.len()).into_owned();
+                    fewer.values.pop();
+                    model::store(&fewer, out, values)
+                },
+                ..NONE
+            },
+        ),
+        (
+            "tolerant",
+            "options: work one byte short is enough",
+            Planted { import_with: |f, w, o| by_options(f, w + 1, chosen(o)), ..NONE },
+        ),
+        ("tolerant", "options: work is touched by a refusal", Planted { spoils_with: true, ..NONE }),
+    ]
+}
+
+/// The answer of import by options, changed if it has this number.
+fn numbered(file: &[u8], work: usize, options: &[u64], number: u32, change: fn(&mut Answer, &[u8])) -> Answer {
+    let mut answer = by_options(file, work, chosen(options));
+    if answer.number == number {
+        change(&mut answer, file);
+    }
+    answer
+}
+
+/// The groups that report something where no fault is planted; what they say of a fault would
+/// mean nothing.
+pub fn reported_without(groups: &[(&'static str, Group)], options: &Options) -> Vec<&'static str> {
+    groups.iter().filter(|(_, group)| group(&NONE, options).is_err()).map(|(name, _)| *name).collect()
+}
+
 /// Runs every fault's group on it; the labels of those that no one reported.
 pub fn unreported(groups: &[(&'static str, Group)], options: &Options) -> (usize, Vec<&'static str>) {
     let mut missed = Vec::new();
-    let faults = faults();
+    let mut faults = faults();
+    faults.extend(faults_of_options());
     for (name, label, planted) in &faults {
-        let (_, group) = groups.iter().find(|(group, _)| group == name).expect("a group");
+        let (_, group) = groups.iter().chain(&PARTS).find(|(group, _)| group == name).expect("a group");
         if group(planted, options).is_ok() {
             missed.push(*label);
         }

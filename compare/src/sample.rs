@@ -204,7 +204,7 @@ fn order_cases(sample: &mut Sample, rng: &mut Rng) {
 fn traces(rng: &mut Rng, count: usize) -> Vec<(trace::Trace, u32)> {
     let mut traces = Vec::new();
     while traces.len() < count {
-        let (trace, channel) = trace::structured(rng, 20);
+        let (trace, channel) = trace::plain(rng, 20);
         let wanted = expected::import_strict(&trace.file, channel).number == if traces.len() % 4 == 3 { 6 } else { 0 };
         if wanted && trace.file.len() < 1200 {
             traces.push((trace, channel));

@@ -4,7 +4,7 @@ use std::collections::BTreeMap;
 
 use crate::answer::Answer;
 use crate::expected;
-use crate::model::{self, RIGHT};
+use crate::model::{self, Reading, RIGHT};
 use crate::rng::Rng;
 use crate::trace;
 use crate::Options;
@@ -24,6 +24,8 @@ struct Stats {
     admitted: u64,
     named: u64,
     later: u64,
+    excess: u64,
+    tried_too: u64,
 }
 
 /// 0, 1, 2, 3, then the power of two at or under.
@@ -41,6 +43,9 @@ impl Stats {
         self.files += 1;
         self.bytes += file.len() as u64;
         *self.numbers.entry(answer.number).or_default() += 1;
+        let differs = |reading| model::import(file, 8 * file.len(), channel, false, reading) != answer;
+        self.excess += u64::from(differs(Reading { excess_dropped: false, ..RIGHT }));
+        self.tried_too += u64::from(differs(Reading { request_ends: false, ..RIGHT }));
         if ![0, 6].contains(&answer.number) {
             return;
         }
@@ -76,6 +81,10 @@ impl Stats {
         println!("{what}: {} files, {} bytes, {} PDUs, {} pieces", self.files, self.bytes, self.pdus, self.pieces);
         println!("  answers and refusals: {:?}", self.numbers);
         println!("  files with a channel admitted {}, named only {}", self.admitted, self.named);
+        println!(
+            "  files that show that excess is dropped {}, that a PSM 3 request is not tried {}",
+            self.excess, self.tried_too
+        );
         println!("  DLCIs with pieces: {:?}", self.dlcis);
         println!("  of those answered, buffers of the DLCI: {:?}", self.stretches);
         println!("  spans (from): {:?}; with one that does not unpack {}", self.spans, self.broken);

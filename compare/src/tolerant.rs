@@ -102,5 +102,11 @@ pub fn run(subject: &dyn Subject, options: &Options) -> Checked {
     size_rule(&mut import, &mut rng)?;
     log.line("a frame longer than an honest recording has", &import.lender);
     import::run_rule(subject, options, "tolerant", Rule::Tolerant, size / 5)?;
-    import::run_rule(subject, options, "tolerant, switched to strict", Rule::NotTolerant, size / 50)
+    run_strict(subject, options)
+}
+
+/// The part that asks for the strict rule.
+pub fn run_strict(subject: &dyn Subject, options: &Options) -> Checked {
+    let size = options.size.unwrap_or(50_000) / 50;
+    import::run_rule(subject, options, "tolerant, switched to strict", Rule::NotTolerant, size)
 }

@@ -110,6 +110,15 @@ pub fn uih(dlci: u8, information: &[u8], credit: Option<u8>, wide: bool) -> Vec<
     frame
 }
 
+/// A payload that is a UIH frame and, on CID 1, commands of which `request` is the second:
+/// the two-byte length of n bytes of information is that of a body of 2 * n bytes.
+pub fn asking(dlci: u8, information: &[u8], credit: Option<u8>, request: &[u8]) -> Vec<u8> {
+    let mut payload = uih(dlci, information, credit, true);
+    payload.resize(4 + 2 * information.len(), 0);
+    payload.extend(request);
+    payload
+}
+
 pub fn sabm(dlci: u8) -> Vec<u8> {
     vec![dlci << 2 | 3, 0x3F, 0x01, 0x1C]
 }
@@ -204,6 +213,34 @@ impl Pools {
         payload
     }
 
+    /// For CID 1: a request that admits it, or data on it, mostly with a PSM 3 request behind.
+    fn doubled(&self, rng: &mut Rng) -> Vec<u8> {
+        if rng.percent(40) {
+            return request(3, 1);
+        }
+        let credit = if rng.percent(25) { Some(rng.byte()) } else { None };
+        let request = match rng.below(5) {
+            0 => request(1, self.cid(rng)),
+            1 | 2 => request(3, self.cid(rng)),
+            _ => command(2, rng.byte(), &[3, 0]),
+        };
+        asking(rng.pick(&self.dlcis), &stream_bytes(rng), credit, &request)
+    }
+
+    /// Puts the start of another PDU behind one that is in parts, in excess of its length. The
+    /// rest of it follows, in a continuation.
+    fn exceed(&self, rng: &mut Rng, parts: &mut Vec<Vec<u8>>) {
+        let frame = uih(rng.pick(&self.dlcis), &stream_bytes(rng), None, rng.percent(20));
+        let mut next = l2cap(rng.pick(&self.cids), &frame);
+        let rest = next.split_off(rng.within(1, next.len()));
+        if let Some(last) = parts.last_mut() {
+            last.extend(next);
+        }
+        if !rest.is_empty() || rng.percent(50) {
+            parts.push(rest);
+        }
+    }
+
     /// An RFCOMM frame that is neither a SABM nor well-formed data.
     fn other(&self, rng: &mut Rng) -> Vec<u8> {
         let dlci = rng.pick(&self.dlcis);
@@ -279,6 +316,18 @@ type Packet = (Direction, Vec<u8>);
 /// A random trace whose parts meet, and a channel to import it by. `events` bounds
 /// the number of PDUs.
 pub fn structured(rng: &mut Rng, events: usize) -> (Trace, u32) {
+    let odd = rng.pick(&[0, 3, 10, 30]);
+    with_odd(rng, events, odd)
+}
+
+/// The same without PDUs that look like more than they are. The samples are made of it.
+pub fn plain(rng: &mut Rng, events: usize) -> (Trace, u32) {
+    with_odd(rng, events, 0)
+}
+
+/// `odd` is how often, in a hundred, a PDU is one that CID 1 carries as a channel too, or has
+/// another behind it in excess.
+fn with_odd(rng: &mut Rng, events: usize, odd: usize) -> (Trace, u32) {
     let pools = Pools::new(rng);
     let mut trace = Trace::new(rng.pick(&DATALINKS));
     let mut streams: BTreeMap<(u16, bool, u8), VecDeque<u8>> = BTreeMap::new();
@@ -289,7 +338,10 @@ pub fn structured(rng: &mut Rng, events: usize) -> (Trace, u32) {
         let direction = rng.pick(&[Rx, Tx]);
         let mut cid = pools.cid(rng);
         let choice = rng.below(100);
-        let payload = if choice < pools.signalling {
+        let payload = if odd > 0 && rng.percent(odd) {
+            cid = 1;
+            pools.doubled(rng)
+        } else if choice < pools.signalling {
             cid = if rng.percent(95) { 1 } else { cid };
             pools.signalling(rng)
         } else if choice < pools.signalling + pools.sabms {
@@ -327,8 +379,12 @@ pub fn structured(rng: &mut Rng, events: usize) -> (Trace, u32) {
                 _ => pdu.truncate(rng.below(pdu.len() + 1)),
             }
         }
+        let mut parts = parts(rng, &pdu, pools.fragment, pools.trouble / 3);
+        if odd > 0 && rng.percent(odd) {
+            pools.exceed(rng, &mut parts);
+        }
         let queue = queues.entry((handle, direction == Rx)).or_default();
-        for (i, part) in parts(rng, &pdu, pools.fragment, pools.trouble / 3).into_iter().enumerate() {
+        for (i, part) in parts.into_iter().enumerate() {
             let mut flag = if i == 0 { rng.pick(&[0, 2, 2, 3]) } else { 1 };
             if rng.percent(pools.trouble / 3) {
                 flag = rng.below(4) as u16;

@@ -40,13 +40,18 @@ type, sequence number and command, and says what was found.
 A frame that does not unpack, or is left out, still counts, so that a gap in the counters
 tells of it. No file is ever overwritten: if one is there that holds something else,
 nothing is written. Files appear whole or not at all.
+
+Unfinished are bytes at the end that have no end marker: told by handle, direction
+(received is from the headset), DLCI and how many are held. They make no file.
 ";
 
 pub const FRAMES: &str = "\
 usage: lumbryth frames TRACE [options]
 
 Lists the frames of TRACE: counter, time (UTC), direction (rx is from the headset), length
-on the wire, type, sequence number and command, or why the frame does not unpack.
+on the wire, type, sequence number and command, or why the frame does not unpack. Before
+them stands what is unfinished, bytes at the end that have no end marker: handle, direction
+(received is from the headset), DLCI and how many are held.
 
   --channel N      only RFCOMM channel N, 0 to 31; else the first that carries frames
   --tolerant       read a file that was cut off, up to the record in which it ends

@@ -17,7 +17,7 @@ use std::path::Path;
 use std::process::ExitCode;
 
 use args::{Command, Import, Look};
-use lumbryth::{cut, import, plan, records, Imported, Refusal, TailRule};
+use lumbryth::{cut, import_stretches, plan, records, Imported, Refusal, Stretch, TailRule};
 
 /// Why the program ends without doing what was asked.
 enum Failure {
@@ -69,12 +69,20 @@ fn print(text: &str) -> Result<(), Failure> {
     Ok(())
 }
 
+/// A trace that was read and imported.
+struct Found {
+    file: Vec<u8>,
+    imported: Imported,
+    /// The stretches of its DLCI that are open at the end.
+    open: Vec<Stretch>,
+}
+
 /// Reads and imports a trace; what is refused is told in words.
-fn imported(look: &Look) -> Result<(Vec<u8>, Imported), Failure> {
+fn found(look: &Look) -> Result<Found, Failure> {
     let file = source::read(&look.trace).map_err(Failure::Refused)?;
     let rule = if look.tolerant { TailRule::Tolerant } else { TailRule::Strict };
-    match import(&file, look.channel, rule) {
-        Ok(imported) => Ok((file, imported)),
+    match import_stretches(&file, look.channel, rule) {
+        Ok((imported, open)) => Ok(Found { file, imported, open }),
         Err(refusal) => Err(Failure::Refused(refused(&look.trace, look.channel, &file, refusal))),
     }
 }
@@ -110,11 +118,11 @@ fn refused(trace: &Path, channel: Option<u8>, file: &[u8], refusal: Refusal) -> 
 }
 
 fn run_import(options: &Import) -> Result<(), Failure> {
-    let (file, imported) = imported(&options.look)?;
+    let Found { file, imported, open } = found(&options.look)?;
     let fixtures = plan(&imported.spans, &options.exclude).map_err(|refusal| {
         Failure::Refused(format!("{}: refused ({}): {refusal}", options.look.trace.display(), refusal.number()))
     })?;
-    let mut findings = report::findings(&file, &imported, "among the fixtures");
+    let mut findings = report::findings(&file, &imported, &open, "among the fixtures");
     let excluded = imported.frames - report::broken(&imported) - fixtures.len();
     if !options.exclude.is_empty() {
         findings += &format!("{} left out by --exclude\n", report::count(excluded, "frame", "frames"));
@@ -130,8 +138,8 @@ fn run_import(options: &Import) -> Result<(), Failure> {
 }
 
 fn run_frames(look: &Look) -> Result<(), Failure> {
-    let (file, imported) = imported(look)?;
-    let findings = report::findings(&file, &imported, "listed");
+    let Found { file, imported, open } = found(look)?;
+    let findings = report::findings(&file, &imported, &open, "listed");
     print(&(findings + &report::frames(&imported)))
 }
 

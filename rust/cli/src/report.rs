@@ -5,7 +5,7 @@ use std::path::Path;
 
 use crate::time::utc;
 use crate::write::Done;
-use lumbryth::{cut, fixture_name, unpack, Cut, Direction, Imported, Records};
+use lumbryth::{cut, fixture_name, unpack, Cut, Direction, Imported, Records, Stretch};
 
 /// A number and what it counts.
 pub fn count(n: usize, one: &str, more: &str) -> String {
@@ -27,8 +27,25 @@ pub fn bytes_of(cut: Cut) -> String {
     }
 }
 
-/// What an import found. `place` is where its frames are: among the fixtures, or listed.
-pub fn findings(file: &[u8], imported: &Imported, place: &str) -> String {
+/// The open stretches, a sentence each, by handle and direction.
+fn unfinished(open: &[Stretch]) -> Vec<String> {
+    let mut open = open.to_vec();
+    open.sort_by_key(|stretch| (stretch.way, stretch.cid, stretch.sessions, stretch.links));
+    let sentence = |stretch: &Stretch| {
+        format!(
+            "Unfinished on handle {}, {}, DLCI {}: {} held without an end marker.",
+            stretch.handle(),
+            if stretch.direction() == Direction::Rx { "received" } else { "sent" },
+            stretch.dlci,
+            count(stretch.held as usize, "byte is", "bytes are"),
+        )
+    };
+    open.iter().map(sentence).collect()
+}
+
+/// What an import found. `open` are the stretches that hold bytes at the end, and `place` is
+/// where the frames are: among the fixtures, or listed.
+pub fn findings(file: &[u8], imported: &Imported, open: &[Stretch], place: &str) -> String {
     let mut text = format!(
         "DLCI {} (channel {}): {}, {}\n",
         imported.dlci,
@@ -39,22 +56,19 @@ pub fn findings(file: &[u8], imported: &Imported, place: &str) -> String {
             n => count(n, "of which does not unpack", "of which do not unpack"),
         },
     );
-    let under_way = match imported.unfinished {
-        0 => None,
-        1 => Some(format!("1 frame was under way and is not {place}")),
-        n => Some(format!("{n} frames were under way and are not {place}")),
-    };
+    let unfinished = unfinished(open);
     let Some(cut) = cut(file, imported.tail) else {
-        let _ = writeln!(text, "At the end of the file {}.", under_way.unwrap_or("no frame was under way".to_string()));
+        if unfinished.is_empty() {
+            let _ = writeln!(text, "Unfinished on DLCI {}: nothing is held without an end marker.", imported.dlci);
+        }
+        unfinished.iter().for_each(|sentence| text += &format!("{sentence}\n"));
         return text;
     };
     let _ = writeln!(text, "The file was cut: it ends inside a record that starts at byte {}.", cut.offset);
     let _ = writeln!(text, "  {}.", bytes_of(cut));
     let _ = writeln!(text, "  Kept: {}, complete before that record.", count(imported.frames, "frame", "frames"));
     let _ = writeln!(text, "  Missing: whatever was not complete before it, or came later.");
-    if let Some(words) = under_way {
-        let _ = writeln!(text, "  {words}.");
-    }
+    unfinished.iter().for_each(|sentence| text += &format!("  {sentence}\n"));
     let _ = writeln!(text, "  A reply that is not {place} may have been sent all the same.");
     text
 }

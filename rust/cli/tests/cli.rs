@@ -151,8 +151,8 @@ fn import_writes_the_fixtures() {
     let (trace, dir) = (example("headset.btsnoop"), place.join("made/on the way"));
     let output = words(&[&"import", &trace, &"--out", &dir]);
     assert_eq!((status(&output), err(&output)), (0, String::new()));
-    let found =
-        "DLCI 18 (channel 9): 31 frames, 1 of which does not unpack\nAt the end of the file no frame was under way.\n";
+    let found = "DLCI 18 (channel 9): 31 frames, 1 of which does not unpack\n\
+        Unfinished on DLCI 18: nothing is held without an end marker.\n";
     assert_eq!(out(&output), format!("{found}30 fixtures written to {}\n", dir.display()));
     let whole = fixtures(&fs::read(&trace).unwrap());
     assert_eq!(whole.len(), 30);
@@ -295,7 +295,7 @@ fn a_cut_file() {
         "  30 bytes of it are there and 13 are missing.",
         "  Kept: 29 frames, complete before that record.",
         "  Missing: whatever was not complete before it, or came later.",
-        "  1 frame was under way and is not among the fixtures.",
+        "  Unfinished on handle 6, received, DLCI 18: 8 bytes are held without an end marker.",
         "  A reply that is not among the fixtures may have been sent all the same.",
         &format!("28 fixtures written to {}", dir.display()),
     ];
@@ -363,10 +363,10 @@ fn every_cut() {
             assert!(listed.starts_with(&format!("datalink 1002: {record} record")), "cut at {n}: {listed}");
             assert_eq!(listed.contains(&format!("ends inside a record that starts at byte {start}.")), inside);
         }
-        // Between the two pieces of a reply a frame is under way, wherever the cut is.
-        if n == bounds[bounds.len() - 3] || (inside && record == bounds.len() - 3) {
-            assert!(told.contains("1 frame was under way and is not among the fixtures"), "cut at {n}: {told}");
-        }
+        // Between the two pieces of a reply its first eight bytes are held, wherever the cut is.
+        let held = "Unfinished on handle 6, received, DLCI 18: 8 bytes are held without an end marker.\n";
+        let between = record == bounds.len() - 3 && n >= start;
+        assert_eq!(told.contains(held), between, "cut at {n}: {told}");
     }
     assert_eq!(most, all.len());
 }
@@ -490,6 +490,97 @@ fn trace_of(payloads: &[Vec<u8>]) -> Vec<u8> {
         );
     }
     file
+}
+
+/// A trace of pieces, one to a record: handle, whether it was received, DLCI, information.
+fn trace_of_pieces(pieces: &[(u16, bool, u8, &[u8])]) -> Vec<u8> {
+    let mut file = b"btsnoop\0\0\0\0\x01\0\0\x03\xE9".to_vec();
+    for (handle, received, dlci, information) in pieces {
+        let n = information.len() as u16;
+        let numbers = [0x2000 | handle, n + 9, n + 5].map(u16::to_le_bytes).concat();
+        let length = (n << 1).to_le_bytes();
+        let packet = [&numbers[..], &[0x41, 0, dlci << 2 | 1, 0xEF], &length, information, &[0]].concat();
+        let included = (packet.len() as u32).to_be_bytes();
+        let flags = [0, 0, 0, u8::from(*received)];
+        file.extend([&included, &included, &flags, &[0; 4][..], &[0x00, 0xDD, 0, 0, 0, 0, 0, 0], &packet].concat());
+    }
+    file
+}
+
+/// The lines of a text that tell what is unfinished.
+fn unfinished(text: &str) -> Vec<&str> {
+    text.lines().filter(|line| line.contains("Unfinished")).collect()
+}
+
+#[test]
+fn unfinished_bytes_are_told_by_handle_and_direction() {
+    let place = Place::new();
+    let wire = pack(0x0C, 0, &[0x22, 0x00]).unwrap();
+    let begun = wire.len() - 1;
+    let pieces: [(u16, bool, u8, &[u8]); 9] = [
+        (0x0FFF, true, 18, &wire),
+        (0x0FFF, false, 18, &wire[..begun]),
+        (6, true, 18, &wire[..4]),
+        (6, false, 18, &wire[..1]),
+        (7, true, 18, &wire[..5]),
+        (6, true, 40, &wire[..3]),
+        (6, false, 41, &wire),
+        (7, true, 18, &wire[5..]),
+        (6, true, 18, &[]),
+    ];
+    let file = trace_of_pieces(&pieces);
+    let told = [
+        "Unfinished on handle 6, sent, DLCI 18: 1 byte is held without an end marker.",
+        "Unfinished on handle 6, received, DLCI 18: 4 bytes are held without an end marker.",
+        &format!("Unfinished on handle 4095, sent, DLCI 18: {begun} bytes are held without an end marker."),
+    ];
+    let trace = place.file("trace", &file);
+    let listed = words(&[&"frames", &trace]);
+    assert_eq!((status(&listed), err(&listed)), (0, String::new()));
+    assert_eq!(unfinished(&out(&listed)), told);
+    let dry = words(&[&"import", &trace, &"--dry-run"]);
+    assert_eq!((status(&dry), out(&dry).lines().count()), (0, 2));
+    assert_eq!(unfinished(&err(&dry)), told);
+    let written = words(&[&"import", &trace, &"--out", &place.join("out")]);
+    assert_eq!((status(&written), err(&written)), (0, String::new()));
+    assert_eq!(unfinished(&out(&written)), told);
+    assert_eq!(listing(&place.join("out")).len(), 2);
+
+    // Only the DLCI that is chosen is told of: of channel 20 that is 41, which holds nothing.
+    let other = out(&words(&[&"frames", &trace, &"--channel", &"20"]));
+    assert_eq!(unfinished(&other), ["Unfinished on DLCI 41: nothing is held without an end marker."]);
+
+    // Cut inside its last record, the file tells the same; inside the one before, more is held.
+    let indented = |lines: &[&str]| lines.iter().map(|line| format!("  {line}")).collect::<Vec<_>>();
+    let cut = place.file("cut", &file[..file.len() - 1]);
+    assert_eq!(unfinished(&out(&words(&[&"frames", &cut, &"--tolerant"]))), indented(&told));
+    let starts = bounds(&file);
+    let cut = place.file("cut", &file[..starts[8] - 1]);
+    let more = "Unfinished on handle 7, received, DLCI 18: 5 bytes are held without an end marker.";
+    let all = [told[0], told[1], more, told[2]];
+    assert_eq!(unfinished(&out(&words(&[&"frames", &cut, &"--tolerant"]))), indented(&all));
+    // Cut inside the second, nothing is: then nothing is said of it.
+    let cut = place.file("cut", &file[..starts[1] + 30]);
+    let said = words(&[&"frames", &cut, &"--tolerant"]);
+    assert_eq!((status(&said), unfinished(&out(&said)).len()), (0, 0));
+}
+
+#[test]
+fn stretches_of_one_handle_are_told_apart() {
+    let place = Place::new();
+    let wire = pack(0x0C, 0, &[0x22]).unwrap();
+    // A SABM on the DLCI begins a new link: what was held before it stays, and is told too.
+    let mut file = trace_of_pieces(&[(6, true, 18, &wire), (6, true, 18, &wire[..7])]);
+    let sabm = [0x06, 0x20, 8, 0, 4, 0, 0x41, 0, 0x4B, 0x3F, 0x01, 0x1C];
+    let included = (sabm.len() as u32).to_be_bytes();
+    file.extend([&included, &included, &[0, 0, 0, 1], &[0; 4][..], &[0; 8], &sabm].concat());
+    file.extend(&trace_of_pieces(&[(6, true, 18, &wire[..2])])[16..]);
+    let listed = out(&words(&[&"frames", &place.file("trace", &file)]));
+    let told = [
+        "Unfinished on handle 6, received, DLCI 18: 7 bytes are held without an end marker.",
+        "Unfinished on handle 6, received, DLCI 18: 2 bytes are held without an end marker.",
+    ];
+    assert_eq!(unfinished(&listed), told);
 }
 
 #[test]

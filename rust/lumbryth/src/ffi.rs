@@ -168,7 +168,7 @@ pub fn capture_order(names: &[u8], out: &mut [u8], values: &mut [u64]) -> u32 {
 }
 
 pub fn import_with(file: &[u8], work: &mut [u8], out: &mut [u8], options: &[u64], values: &mut [u64]) -> u32 {
-    // Safety: as for `unpack`.
+    // Safety: as for `unpack`; `work` too is borrowed for the call alone.
     unsafe {
         lumbryth_import_with(
             file.as_ptr(),
@@ -194,7 +194,9 @@ pub fn import_stretches(
     tolerant: u32,
     values: &mut [u64],
 ) -> u32 {
-    // Safety: as for `import`; `Stretch` is laid out as in C, and any numbers make one.
+    // Safety: as for `unpack`; `work` and `stretches` too are borrowed for the call alone, so
+    // they overlap nothing else that is lent. `Stretch` is laid out as in C, and any numbers
+    // make one.
     unsafe {
         lumbryth_import_stretches(
             file.as_ptr(),

@@ -119,7 +119,8 @@ pub struct Imported {
     pub dlci: u8,
     /// How many spans there are, also of those that do not unpack.
     pub frames: usize,
-    /// How many frames had begun and not ended when the reading stopped.
+    /// How many stretches and directions of the DLCI held bytes without an end marker, 3C, when
+    /// the reading stopped.
     pub unfinished: usize,
     /// Where the reading stopped: the file's length or, if it was cut, where the record starts
     /// inside which it ends.
@@ -128,7 +129,7 @@ pub struct Imported {
     pub spans: Vec<Span>,
 }
 
-/// A stretch and direction that holds bytes at the end of a trace: a frame under way.
+/// A stretch and direction that holds bytes without an end marker at the end of a trace.
 #[derive(Debug, Clone, Copy, PartialEq, Eq, Hash, Default)]
 #[repr(C)]
 pub struct Stretch {
@@ -144,6 +145,29 @@ pub struct Stretch {
     pub links: u32,
     /// How many bytes are held.
     pub held: u32,
+}
+
+impl Stretch {
+    /// The handle.
+    ///
+    /// ```
+    /// use lumbryth::{Direction, Stretch};
+    ///
+    /// let stretch = Stretch { way: 13, ..Stretch::default() };
+    /// assert_eq!((stretch.handle(), stretch.direction()), (6, Direction::Rx));
+    /// ```
+    pub fn handle(&self) -> u32 {
+        self.way / 2
+    }
+
+    /// Which way the bytes went.
+    pub fn direction(&self) -> Direction {
+        if self.way % 2 == 1 {
+            Direction::Rx
+        } else {
+            Direction::Tx
+        }
+    }
 }
 
 /// A file to write: a frame with its name.

@@ -144,9 +144,10 @@ fn the_records() {
     assert_eq!(records(&full), found(&starts, 1_048_576));
 }
 
-/// The entry with stretches imports the same, and tells what is under way: one reply of the cut trace, none of the whole.
+/// The entry with stretches imports the same, and tells what is open: eight bytes of a reply in the cut trace, nothing in the
+/// whole.
 #[test]
-fn stretches_under_way() {
+fn stretches_that_are_open() {
     let traces: [(&[u8], usize); 2] = [
         (include_bytes!("../../../examples/headset.btsnoop"), 0),
         (include_bytes!("../../../examples/cut.btsnoop"), 1),
@@ -155,7 +156,9 @@ fn stretches_under_way() {
         let (imported, stretches) = import_stretches(trace, None, TailRule::Tolerant).unwrap();
         assert_eq!(import(trace, None, TailRule::Tolerant), Ok(imported.clone()));
         assert_eq!((imported.unfinished, stretches.len()), (open, open));
-        assert!(stretches.iter().all(|stretch| stretch.dlci == u32::from(imported.dlci) && stretch.held > 0));
+        for stretch in stretches {
+            assert_eq!((stretch.handle(), stretch.direction(), stretch.dlci, stretch.held), (6, Direction::Rx, 18, 8));
+        }
     }
     refused(import_stretches(&[0; 16], None, TailRule::Strict), Refusal::NotBtsnoop, 3, &[]);
 }
