@@ -5,3 +5,4 @@ pub mod CoreNamed
 pub mod CoreReplay
 pub mod CoreLaws
 pub mod Passing
+pub mod CoreExamples

@@ -4,7 +4,6 @@ pub mod Core
 pub mod Tried
 pub mod CoreLaws
 pub mod CoreReplay
-pub mod CoreExamples
 pub mod ChannelTable
 pub mod Reading
 pub mod Noting

@@ -1,7 +1,7 @@
 -- A wire that is no packed frame, with a bare 3E inside: a recording that sends it is honest of wires that are sent as they are, and is found whole.
 use Prim.Native.Nat.{ℕ}
 use mathlib.Core.Path.{_≡_, refl, sym, _∙_}
-use mathlib.Core.List.{List, [], _∷_, _++_}
+use mathlib.Core.List.{List, [], _∷_, _++_, head-eq-of-cons-eq, tail-eq-of-cons-eq}
 use mathlib.Core.Option.{some}
 use Rattle.laws.specs.Answers.{isGiven}
 use Rattle.laws.specs.Chop.{chop, chopFrom}
@@ -28,18 +28,16 @@ use Rattle.rfcomm.specs.Pieces.{uihKind, frameKind, kindBy, judgedFrom, judgedB
 use Rattle.search.specs.Seek.{seek}
 use Rattle.spans.specs.Scan.{spansN, restN, spansOf, restOf, capped}
 use Rattle.spans.specs.Spans.{spans, unfinished, onDlci}
-use Rattle.outcome.specs.Import.{found, onChannel, first, hasFrame, chosen, listed, filePieces, read, endsWell, outcome}
+use Rattle.outcome.specs.Import.{found, onChannel, first, hasFrame, chosen, listed, filePieces, read, endsWell, outcome, strict, bySource}
 use Rattle.cut.specs.Left.{leftFrom, recordsLeft, tailLeft, sent, dataOf, dataLeft, closedIn, ofHandle, framesLeft, midFrame, endsMid, midIn, midLeft}
 use Rattle.cut.specs.Honest.{pdusIn, markedPdus, withMarks, judgedIn, isDataOf, toData, afterData, adds, carriesOn, Honest}
 use mathlib.Core.Logic.{_≢_}
-use mathlib.Core.List.{head-eq-of-cons-eq, tail-eq-of-cons-eq}
 use native.Mathlib.Omega.{arith}
 use lib.ListN.{take, drop}
 use Rattle.laws.specs.Lists.{All, all-nil, all-cons}
 use Rattle.items.specs.declared.Direction.the-variants.{Rx}
 use Rattle.mdr.specs.Escaping.{Quiet}
 use Rattle.mdr.proofs.Wire.{packed-framed}
-use Rattle.outcome.specs.Import.{strict, bySource}
 use Rattle.cut.specs.Recording.{Frame, wire, RecordingOf, file, cut}
 use Rattle.cut.proofs.PlainWires.{plainWires}
 use Rattle.cut.proofs.Tests.{plainChecked, isPlain, every, once, ends, headerTest, wholeTest, smallTest, dlciTest, dynamicTest, channelTest, channelsTest, informationTest, sizesTest, beginningsTest, settledIn, settledTest, aloneIn, aloneTest, handlesTest, dataTest, markTest, fragmentsTest, rules, passed-all, honest}

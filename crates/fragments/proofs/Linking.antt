@@ -21,8 +21,7 @@ use Rattle.tree.specs.Seats.{Seated}
 use Rattle.tree.proofs.Seats.{split-row}
 use Rattle.tree.specs.declared.Tree.{Tree}
 use Rattle.tree.specs.declared.Seating.{Seating}
-use Rattle.fragments.specs.Links.{soonest, tagAt, Blank, firstOf, indexOf, SeatKey, headIn, headAt, headOf, headWith, Head, noted, Note}
-use Rattle.fragments.specs.Links.{LinkStep, LinkedStep, LinkRoom, LinkBegun, LinkedTo}
+use Rattle.fragments.specs.Links.{soonest, tagAt, Blank, firstOf, indexOf, SeatKey, headIn, headAt, headOf, headWith, Head, noted, Note, LinkStep, LinkedStep, LinkRoom, LinkBegun, LinkedTo}
 use Rattle.fragments.proofs.Chains.{soonest-agree, tag-empty, tag-full}
 
 -- ---- the row of a key

@@ -5,3 +5,4 @@ pub mod Gathering
 pub mod CountTable
 pub mod Reading
 pub mod Replay
+pub mod CoreExamples

@@ -1,7 +1,6 @@
 pub mod Frames
 pub mod Pieces
 pub mod Replay
-pub mod CoreExamples
 pub mod PieceTable
 pub mod Reading
 pub mod CountTable

@@ -16,7 +16,7 @@ use Rattle.search.specs.Seek.{seek}
 use Rattle.spans.specs.Scan.{begun, end, ended, spansN, restN, spansOf, restOf, capped}
 use Rattle.spans.proofs.Scanning.{shorter}
 use Rattle.spans.specs.Spans.{scanner, emptied, spans, unfinished}
-use Rattle.spans.specs.Bytewise.{feed, emit, held, emitted, byBytes, Starts, nothing, starts, Quiet, AllQuiet}
+use Rattle.spans.specs.Bytewise.{feed, emit, held, emitted, byBytes, Quiet, AllQuiet}
 use Rattle.laws.specs.Count.{count, nub}
 
 pub held-append : (h a b : List ℕ) → held h (a ++ b) ≡ held (held h a) b
@@ -56,6 +56,10 @@ inside a h (x ∷ c) =
     split≡ x 0x3C
     (λ e. (rw (eq-eqb x 0x3C e, lt-ltb 0 (suc (length c)) (omega arith)), rw (eq-eqb x 0x3C e, lt-ltb 0 (suc (length c)) (omega arith))))
     (λ e. (rw (ne-eqb x 0x3C e, ltb-suc (seek 0x3C c) (length c)) (rw (inside a (h ++ (x ∷ [])) c .0, append-assoc)), rw (ne-eqb x 0x3C e, ltb-suc (seek 0x3C c) (length c)) (rw (inside a (h ++ (x ∷ [])) c .1, append-assoc))))
+
+data Starts : List ℕ → Type 0 where
+  nothing : Starts []
+  starts : (c : List ℕ) → Starts (0x3E ∷ c)
 
 begun-starts : (b : List ℕ) → Starts (begun b)
 unfolding seek

@@ -1,4 +1,4 @@
--- Laws of specs/Scanning.
+-- Laws of the rule on one buffer: its equations without a number of repetitions, the search for a byte, the next span from a place on.
 use Prim.Native.Nat.{ℕ, _-_, _<_, zero, suc}
 use mathlib.Core.Path.{_≡_}
 use mathlib.Core.Bool.{true, false}

@@ -37,10 +37,6 @@ byBytes = record {
   out = λ b p. map (λ w. record { rx = p .rx; time = p .time; wire = w }) (emitted b (p .bytes));
 }
 
-data Starts : List ℕ → Type 0 where
-  nothing : Starts []
-  starts : (c : List ℕ) → Starts (0x3E ∷ c)
-
 -- ---- quiet: scanned anew it gives nothing and stays
 
 pub record Quiet (b : List ℕ) : Type 0 where

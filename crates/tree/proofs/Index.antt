@@ -21,8 +21,7 @@ use Rattle.table.proofs.Table.{find-below, row-outside, row-key, length-row, lo
 use Rattle.table.specs.declared.Row.{Row}
 use Rattle.table.specs.declared.Row.the-variants.{At, Nothing}
 use Rattle.tree.specs.Paths.{nodeAt, restAt, Slots, Apart, Keeps}
-use Rattle.tree.specs.Tree.{mixOf, rootsFor, keyAt, linksIn, rootIn, bitsIn, pathTo, Indexed, Stands, SeekPre, EnterPre, Entered, Added, Cleared, ClearPre}
-use Rattle.tree.specs.Tree.{TreeIs, Vacant, SpotIs, Seeking, NewPre, putNew}
+use Rattle.tree.specs.Tree.{mixOf, rootsFor, keyAt, linksIn, rootIn, bitsIn, pathTo, Indexed, Stands, SeekPre, EnterPre, Entered, Added, Cleared, ClearPre, TreeIs, Vacant, SpotIs, Seeking, NewPre, putNew}
 use Rattle.tree.specs.declared.Tree.{Tree}
 use Rattle.tree.specs.declared.Spot.{Spot}
 use Rattle.tree.specs.declared.Spot.the-variants.{Taken, Free}
