@@ -1,10 +1,11 @@
-//! Traces for a reading that finds keys by their bits, the lowest first, in a tree: keys that
-//! begin with the same bits stand one under another, and the paths to those that are used
-//! most are as long as a file can make them.
+//! Traces for a reading that finds keys by their bits, the lowest first, in trees: keys of one
+//! tree that begin with the same bits stand one under another, and the paths to those that are
+//! used most are as long as a file can make them.
 //!
 //! A channel's bits are those of its number, 65,537 times the side (twice the handle, and 1
-//! for Rx) plus the CID. A buffer's are the same, in turn with those of DLCI and counts; an
-//! open PDU's are those of the side; a count's are those of 64 times the handle plus the DLCI.
+//! for Rx) plus the CID; a product of the number says the tree. A buffer's are the same, in turn
+//! with those of DLCI and counts; an open PDU's are those of the side; a count's are those of
+//! 64 times the handle plus the DLCI, and counts have one tree.
 
 use crate::hard::{byte, Filler};
 use crate::trace;
@@ -77,6 +78,23 @@ impl Channel {
     fn send(self, filler: &mut Filler, payload: &[u8]) -> bool {
         filler.pdu(direction_of(self.side), handle_of(self.side), self.cid, payload)
     }
+
+    /// Where the number's tree stands among all, of 2^32.
+    fn spread(self) -> u64 {
+        self.number() * 2_654_435_769 % (1 << 32)
+    }
+
+    /// A channel of the same tree that begins with so many of the same bits, and not with one more.
+    fn beside(self, bits: u32, trees: u64) -> Option<Channel> {
+        let near = |c: &Channel| self.spread().abs_diff(c.spread()) < (1 << 30) / trees;
+        let numbers = (0..1u64 << (28 - bits)).map(|high| self.number() ^ (2 * high + 1) << bits);
+        numbers.filter_map(Channel::of).find(near)
+    }
+}
+
+/// How many trees the channels of a file of so many bytes have.
+fn trees(most: usize) -> u64 {
+    most as u64 / 32 + 1
 }
 
 /// Sends commands that name channels of a side: they go the other way.
@@ -98,9 +116,13 @@ fn response(channel: Channel, source: u16) -> Vec<u8> {
     trace::command(3, 1, &[a, b, c, d, 0, 0])
 }
 
-/// The channel of a side, of 16, whose number has the lowest 12 bits that all of them have.
-fn sixteenth(side: u64, k: u64) -> Channel {
-    Channel { side, cid: (0x5A5u64.wrapping_sub(side) % 4096 + 4096 * k) as u16 }
+/// Some 16 channels of a side in one tree, or in the fewest that hold 16 of every side; and if
+/// the tree holds more, those that begin with the same bits.
+fn sixteen(side: u64, most: usize) -> Vec<Channel> {
+    let part = trees(most).min(4096);
+    let bits = 12 - part.ilog2();
+    let all = (0x40..=u16::MAX).map(|cid| Channel { side, cid });
+    all.filter(|c| c.spread() < (1 << 32) / part && c.number() % (1 << bits) == 0x5A5 % (1 << bits)).collect()
 }
 
 /// 16 channels of each side. Few sides are as far apart as they can be: then they begin with
@@ -110,19 +132,21 @@ fn many_channels(most: usize, command: &Command) -> Vec<u8> {
     let size = 32 + 16 * command(FIRST, 0).len();
     let step = (8192 / (most / size).next_power_of_two()).max(1);
     for side in (0..8192).step_by(step) {
-        let named = (0..16).flat_map(|k| command(sixteenth(side, k), sixteenth(side ^ 1, k).cid));
-        if !signal(&mut filler, side, &named.collect::<Vec<u8>>()) {
+        let sources = sixteen(side ^ 1, most);
+        let named = sixteen(side, most).into_iter().enumerate();
+        let commands = named.flat_map(|(k, c)| command(c, sources.get(k).map_or(0x40, |s| s.cid)));
+        if !signal(&mut filler, side, &commands.collect::<Vec<u8>>()) {
             break;
         }
     }
     filler.ended(DLCI)
 }
 
-/// Requests for channels that begin with more and more of the bits of each of some numbers,
-/// without those that are used.
-fn name_beside(filler: &mut Filler, used: &[Channel]) {
+/// Requests for channels that begin with more and more of the bits of each of some channels, in
+/// the same tree, without those that are used.
+fn name_beside(filler: &mut Filler, used: &[Channel], trees: u64) {
     for channel in used {
-        for other in (0..29).filter_map(|bit| Channel::of(channel.number() ^ 1 << bit)) {
+        for other in (0..29).filter_map(|bits| channel.beside(bits, trees)) {
             if !used.contains(&other) {
                 signal(filler, other.side, &request(other, 0));
             }
@@ -134,7 +158,7 @@ fn name_beside(filler: &mut Filler, used: &[Channel]) {
 fn few_channels(most: usize, named: &[Channel], command: &Command) -> Vec<u8> {
     let mut filler = Filler::new(1001, most);
     let sources: Vec<Channel> = named.iter().map(|c| Channel { side: c.side ^ 1, ..*c }).collect();
-    name_beside(&mut filler, &[named, &sources].concat());
+    name_beside(&mut filler, &[named, &sources].concat(), trees(most));
     let turn: Vec<u8> = named.iter().zip(&sources).flat_map(|(c, source)| command(*c, source.cid)).collect();
     let mut count = 65_000 / turn.len();
     while count > 0 {
@@ -221,11 +245,9 @@ fn buffers_beside(filler: &mut Filler) {
     }
 }
 
-/// A request for each of the channels on the way to both: none that has a buffer.
-fn channels_beside(filler: &mut Filler) {
-    for other in (0..28).filter_map(|bit| Channel::of(SECOND.number() ^ 1 << bit)) {
-        signal(filler, other.side, &request(other, 0));
-    }
+/// A request for each of the channels on the way to both.
+fn channels_beside(filler: &mut Filler, trees: u64) {
+    name_beside(filler, &BOTH, trees);
 }
 
 /// The key of a count.
@@ -253,7 +275,7 @@ fn every_tree(most: usize, used: &[Channel], payload: &[u8]) -> Vec<u8> {
     let mut filler = Filler::new(1001, most);
     between_paths(&mut filler, used, &mut |filler| {
         buffers_beside(filler);
-        channels_beside(filler);
+        channels_beside(filler, trees(most));
         counts_beside(filler, used);
         while used.iter().all(|channel| channel.send(filler, payload)) {}
     });

@@ -12,8 +12,8 @@ use Rattle.words.specs.Words.{word}
 use Rattle.words.specs.Front.{Front}
 use Rattle.words.proofs.Front.{front-refl, front-then, front-less, front-word}
 use Rattle.table.specs.Table.{lookup, Agree}
-use Rattle.tree.specs.Tree.{Indexed, Stands, SeekPre, EnterPre, ClearPre, Cleared, rootsFor}
-use Rattle.tree.proofs.Index.{stands-less, stands-same, roots-some, roots-few}
+use Rattle.tree.specs.Tree.{Indexed, Stands, SeekPre, EnterPre, ClearPre, Cleared}
+use Rattle.tree.proofs.Index.{stands-less, stands-same}
 use Rattle.tree.specs.declared.Tree.{Tree}
 use Rattle.items.specs.Items.{rxOf}
 use Rattle.items.specs.declared.Direction.{Direction}
@@ -170,11 +170,11 @@ noting-enter f w₀ row x n₀ p w n at v h = record {
 -- the channels and their index have room for so many
 channel-stands : (f w : List ℕ) (n : ℕ) → 16 ≤ length f → length f ≤ 1048576 → 8 * length f ≤ length w → 8 * n + 16 ≤ length f → Stands w (channelIndex (length f / 4)) n
 unfolding channelIndex
-channel-stands f w n some small room few = record { rows = omega arith; room = omega (arith, roots-few (length f / 4) (omega arith)); few = omega arith }
+channel-stands f w n some small room few = record { rows = omega arith; room = omega arith; few = omega arith }
 
-pub index-is : (q m : ℕ) → m ≡ rootsFor q → record { rows = 3 * q; links = 6 * q + (6 * q) / 7; roots = m } ≡ channelIndex q
+pub index-is : (q : ℕ) → record { rows = 3 * q; links = 6 * q + (6 * q) / 7; roots = q / 8 + 1 } ≡ channelIndex q
 unfolding channelIndex
-index-is q m e = rw e
+index-is q = refl
 
 pub record Running (f w₀ : List ℕ) (made : ℕ) (w : List ℕ) (rows i : ℕ) : Type 0 where
   pub within : i ≤ made
@@ -314,7 +314,7 @@ module _ (w : List ℕ) (q n side cid : ℕ) (t : Tries w q n) (x : Tree) (ex : 
 module _ (f w : List ℕ) (made : ℕ) (ps : List Pdu) (p : Reassembled f w made ps) (x : Tree) (ex : x ≡ channelIndex (length f / 4)) where
   pub note-clear : ClearPre w x
   unfolding channelIndex
-  note-clear = rw ex (record { some = roots-some (length f / 4); room = omega (arith, p .few, p .room, roots-few (length f / 4) (omega (arith, p .few))) })
+  note-clear = rw ex (record { some = omega arith; many = omega (arith, p .small); room = omega (arith, p .few, p .room) })
 
   module _ (v : List ℕ) (c : Cleared w x v) where
     front : Front (12 * (length f / 4)) v w

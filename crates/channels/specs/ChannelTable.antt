@@ -5,7 +5,6 @@ use mathlib.Core.Bool.{Bool, true, false}
 use mathlib.Core.List.{List}
 use lib.Dec.{ltb}
 use Rattle.table.specs.Table.{Slot, none, some, lookup}
-use Rattle.tree.specs.Tree.{rootsFor}
 use Rattle.tree.specs.declared.Tree.{Tree}
 use Rattle.channels.specs.Signals.{Signal, triple}
 use Rattle.channels.specs.Channels.{named, admitted}
@@ -16,7 +15,7 @@ channelKey link rx cid = (2 * link + rx) * 65536 + cid
 
 -- where the channels stand in work, with q a quarter of the file's length, and their index
 unfoldable pub channelIndex : ℕ → Tree
-channelIndex q = record { rows = 3 * q; links = 6 * q + (6 * q) / 7; roots = rootsFor q }
+channelIndex q = record { rows = 3 * q; links = 6 * q + (6 * q) / 7; roots = q / 8 + 1 }
 
 -- a row says that the channel is named; its first value is 0, or 1 if a response admitted it, or 2 if a PSM 3 request did
 unfoldable pub saysNamed : Slot → Bool

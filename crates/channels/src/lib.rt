@@ -22,7 +22,6 @@ use l2cap::payload;
 use table::Row;
 use tree::Tree;
 use tree::clear;
-use tree::roots_for;
 use tree::seat;
 use tree::seek_near;
 use words::Field;
@@ -336,7 +335,7 @@ fn index_of(q: usize) -> Tree
     Tree {
         rows: 3 * q,
         links: 6 * q + 6 * q / 7,
-        roots: roots_for(q),
+        roots: q / 8 + 1,
     }
 }
 

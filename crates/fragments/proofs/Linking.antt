@@ -15,20 +15,16 @@ use Rattle.words.proofs.Front.{front-refl, front-less, front-put, front-then, f
 use Rattle.table.specs.Table.{findIn, lookup, upd, sumOf, some}
 use Rattle.table.proofs.Table.{find-below, lookup-agree, long-agree, sum-agree}
 use Rattle.table.specs.declared.Row.the-variants.{At, Nothing}
-use Rattle.tree.specs.Tree.{Indexed, EnterPre, rootsFor, ClearPre, Cleared}
-use Rattle.tree.proofs.Index.{indexed-agree, find-agree, found-key, roots-some, roots-few}
+use Rattle.tree.specs.Tree.{Indexed, EnterPre, ClearPre, Cleared}
+use Rattle.tree.proofs.Index.{indexed-agree, find-agree, found-key}
 use Rattle.tree.specs.Seats.{Seated}
 use Rattle.tree.proofs.Seats.{split-row}
 use Rattle.tree.specs.declared.Tree.{Tree}
 use Rattle.tree.specs.declared.Seating.{Seating}
-use Rattle.fragments.specs.Links.{soonest, tagAt, Blank, firstOf, indexOf, SeatKey, headIn, headAt, headOf, headWith, Head, noted, Note}
-use Rattle.fragments.specs.Links.{LinkStep, LinkedStep, LinkRoom, LinkBegun, LinkedTo}
+use Rattle.fragments.specs.Links.{soonest, tagAt, Blank, firstOf, indexOf, SeatKey, headIn, headAt, headOf, headWith, Head, noted, Note, LinkStep, LinkedStep, LinkRoom, LinkBegun, LinkedTo}
 use Rattle.fragments.proofs.Chains.{soonest-agree, tag-empty, tag-full}
 
 -- ---- the row of a key
-
-pub index-is : (q m : ℕ) → m ≡ rootsFor q → record { rows = 3 * q; links = 5 * q; roots = m } ≡ indexOf q
-index-is q m e = rw e
 
 module _ (w : List ℕ) (q n : ℕ) (p : SeatKey w q n) (x : Tree) (ex : x ≡ indexOf q) where
   pub seat-pre : EnterPre w x n
@@ -262,14 +258,14 @@ module _ (w₀ : List ℕ) (q count : ℕ) (b : LinkBegun w₀ q count) where
         enter = record {
           stands = record {
             rows = omega (arith, v .few, g .low);
-            room = omega (arith, v .few, g .low, g .room, v .size, roots-few q (g .some));
+            room = omega (arith, v .few, g .low, g .room, v .size);
             few = omega (arith, v .few, g .low, g .small);
           };
           indexed = v .indexed;
         };
         small = g .small;
       };
-      few = omega (arith, v .few, g .low, roots-few q (g .some));
+      few = omega (arith, v .few, g .low);
       low = omega (arith, v .within, g .low);
       room = omega (arith, g .room, v .size);
     }
@@ -357,7 +353,7 @@ module _ (w₀ : List ℕ) (q count : ℕ) (b : LinkBegun w₀ q count) where
 
 module _ (w : List ℕ) (q count : ℕ) (g : LinkRoom w q count) (x : Tree) (ex : x ≡ indexOf q) where
   pub link-clear : ClearPre w x
-  link-clear = rw ex (record { some = roots-some q; room = omega (arith, g .some, g .room, roots-few q (g .some)) })
+  link-clear = rw ex (record { some = omega arith; many = omega (arith, g .small); room = omega (arith, g .some, g .room) })
 
   module _ (v : List ℕ) (c : Cleared w x v) where
     pub link-begun : LinkBegun v q count

@@ -3,7 +3,7 @@
 use mathlib.Core.Path.{_≡_}
 use mathlib.Core.List.{List}
 use mathlib.Core.Bool.{cond}
-use Prim.Native.Nat.{ℕ, zero, suc, _+_, _-_, _*_, _<_, _≤_}
+use Prim.Native.Nat.{ℕ, zero, suc, _+_, _-_, _*_, _/_, _<_, _≤_}
 use lib.ListN.{length}
 use lib.Dec.{eqb}
 use Rattle.words.specs.Words.{word, putWord}
@@ -11,7 +11,7 @@ use Rattle.words.specs.Front.{Front}
 use Rattle.table.specs.Table.{Slot, none, some, findIn, lookup, sumOf}
 use Rattle.table.specs.declared.Row.{Row}
 use Rattle.table.specs.declared.Row.the-variants.{At, Nothing}
-use Rattle.tree.specs.Tree.{Indexed, EnterPre, rootsFor}
+use Rattle.tree.specs.Tree.{Indexed, EnterPre}
 use Rattle.tree.specs.declared.Tree.{Tree}
 use Rattle.tree.specs.declared.Seating.{Seating}
 
@@ -48,7 +48,7 @@ pub record Blank (w : List ℕ) (b n : ℕ) : Type 0 where
 
 -- where the open PDUs stand and their index
 abbrev pub indexOf : ℕ → Tree
-indexOf q = record { rows = 3 * q; links = 5 * q; roots = rootsFor q }
+indexOf q = record { rows = 3 * q; links = 5 * q; roots = q / 64 + 1 }
 
 pub record SeatKey (w : List ℕ) (q n : ℕ) : Type 0 where
   pub enter : EnterPre w (indexOf q) n
@@ -85,7 +85,7 @@ pub record Note (w : List ℕ) (q i a : ℕ) : Type 0 where
 -- packet i can be linked, with the keys of those behind it in n rows
 pub record LinkStep (w : List ℕ) (q n i : ℕ) : Type 0 where
   pub seat : SeatKey w q n
-  pub few : rootsFor q + 2 * n + 2 ≤ q
+  pub few : q / 64 + 2 * n + 3 ≤ q
   pub low : 24 * i + 24 ≤ 4 * q
   pub room : 32 * q ≤ length w
 

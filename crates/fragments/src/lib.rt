@@ -13,7 +13,6 @@ ghost use Rattle.fragments.specs.Bytes.{begun, Next, Walk, Paste, Gather
 use tree::Seating;
 use tree::Tree;
 use tree::clear;
-use tree::roots_for;
 use tree::seat;
 use words::copy_to;
 use words::get32;
@@ -38,7 +37,7 @@ fn index_of(q: usize) -> Tree
     Tree {
         rows: 3 * q,
         links: 5 * q,
-        roots: roots_for(q),
+        roots: q / 64 + 1,
     }
 }
 

@@ -6,10 +6,10 @@ use mathlib.Core.Bool.{Bool, true, false, cond}
 use Prim.Native.Nat.{ℕ, zero, suc, _+_, _-_, _*_, _/_, _%_, _<_, _≤_}
 use native.Mathlib.Omega.{arith}
 use native.Mathlib.Numerals.{add-one}
-use native.Mathlib.Nat.{mod-lt, mod-one, div-one}
+use native.Mathlib.Nat.{div-lt-iff-lt-mul, mul-comm, mul-le-mul, mul-lt-mul-of-pos-right}
 use lib.ListN.{length}
-use lib.Dec.{eqb, ltb}
-use borrow.Author.Tests.{eq-eqb, ne-eqb, lt-ltb, le-ltb}
+use lib.Dec.{eqb}
+use borrow.Author.Tests.{eq-eqb, ne-eqb}
 use Rattle.laws.proofs.Choice.{split≡, split≤}
 use Rattle.words.specs.Words.{word, long, putWord}
 use Rattle.words.proofs.Words.{length-put, word-put-same, word-put-other}
@@ -21,8 +21,7 @@ use Rattle.table.proofs.Table.{find-below, row-outside, row-key, length-row, lo
 use Rattle.table.specs.declared.Row.{Row}
 use Rattle.table.specs.declared.Row.the-variants.{At, Nothing}
 use Rattle.tree.specs.Paths.{nodeAt, restAt, Slots, Apart, Keeps}
-use Rattle.tree.specs.Tree.{mixOf, rootsFor, keyAt, linksIn, rootIn, bitsIn, pathTo, Indexed, Stands, SeekPre, EnterPre, Entered, Added, Cleared, ClearPre}
-use Rattle.tree.specs.Tree.{TreeIs, Vacant, SpotIs, Seeking, NewPre, putNew}
+use Rattle.tree.specs.Tree.{mixOf, treeOf, keyAt, linksIn, rootIn, pathTo, Indexed, Stands, SeekPre, EnterPre, Entered, Added, Cleared, ClearPre, TreeIs, Vacant, SpotIs, Seeking, NewPre, putNew}
 use Rattle.tree.specs.declared.Tree.{Tree}
 use Rattle.tree.specs.declared.Spot.{Spot}
 use Rattle.tree.specs.declared.Spot.the-variants.{Taken, Free}
@@ -34,62 +33,29 @@ stands-less w x n m h s = record { rows = omega (arith, s .rows); room = omega (
 pub stands-same : (u w : List ℕ) (x : Tree) (n : ℕ) → length u ≡ length w → Stands w x n → Stands u x n
 stands-same u w x n e s = record { rows = s .rows; room = rw e (s .room); few = s .few }
 
--- ---- how many trees there are, and a key's
+-- ---- the tree of a key
 
-module _ (q : ℕ) where
-  pub roots-1 : q < 448 → 1 ≡ rootsFor q
-  unfolding rootsFor
-  roots-1 h = rw (lt-ltb q 448 h)
+part-less : (a m : ℕ) → a < 4294967296 → 0 < m → a * m / 4294967296 < m
+part-less a m h o =
+    let s : 0 < 4294967296 = omega arith in
+    let l : a * m < 4294967296 * m = mul-lt-mul-of-pos-right h o in
+    div-lt-iff-lt-mul s .1 (omega (arith, l))
 
-  pub roots-64 : 448 ≤ q → q < 3584 → 64 ≡ rootsFor q
-  unfolding rootsFor
-  roots-64 g h = rw (le-ltb q 448 g, lt-ltb q 3584 h)
+pub tree-less : (m n : ℕ) → 0 < m → treeOf m n < m
+unfolding treeOf
+tree-less m n o = part-less (((n % 4294967296) * 2654435769) % 4294967296) m (omega arith) o
 
-  pub roots-512 : 3584 ≤ q → q < 28672 → 512 ≡ rootsFor q
-  unfolding rootsFor
-  roots-512 g h = rw (le-ltb q 448 (omega arith), le-ltb q 3584 g, lt-ltb q 28672 h)
+pub tree-fits : (n m : ℕ) → (0 < m) × (m ≤ 1048576) → (n % 4294967296 * 2654435769 % 4294967296) * m < 18446744073709551616
+tree-fits n m h = go (n % 4294967296 * 2654435769 % 4294967296) (omega arith) where
+  go : (a : ℕ) → a < 4294967296 → a * m < 18446744073709551616
+  go a l =
+      let s : a ≤ 4294967296 = omega arith in
+      let b : a * m ≤ 4294967296 * 1048576 = mul-le-mul s (h .1) in
+      omega (arith, b)
 
-  pub roots-4096 : 28672 ≤ q → q < 229376 → 4096 ≡ rootsFor q
-  unfolding rootsFor
-  roots-4096 g h = rw (le-ltb q 448 (omega arith), le-ltb q 3584 (omega arith), le-ltb q 28672 g, lt-ltb q 229376 h)
-
-  pub roots-32768 : 229376 ≤ q → 32768 ≡ rootsFor q
-  unfolding rootsFor
-  roots-32768 g = rw (le-ltb q 448 (omega arith), le-ltb q 3584 (omega arith), le-ltb q 28672 (omega arith), le-ltb q 229376 g)
-
-  roots-case : (P : ℕ → Type 0) → P 1 → (448 ≤ q → P 64) → (3584 ≤ q → P 512) → (28672 ≤ q → P 4096) → (229376 ≤ q → P 32768) → P (rootsFor q)
-  roots-case P a b c d e =
-      split≤ 448 q
-      (λ g. split≤ 3584 q
-      (λ h. split≤ 28672 q
-      (λ k. split≤ 229376 q
-      (λ l. rw (← roots-32768 l) (e l))
-      (λ l. rw (← roots-4096 k l) (d k)))
-      (λ k. rw (← roots-512 h k) (c h)))
-      (λ h. rw (← roots-64 g h) (b g)))
-      (λ g. rw (← roots-1 g) a)
-
-  pub roots-some : 0 < rootsFor q
-  roots-some = roots-case (λ (m : ℕ). 0 < m) (omega arith) (λ h. omega arith) (λ h. omega arith) (λ h. omega arith) (λ h. omega arith)
-
-  -- a seventh, or one
-  pub roots-few : 0 < q → 7 * rootsFor q ≤ q + 6
-  roots-few s = roots-case (λ (m : ℕ). 7 * m ≤ q + 6) (omega arith) (λ h. omega arith) (λ h. omega arith) (λ h. omega arith) (λ h. omega arith)
-
-pub tree-only : (f m : ℕ) → m ≡ 1 → TreeIs f m 0
-tree-only f m e = rw e (record { is = sym (mod-one f); few = omega arith })
-
-pub tree-any : (f m : ℕ) → 0 < m → TreeIs f m (f % m)
-tree-any f m h = record { is = refl; few = mod-lt f h }
-
-pub tree-known : (f m t : ℕ) → 0 < m → m ≡ t → TreeIs f m (f % t)
-tree-known f m t h e = rw (← e) (tree-any f m h)
-
-pub above-only : (f m : ℕ) → m ≡ 1 → f ≡ f / m
-above-only f m e = rw e (sym (div-one f))
-
-pub above-known : (f m t : ℕ) → m ≡ t → f / t ≡ f / m
-above-known f m t e = rw e
+pub tree-is : (n m : ℕ) → (0 < m) × (m ≤ 1048576) → TreeIs n m (n % 4294967296 * 2654435769 % 4294967296 * m / 4294967296)
+unfolding treeOf
+tree-is n m h = record { is = refl; few = part-less (n % 4294967296 * 2654435769 % 4294967296) m (omega arith) (h .0) }
 
 -- ---- the search by rows
 
@@ -137,14 +103,14 @@ module _ (w : List ℕ) (x : Tree) (n k : ℕ) (p : SeekPre w x n) where
   s : Indexed w x n
   s = p .indexed
 
-  pub seeking-start : (f t m : ℕ) → f ≡ mixOf k → TreeIs f (x .roots) t → m ≡ f / x .roots → Seeking w x n k (x .links + t) m
+  pub seeking-start : (f t : ℕ) → f ≡ mixOf k → TreeIs f (x .roots) t → Seeking w x n k (x .links + t) f
   unfolding nodeAt restAt
-  seeking-start f t m e i d = record {
+  seeking-start f t e i = record {
     low = omega arith;
     high = omega (arith, i .few);
     depth = 0;
     reads = λ u a. ap (λ (j : ℕ). word u (x .links + j)) (sym (i .is ∙ rw e));
-    bits = d ∙ rw e;
+    bits = e;
     met = λ e l. absurd (omega arith);
     others = λ e j l. absurd (omega arith);
   }
@@ -162,7 +128,7 @@ module _ (w : List ℕ) (x : Tree) (n k : ℕ) (p : SeekPre w x n) where
       gone r l h =
           let g : pathTo w x k (s .depth r) ≡ suc r = rw h at (s .path r l) in
           split≤ (q .depth) (s .depth r)
-          (λ a. no-zero r (sym (node-past w (linksIn x) (rootIn x k) (bitsIn x k) (q .depth) (s .depth r) a (here ∙ z)) ∙ g))
+          (λ a. no-zero r (sym (node-past w (linksIn x) (rootIn x k) (restAt (mixOf k)) (q .depth) (s .depth r) a (here ∙ z)) ∙ g))
           (λ a. q .others (s .depth r) r a g h)
 
       vacant : Vacant w x n k at
@@ -201,7 +167,7 @@ module _ (w : List ℕ) (x : Tree) (n k : ℕ) (p : SeekPre w x n) where
             low = omega arith;
             high = omega (arith, eb, seeking-row, some);
             depth = suc (q .depth);
-            reads = λ u a. node-step u (linksIn x) (rootIn x k) (bitsIn x k) (q .depth) (v - 1) (leads u a) ∙ rw (eb, q .bits);
+            reads = λ u a. node-step u (linksIn x) (rootIn x k) (restAt (mixOf k)) (q .depth) (v - 1) (leads u a) ∙ rw (eb, q .bits);
             bits = rw (q .bits);
             met = λ a l. split≡ a (q .depth) (λ o. rw (o, here) some) (λ o. q .met a (earlier a (q .depth) (omega arith) o));
             others = passed;
@@ -224,9 +190,10 @@ module _ (w : List ℕ) (x : Tree) (n k : ℕ) where
 
 -- ---- an empty table
 
-pub indexed-none : (w : List ℕ) (x : Tree) → 0 < x .roots → ((j : ℕ) → x .links ≤ j → j < linksIn x → word w j ≡ 0) → Indexed w x 0
-indexed-none w x o e = record {
-  some = o;
+indexed-none : (w : List ℕ) (x : Tree) → ClearPre w x → ((j : ℕ) → x .links ≤ j → j < linksIn x → word w j ≡ 0) → Indexed w x 0
+indexed-none w x p e = record {
+  some = p .some;
+  many = p .many;
   slots = record { below = λ at a b. omega (arith, e at a (omega arith)); later = λ at a b c. absurd (omega (arith, e at a (omega arith))) };
   apart = record { one = λ p q a b c d s. absurd (omega (arith, e p a (omega arith))) };
   depth = λ i. 0;
@@ -236,7 +203,7 @@ indexed-none w x o e = record {
 
 pub cleared : (w : List ℕ) (x : Tree) → ClearPre w x → (u : List ℕ) → Filled w (x .links) (x .roots) 0 u → Cleared w x u
 cleared w x p u f = record {
-  indexed = indexed-none u x (p .some) (λ j a b. let e : x .links + (j - x .links) ≡ j = omega arith in rw e at (f .is (j - x .links) (omega arith)));
+  indexed = indexed-none u x (record { some = p .some; many = p .many; room = rw (f .size) (p .room) }) (λ j a b. let e : x .links + (j - x .links) ≡ j = omega arith in rw e at (f .is (j - x .links) (omega arith)));
   front = f .front;
   beyond = f .beyond;
   size = f .size;
@@ -245,19 +212,20 @@ cleared w x p u f = record {
 -- ---- an index does not see what is written elsewhere
 
 pub root-low : (w : List ℕ) (x : Tree) (n k : ℕ) → Indexed w x n → rootIn x k < linksIn x
-root-low w x n k s = let h : mixOf k % x .roots < x .roots = mod-lt (mixOf k) (s .some) in omega arith
+root-low w x n k s = omega (arith, tree-less (x .roots) (mixOf k) (s .some))
 
 module _ (w : List ℕ) (x : Tree) (n : ℕ) (s : Indexed w x n) where
   -- a path that leads to a row stays
   path-kept : (u : List ℕ) → Keeps w (x .links) (linksIn x) n u → (k d i : ℕ) → pathTo w x k d ≡ suc i → pathTo u x k d ≡ suc i
-  path-kept u a k d i e = node-kept w (linksIn x) (rootIn x k) (bitsIn x k) (x .links) n (s .slots) (omega arith) (root-low w x n k s) (omega arith) u a d i e
+  path-kept u a k d i e = node-kept w (linksIn x) (rootIn x k) (restAt (mixOf k)) (x .links) n (s .slots) (omega arith) (root-low w x n k s) (omega arith) u a d i e
 
   pub path-below : (k d : ℕ) → pathTo w x k d ≤ n
-  path-below k d = node-below w (linksIn x) (rootIn x k) (bitsIn x k) (x .links) n (s .slots) (omega arith) (root-low w x n k s) (omega arith) d
+  path-below k d = node-below w (linksIn x) (rootIn x k) (restAt (mixOf k)) (x .links) n (s .slots) (omega arith) (root-low w x n k s) (omega arith) d
 
   pub indexed-agree : (u : List ℕ) → ((j : ℕ) → j < n → keyAt u x j ≡ keyAt w x j) → ((j : ℕ) → x .links ≤ j → j < x .links + x .roots + 2 * n → word u j ≡ word w j) → Indexed u x n
   indexed-agree u e g = record {
     some = s .some;
+    many = s .many;
     slots = slots-agree u w (x .links) (linksIn x) n g (s .slots);
     apart = apart-agree u w (x .links) (linksIn x) n g (s .apart);
     depth = s .depth;
@@ -329,6 +297,7 @@ module _ (w : List ℕ) (x : Tree) (n k y z : ℕ) (p : EnterPre w x n) where
             (store-new w (x .rows) n k y z room Nothing (sym (c .none)) refl (putRow w (x .rows + 4 * n) k y z) refl);
         indexed = record {
           some = s .some;
+          many = s .many;
           slots = grew-slots w (x .links) (linksIn x) n (s .slots) u grew;
           apart = grew-apart w (x .links) (linksIn x) n (s .slots) u grew at (λ j a b e. other j e ∙ old j a b) here (s .apart);
           depth = λ i. cond (eqb i n) (c .depth) (s .depth i);

@@ -1,12 +1,11 @@
 -- A walk is no longer than a key has bits: after 64 turns it has met the key's own row or has ended.
-use mathlib.Core.Path.{_≡_, refl, sym, ap, ap₂, _∙_}
+use mathlib.Core.Path.{_≡_, refl, sym, ap, _∙_}
 use mathlib.Core.List.{List}
 use Prim.Native.Nat.{ℕ, zero, suc, _+_, _-_, _*_, _/_, _%_, _<_, _≤_}
 use native.Mathlib.Omega.{arith}
-use native.Mathlib.Nat.{div-le-self, mod-add-div}
 use Rattle.laws.proofs.Choice.{split≤}
 use Rattle.tree.specs.Paths.{restAt}
-use Rattle.tree.specs.Tree.{mixOf, keyAt, linksIn, rootIn, bitsIn, pathTo, Indexed, Seeking}
+use Rattle.tree.specs.Tree.{mixOf, keyAt, linksIn, rootIn, pathTo, Indexed, Seeking}
 use Rattle.tree.specs.declared.Tree.{Tree}
 use Rattle.tree.proofs.Paths.{one-way}
 use Rattle.tree.proofs.Index.{root-low, path-below}
@@ -54,18 +53,12 @@ mix-same a b h l e =
     (λ c. split≤ b a (λ d. omega arith) (λ d. absurd (omega (arith, e, mix-less a b l d))))
     (λ c. absurd (omega (arith, e, mix-less b a h c)))
 
--- keys of one of m trees, with the same bits
-bits-same : (m a b : ℕ) → a < 9223372036854775808 → b < 9223372036854775808 → mixOf a % m ≡ mixOf b % m →
-    ((e : ℕ) → e < 64 → restAt (mixOf a / m) e % 2 ≡ restAt (mixOf b / m) e % 2) → a ≡ b
+bits-same : (a b : ℕ) → a < 9223372036854775808 → b < 9223372036854775808 → ((e : ℕ) → e < 64 → restAt (mixOf a) e % 2 ≡ restAt (mixOf b) e % 2) → a ≡ b
 unfolding twos
-bits-same m a b h l t s =
-    let p : restAt (mixOf a / m) 64 < 1 = rest-below (mixOf a / m) 64 1 (omega (arith, mix-below a h, div-le-self (mixOf a) m)) in
-    let q : restAt (mixOf b / m) 64 < 1 = rest-below (mixOf b / m) 64 1 (omega (arith, mix-below b l, div-le-self (mixOf b) m)) in
-    let d : mixOf a / m ≡ mixOf b / m = same-bits (mixOf a / m) (mixOf b / m) 64 (omega arith) s in
-    mix-same a b h l (sym (mod-add-div (mixOf a) m) ∙ ap₂ (λ (r c : ℕ). r + m * c) t d ∙ mod-add-div (mixOf b) m)
-
-same-part : (l a b : ℕ) → l + a ≡ l + b → a ≡ b
-same-part l a b e = omega (arith, e)
+bits-same a b h l s =
+    let p : restAt (mixOf a) 64 < 1 = rest-below (mixOf a) 64 1 (omega (arith, mix-below a h)) in
+    let q : restAt (mixOf b) 64 < 1 = rest-below (mixOf b) 64 1 (omega (arith, mix-below b l)) in
+    mix-same a b h l (same-bits (mixOf a) (mixOf b) 64 (omega arith) s)
 
 -- ---- the walk
 
@@ -73,9 +66,9 @@ module _ (w : List ℕ) (x : Tree) (n : ℕ) (s : Indexed w x n) (keys : (i : �
     (k : ℕ) (small : k < 9223372036854775808) where
   -- a row that 64 turns or more lead to has the key
   pub far-row : (d i : ℕ) → 64 ≤ d → i < n → pathTo w x k d ≡ suc i → keyAt w x i ≡ k
-  far-row d i far l h = sym (bits-same (x .roots) k (keyAt w x i) small (keys i l) (same-part (x .links) _ _ (way .1 .0)) (λ e b. way .1 .1 e (omega arith))) where
-    way : (d ≡ s .depth i) × ((rootIn x k ≡ rootIn x (keyAt w x i)) × ((c : ℕ) → c < d → bitsIn x k c % 2 ≡ bitsIn x (keyAt w x i) c % 2))
-    way = one-way w (x .links) (linksIn x) n (s .slots) (s .apart) (omega arith) (rootIn x k) (rootIn x (keyAt w x i)) (bitsIn x k) (bitsIn x (keyAt w x i))
+  far-row d i far l h = sym (bits-same k (keyAt w x i) small (keys i l) (λ e b. way .1 .1 e (omega arith))) where
+    way : (d ≡ s .depth i) × ((rootIn x k ≡ rootIn x (keyAt w x i)) × ((c : ℕ) → c < d → restAt (mixOf k) c % 2 ≡ restAt (mixOf (keyAt w x i)) c % 2))
+    way = one-way w (x .links) (linksIn x) n (s .slots) (s .apart) (omega arith) (rootIn x k) (rootIn x (keyAt w x i)) (restAt (mixOf k)) (restAt (mixOf (keyAt w x i)))
         (omega arith) (root-low w x n k s) (omega arith) (root-low w x n (keyAt w x i) s) d (s .depth i) i h (s .path i l)
 
   -- the loop of place, wherever it has come to, is at most 64 turns from the root
