@@ -3,7 +3,7 @@
 use Prim.Native.Nat.{ℕ, _+_}
 use mathlib.Core.Path.{_≡_, refl}
 use mathlib.Core.List.{List, [], _∷_, _++_, map}
-use lib.ListN.{length, take, drop}
+use lib.ListN.{take, drop}
 use Rattle.laws.specs.Answers.{isGiven}
 use Rattle.laws.specs.Chop.{chop, chopFrom}
 use Rattle.laws.specs.Keys.{eqK}
@@ -35,13 +35,10 @@ use Rattle.cut.specs.Left.{leftFrom, recordsLeft, tailLeft, sent, dataOf
 use Rattle.cut.specs.Honest.{pdusIn, markedPdus, withMarks, judgedIn, isDataOf, toData, afterData, adds, carriesOn, Honest}
 use Rattle.cut.proofs.Tests.{packedChecked, every, once, ends, headerTest, wholeTest, smallTest, dlciTest, dynamicTest, channelTest, channelsTest, informationTest, sizesTest, beginningsTest, settledIn, settledTest, aloneIn, aloneTest, handlesTest, dataTest, markTest, fragmentsTest, rules, passed-all, honest}
 use Rattle.cut.proofs.Recordings.{ack, unended}
-use Rattle.cut.proofs.Made.{be, headerOf, acl, pdu, uihOn, each}
+use Rattle.cut.proofs.Made.{headerOf, stamped, acl, pdu, uihOn, each}
 use Rattle.cut.proofs.Computed.{testedBy, foundBy, leftAt, w₀}
 
--- a record with flags, microseconds and a packet without its H4 type
-abbrev stamped : ℕ → ℕ → List ℕ → List ℕ
-stamped flags us b = be 4 (length b) ++ (be 4 (length b) ++ (be 4 flags ++ (be 4 0 ++ (be 8 us ++ b))))
-
+-- a data PDU in one packet, without the H4 type
 abbrev bare : ℕ → List ℕ → List ℕ
 bare cid i = drop 1 (acl 0x40 2 (pdu cid (uihOn 18 i)))
 

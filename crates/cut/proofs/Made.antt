@@ -15,9 +15,12 @@ be (suc k) v = be k (v / 256) ++ (v % 256 ∷ [])
 abbrev pub headerOf : ℕ → List ℕ
 headerOf n = magic ++ (be 4 1 ++ be 4 n)
 
--- a record with flags, milliseconds and a packet
+-- a record with flags, a timestamp and a packet; with milliseconds from 1970 on
+abbrev pub stamped : ℕ → ℕ → List ℕ → List ℕ
+stamped flags at b = be 4 (length b) ++ (be 4 (length b) ++ (be 4 flags ++ (be 4 0 ++ (be 8 at ++ b))))
+
 abbrev pub row : ℕ → ℕ → List ℕ → List ℕ
-row flags ms b = be 4 (length b) ++ (be 4 (length b) ++ (be 4 flags ++ (be 4 0 ++ (be 8 (0x00dcddb30f2f8000 + 1000 * ms) ++ b))))
+row flags ms b = stamped flags (0x00dcddb30f2f8000 + 1000 * ms) b
 
 abbrev pub flagsOf : Direction → ℕ
 flagsOf Rx = 1
