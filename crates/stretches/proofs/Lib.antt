@@ -1,1 +1,5 @@
+pub mod Opening
+pub mod Ends
+pub mod Spreading
+pub mod Listing
 pub mod Filling

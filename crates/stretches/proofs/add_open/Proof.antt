@@ -1,3 +1,4 @@
+use Rattle.stretches.proofs.Listing.{adds, adds-none}
 use native.Mathlib.Omega.{arith}
 use borrow.Author.Needs.{needs}
 use Rattle.stretches.proofs.add_open.Statement.{statement}
@@ -34,7 +35,7 @@ same-length c = search needs
 
 -- src/lib.rt:142:9
 returns : tie.Need-returns
-returns c = ?
+returns c = search adds
 
 -- src/lib.rt:135:1
 same-length-2 : tie.Need-same-length-2
@@ -42,7 +43,7 @@ same-length-2 c = search needs
 
 -- src/lib.rt:135:1
 returns-2 : tie.Need-returns-2
-returns-2 c = ?
+returns-2 c = search adds-none
 
 pub add-open-spec : {M : Type 1} → statement M
 add-open-spec =

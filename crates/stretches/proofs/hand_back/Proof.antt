@@ -1,3 +1,4 @@
+use Rattle.stretches.proofs.Spreading.{back-room, handed}
 use native.Mathlib.Omega.{arith}
 use borrow.Author.Needs.{needs}
 use Rattle.stretches.proofs.hand_back.Statement.{statement}
@@ -37,7 +38,7 @@ add-put32 c = search needs
 
 -- src/lib.rt:72:9
 put32-requires : tie.Need-put32-requires
-put32-requires c κs = ?
+put32-requires c κs = search back-room
 
 -- src/lib.rt:65:1
 same-length : tie.Need-same-length
@@ -45,7 +46,7 @@ same-length c = search needs
 
 -- src/lib.rt:65:1
 returns : tie.Need-returns
-returns c = ?
+returns c = search handed
 
 -- src/lib.rt:65:1
 same-length-2 : tie.Need-same-length-2

@@ -1,3 +1,4 @@
+use Rattle.stretches.proofs.Listing.{open-other, open-later, open-first}
 use native.Mathlib.Omega.{arith}
 use borrow.Author.Needs.{needs}
 use Rattle.stretches.proofs.is_open.Statement.{statement}
@@ -20,7 +21,7 @@ get32-requires c κs = search needs
 
 -- src/lib.rt:96:9
 returns : tie.Need-returns
-returns c = ?
+returns c = search open-other
 
 -- src/lib.rt:98:17
 add-get32-2 : tie.Need-add-get32-2
@@ -32,7 +33,7 @@ get32-requires-2 c κs = search needs
 
 -- src/lib.rt:99:9
 returns-2 : tie.Need-returns-2
-returns-2 c = ?
+returns-2 c = search open-later
 
 -- src/lib.rt:101:18
 add-get32-3 : tie.Need-add-get32-3
@@ -44,7 +45,7 @@ get32-requires-3 c κs = search needs
 
 -- src/lib.rt:91:1
 returns-3 : tie.Need-returns-3
-returns-3 c = ?
+returns-3 c = search open-first
 
 pub is-open-spec : {M : Type 1} → statement M
 is-open-spec =

@@ -1,3 +1,4 @@
+use Rattle.stretches.proofs.Listing.{put-is}
 use native.Mathlib.Omega.{arith}
 use borrow.Author.Needs.{needs}
 use Rattle.stretches.proofs.put_stretch.Statement.{statement}
@@ -56,7 +57,7 @@ same-length c = search needs
 
 -- src/lib.rt:122:1
 returns : tie.Need-returns
-returns c = ?
+returns c = put-is _ _ _ _ _ _ _ _ _ (c .before .before .before .before .before .before .before .before .before .before .before .before .before .before .before .before .before .before .before .before .before .before .put32 .ensures) (c .before .before .before .before .before .before .before .before .before .before .before .before .before .before .before .before .before .before .put322 .ensures) (c .before .before .before .before .before .before .before .before .before .before .before .before .before .before .put323 .ensures) (c .before .before .before .before .before .before .before .before .before .before .put324 .ensures) (c .before .before .before .before .before .before .put325 .ensures) (c .before .before .put326 .ensures)
 
 pub put-stretch-spec : {M : Type 1} → statement M
 put-stretch-spec =

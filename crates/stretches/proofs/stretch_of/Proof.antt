@@ -1,3 +1,4 @@
+use Rattle.stretches.proofs.Listing.{stretch-is}
 use native.Mathlib.Omega.{arith}
 use borrow.Author.Needs.{needs}
 use Rattle.stretches.proofs.stretch_of.Statement.{statement}
@@ -52,7 +53,7 @@ get32-requires-5 c κs = search needs
 
 -- src/lib.rt:105:1
 returns : tie.Need-returns
-returns c = ?
+returns c = search stretch-is
 
 pub stretch-of-spec : {M : Type 1} → statement M
 stretch-of-spec =
