@@ -210,8 +210,7 @@ impl<'a> Import<'a> {
         self.guards(enough, file, channel)?;
         match expected.within(lent).number {
             0 => self.listed(file, channel, expected, enough, places)?,
-            1 => self.unfilled(file, channel, enough, places, 0)?,
-            _ => self.unfilled(file, channel, enough, places, places)?,
+            _ => self.unfilled(file, channel, enough, places, 0)?,
         }
         if expected.number == 1 {
             self.unworked(lender, file, channel, expected, enough, Some(places))?;
@@ -233,15 +232,17 @@ impl<'a> Import<'a> {
         stretches.resize(places + 1, EMPTY);
     }
 
-    /// The first `unfinished` places are filled, and no other; at times it is also seen
-    /// that they hold the open stretches. The list is free by 01: this is more than the
-    /// proved call promises.
+    /// The first `unfinished` places hold the open stretches, in the order of their first
+    /// pieces, and no other place is touched. Of a long file only the DLCI and the bounds
+    /// of what is held are seen.
     fn listed(&self, file: &[u8], channel: u32, expected: &Answer, lent: usize, places: usize) -> Checked {
         let unfinished = expected.values[2] as usize;
         self.unfilled(file, channel, lent, places, unfinished)?;
-        let mut found = self.stretches.borrow()[..unfinished].to_vec();
-        found.sort();
-        let wrong = if self.files % 5 == 0 && file.len() < 20_000 {
+        if unfinished == 0 {
+            return Ok(());
+        }
+        let found = self.stretches.borrow()[..unfinished].to_vec();
+        let wrong = if file.len() < 20_000 {
             let open = model::open(file, expected.values[0]);
             (found != open).then(|| format!("{open:?}"))
         } else {

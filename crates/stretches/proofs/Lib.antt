@@ -3,3 +3,4 @@ pub mod Ends
 pub mod Spreading
 pub mod Listing
 pub mod Filling
+pub mod Examples
