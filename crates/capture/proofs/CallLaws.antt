@@ -47,7 +47,8 @@ use Rattle.capture.proofs.PassLaws.{composed, left-file}
 no-list : {G : Type 0} → _≡_ {A = ℕ} 0 1 → G
 no-list z = absurd (omega arith)
 
-left-none : (f : List ℕ) (o : import.Options) (r : Imported) (n : ℕ) (u : List ℕ) → ((d a b c e : ℕ) → r ≡ Spans d a b c e → ⊥) → Left f o (record { answer = r; pieces = n }) u
+left-none :
+    (f : List ℕ) (o : import.Options) (r : Imported) (n : ℕ) (u : List ℕ) → ((d a b c e : ℕ) → r ≡ Spans d a b c e → ⊥) → Left f o (record { answer = r; pieces = n }) u
 left-none f o r n u x = record { at = λ d a b c e g. absurd (x d a b c e g) }
 
 -- a list that is told by values
@@ -107,7 +108,10 @@ module _ (f w : List ℕ) (p : Packets) (rp : ReadTo f w p) (o : Options) (t : B
   unfolding recordsOutcome given
   records-truncated q out u n =
       let z : endsWell btsnoop (tailOf (o .tail)) f ≡ false = not-not (endsWell btsnoop (tailOf (o .tail)) f) (ends ∙ q) in
-      record { meets = rw (rp .tail) (meets-refused (recordsOutcome f (optionsOf o)) out 5 (tailOffset f ∷ []) (rw z)); left = left-none f (optionsOf o) (Truncated (p .tail)) n u (λ d a b c e g. no-list cc) }
+      record {
+        meets = rw (rp .tail) (meets-refused (recordsOutcome f (optionsOf o)) out 5 (tailOffset f ∷ []) (rw z));
+        left = left-none f (optionsOf o) (Truncated (p .tail)) n u (λ d a b c e g. no-list cc);
+      }
 
   pub records-read :
       t ≡ false → (v : List ℕ) (made : ℕ) → Reassembled f v made (pdus (packetsFrom f w 0 (p .count))) → (x : List ℕ) (rows : ℕ) → ReadChannels f v made x rows →
@@ -150,13 +154,19 @@ header-pre f w size h eh n q = record { some = begins-long f (known-link f n (sy
 module _ (f : List ℕ) (h : Header) (eh : h ≡ headerOf f) (o : import.Options) (out : List ℕ) where
   pub header-none : h ≡ NoHeader → (n : ℕ) (u : List ℕ) → HeaderMeets f o out (record { answer = NotBtsnoop; pieces = n }) u out
   unfolding outcome given
-  header-none q n u = record { meets = meets-refused (given (outcome btsnoop f o)) out 3 [] (rw (no-header f (sym eh ∙ q))); left = left-none f o NotBtsnoop n u (λ d a b c e g. no-list cc) }
+  header-none q n u = record {
+    meets = meets-refused (given (outcome btsnoop f o)) out 3 [] (rw (no-header f (sym eh ∙ q)));
+    left = left-none f o NotBtsnoop n u (λ d a b c e g. no-list cc);
+  }
 
   pub header-other : (n : ℕ) → h ≡ Other n → (m : ℕ) (u : List ℕ) → HeaderMeets f o out (record { answer = Datalink n; pieces = m }) u out
   unfolding outcome given
   header-other n q m u =
       let k = other-link f n (sym eh ∙ q) in
-      record { meets = rw (k .2) (meets-refused (given (outcome btsnoop f o)) out 4 (datalink f ∷ []) (rw (k .0, k .1))); left = left-none f o (Datalink n) m u (λ d a b c e g. no-list cc) }
+      record {
+        meets = rw (k .2) (meets-refused (given (outcome btsnoop f o)) out 4 (datalink f ∷ []) (rw (k .0, k .1)));
+        left = left-none f o (Datalink n) m u (λ d a b c e g. no-list cc);
+      }
 
   pub header-read : (n : ℕ) → h ≡ Known n → (r : Found) (u out′ : List ℕ) → RecordsMeet f o out r u out′ → HeaderMeets f o out r u out′
   unfolding outcome recordsOutcome

@@ -36,7 +36,9 @@ pub record Imports (f w : List ℕ) (o : Options) (out : List ℕ) (r : Imported
 
 -- where an import gives spans, work has what counting left of the DLCI chosen, with so many pieces in its table
 pub record Left (f : List ℕ) (o : Options) (r : Found) (w′ : List ℕ) : Type 0 where
-  pub at : (d frames unfinished tail written : ℕ) → r .answer ≡ Spans d frames unfinished tail written → Leaves f (filePieces btsnoop (o .rule) f) (o .channel) (r .pieces) w′ d
+  pub at :
+      (d frames unfinished tail written : ℕ) → r .answer ≡ Spans d frames unfinished tail written →
+      Leaves f (filePieces btsnoop (o .rule) f) (o .channel) (r .pieces) w′ d
 
 pub record ImportsFound (f w : List ℕ) (o : Options) (out : List ℕ) (r : Found) (w′ out′ : List ℕ) : Type 0 where
   pub imports : Imports f w o out (r .answer) w′ out′

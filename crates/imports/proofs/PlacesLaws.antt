@@ -56,7 +56,10 @@ module _ (f w : List ℕ) (places : ℕ) (o : Options) (out : List ℕ) where
   unfolding importedIn fits placesSuffice
   in-few h g = refused-in WorkShort 2 refl (meets-refused O out 2 [] (rw (le-leb (length f) 1048576 h, lt-leb (length f / 24) places g)))
 
-  pub in-met : length f ≤ 1048576 → 8 * length f ≤ length w → length f / 24 ≤ places → (r : Found) (v out′ : List ℕ) → ImportsFound f w o out r v out′ → (listed : ℕ) (w′ : List ℕ) → FoundListed f v r w′ listed → ImportsIn f w places o out (r .answer) listed w′ out′
+  pub in-met :
+      length f ≤ 1048576 → 8 * length f ≤ length w → length f / 24 ≤ places →
+      (r : Found) (v out′ : List ℕ) → ImportsFound f w o out r v out′ → (listed : ℕ) (w′ : List ℕ) → FoundListed f v r w′ listed →
+      ImportsIn f w places o out (r .answer) listed w′ out′
   unfolding fits workSuffices placesSuffice suffices
   in-met h g k r v out′ m listed w′ l =
       let q : placesSuffice f places ≡ true = le-leb (length f / 24) places k in

@@ -46,7 +46,11 @@ module _ (f w : List ℕ) (n : ℕ) (channel : Channel) (u : List ℕ) (c : Choi
   unfolding listed given told
   lists-none e =
       let z : chosen (channelOf channel) (tablePieces f w n) ≡ none = choice-none (tablePieces f w n) (chosen (channelOf channel) (tablePieces f w n)) (sym e ∙ q .chooses) in
-      record { meets = λ tail. meets-refused (given (listed (tablePieces f w n) tail (chosen (channelOf channel) (tablePieces f w n)))) out 6 [] (rw z); front = low f n u w (q .front); left = λ s g. (let y : _≡_ {A = ℕ} 0 1 = cc in absurd (omega arith)) }
+      record {
+        meets = λ tail. meets-refused (given (listed (tablePieces f w n) tail (chosen (channelOf channel) (tablePieces f w n)))) out 6 [] (rw z);
+        front = low f n u w (q .front);
+        left = λ s g. (let y : _≡_ {A = ℕ} 0 1 = cc in absurd (omega arith));
+      }
 
   module _ (s : Stream) (e : c ≡ Chosen s) where
     of-stream : (chosen (channelOf channel) (tablePieces f w n) ≡ some (s .dlci)) × (s ≡ streamOf (tablePieces f w n) (s .dlci))
@@ -68,7 +72,11 @@ module _ (f w : List ℕ) (n : ℕ) (channel : Channel) (u : List ℕ) (c : Choi
 
     pub lists-short : length out < s .bytes → ListsSpans f w n channel out (OutShort (s .bytes)) u out
     unfolding told
-    lists-short h = record { meets = λ tail. meets-short _ out _ list (s .bytes) (gives-list tail) needed h; front = low f n u w (q .front); left = λ t g. (let y : _≡_ {A = ℕ} 0 1 = cc in absurd (omega arith)) }
+    lists-short h = record {
+      meets = λ tail. meets-short _ out _ list (s .bytes) (gives-list tail) needed h;
+      front = low f n u w (q .front);
+      left = λ t g. (let y : _≡_ {A = ℕ} 0 1 = cc in absurd (omega arith));
+    }
 
     module _ (t : Ready f w n) (h : s .bytes ≤ length out) (k : length u ≡ length w) (p : Plan) (ep : p ≡ planOf (length f / 4) n (s .dlci)) where
       pub lists-pre : ListPre f u p out

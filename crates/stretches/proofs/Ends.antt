@@ -69,4 +69,6 @@ module _ (f w : List ℕ) (p : Plan) (l : Laid f w p) (t : AllTold f w p (p .n))
   -- the open stretches, by the words
   pub open-by-words : openStretches (p .dlci) (all f w p) ≡ openOf (p .dlci) (λ k. heldIn w p (p .n) (p .dlci ∷ k)) (firsts (keysTo w p (p .n)))
   unfolding openStretches
-  open-by-words = ap (λ (h : Key → ℕ). openOf (p .dlci) h (firsts (map (λ x. x .key) (all f w p)))) (fun-ext held-end) ∙ ap (λ (ks : List Key). openOf (p .dlci) (λ k. heldIn w p (p .n) (p .dlci ∷ k)) (firsts ks)) keys-end
+  open-by-words =
+      ap (λ (h : Key → ℕ). openOf (p .dlci) h (firsts (map (λ x. x .key) (all f w p)))) (fun-ext held-end)
+      ∙ ap (λ (ks : List Key). openOf (p .dlci) (λ k. heldIn w p (p .n) (p .dlci ∷ k)) (firsts ks)) keys-end

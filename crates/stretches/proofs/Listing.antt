@@ -44,14 +44,17 @@ module _ (w : List ℕ) (p : Plan) (i : ℕ) where
     open-first o z ez = rw (← ex, ← ey, ← ez, eq-eqb x (p .dlci) e, eq-eqb y 0 o)
 
   pub stretch-is :
-      (counts way cid dlci held : ℕ) → counts ≡ word w (p .rows + 8 * i + 3) → way ≡ word w (p .rows + 8 * i + 1) → cid ≡ word w (p .rows + 8 * i + 2) → dlci ≡ word w (p .rows + 8 * i) → held ≡ word w (p .held + i) →
+      (counts way cid dlci held : ℕ) →
+      counts ≡ word w (p .rows + 8 * i + 3) → way ≡ word w (p .rows + 8 * i + 1) → cid ≡ word w (p .rows + 8 * i + 2) → dlci ≡ word w (p .rows + 8 * i) →
+      held ≡ word w (p .held + i) →
       record { way = way; cid = cid; dlci = dlci; sessions = counts % 65536; links = counts / 65536; held = held } ≡ rowStretch w p i
   unfolding rowStretch
   stretch-is counts way cid dlci held a b c d e = rw (a, b, c, d, e)
 
 pub put-is :
     (w : List ℕ) (at : ℕ) (s : Stretch) (a b c d e u : List ℕ) →
-    a ≡ putWord w at (s .way) → b ≡ putWord a (at + 1) (s .cid) → c ≡ putWord b (at + 2) (s .dlci) → d ≡ putWord c (at + 3) (s .sessions) → e ≡ putWord d (at + 4) (s .links) → u ≡ putWord e (at + 5) (s .held) →
+    a ≡ putWord w at (s .way) → b ≡ putWord a (at + 1) (s .cid) → c ≡ putWord b (at + 2) (s .dlci) →
+    d ≡ putWord c (at + 3) (s .sessions) → e ≡ putWord d (at + 4) (s .links) → u ≡ putWord e (at + 5) (s .held) →
     u ≡ putWords w at (wordsOf s)
 unfolding putWords wordsOf
 put-is w at s a b c d e u pa pb pc pd pe pu =
@@ -121,7 +124,9 @@ module _ (w : List ℕ) (p : Plan) (i k : ℕ) (g : AddPre w p i k) where
   pub add-room : 4 * (6 * k) + 24 ≤ length w
   add-room = omega (arith, g .fewer, g .row, g .room .low, g .room .rows, g .room .ends, g .room .words)
 
-  pub adds : (b : Bool) → b ≡ isOpen w p i → b ≡ true → (s : Stretch) → s ≡ rowStretch w p i → (u : List ℕ) → u ≡ putWords w (6 * k) (wordsOf s) → Added w p i k u (k + 1)
+  pub adds :
+      (b : Bool) → b ≡ isOpen w p i → b ≡ true → (s : Stretch) → s ≡ rowStretch w p i → (u : List ℕ) → u ≡ putWords w (6 * k) (wordsOf s) →
+      Added w p i k u (k + 1)
   unfolding added
   adds b eb t s es u eu = record {
     list = rw (eu, ← eb, t, ← es) (one-more w (6 * k) k s refl add-room);
@@ -196,10 +201,13 @@ unfolding newestOf keysTo keyAt eqK mem
 first-is w p k zero = refl
 first-is w p k (suc i) =
     let ih : eqb (newestOf (λ j. keyAt w p j) (p .dlci ∷ k) i) 0 ≡ not (mem k (keysTo w p i)) = first-is w p k i in
+    let s = mem-snoc k (keysTo w p i) (tailAt w p i) in
     splitB (eqb (dlciAt w p i) (p .dlci))
     (λ d. splitK (tailAt w p i) k
-    (λ e. rw (d, eq-eqK (tailAt w p i) k e, mem-snoc k (keysTo w p i) (tailAt w p i), eq-eqK k (tailAt w p i) (sym e)) (ne-eqb (suc i) 0 (λ z. omega arith) ∙ splitB (mem k (keysTo w p i)) (λ m. rw m) (λ m. rw m)))
-    (λ n. rw (d, ne-eqK (tailAt w p i) k n, mem-snoc k (keysTo w p i) (tailAt w p i), ne-eqK k (tailAt w p i) (λ z. n (sym z))) (ih ∙ splitB (mem k (keysTo w p i)) (λ m. rw m) (λ m. rw m))))
+    (λ e. rw (d, eq-eqK (tailAt w p i) k e, s, eq-eqK k (tailAt w p i) (sym e))
+    (ne-eqb (suc i) 0 (λ z. omega arith) ∙ splitB (mem k (keysTo w p i)) (λ m. rw m) (λ m. rw m)))
+    (λ n. rw (d, ne-eqK (tailAt w p i) k n, s, ne-eqK k (tailAt w p i) (λ z. n (sym z)))
+    (ih ∙ splitB (mem k (keysTo w p i)) (λ m. rw m) (λ m. rw m))))
     (λ d. rw d ih)
 
 module _ (w : List ℕ) (p : Plan) (g : SpreadPre w p) (v : List ℕ) (s : Spread w p v) where
@@ -252,8 +260,15 @@ module _ (w : List ℕ) (p : Plan) (g : SpreadPre w p) (v : List ℕ) (s : Sprea
   open-to zero h = sym (open-none (p .dlci) ends)
   open-to (suc i) h =
       let ih : openTo v p i ≡ openOf (p .dlci) ends (firsts (keysTo w p i)) = open-to i (omega arith) in
+      let fresh : List Key = cond (mem (tailAt w p i) (keysTo w p i)) [] (tailAt w p i ∷ []) in
       split≡ (dlciAt w p i) (p .dlci)
-      (λ d. rw (eq-eqb (dlciAt w p i) (p .dlci) d, firsts-snoc (keysTo w p i) (tailAt w p i), open-append (p .dlci) ends (firsts (keysTo w p i)) (cond (mem (tailAt w p i) (keysTo w p i)) [] (tailAt w p i ∷ [])), ih, added-own i (omega arith) d))
+      (λ d. rw (
+        eq-eqb (dlciAt w p i) (p .dlci) d,
+        firsts-snoc (keysTo w p i) (tailAt w p i),
+        open-append (p .dlci) ends (firsts (keysTo w p i)) fresh,
+        ih,
+        added-own i (omega arith) d,
+      ))
       (λ n. rw (ne-eqb (dlciAt w p i) (p .dlci) n, ih, added-other i (omega arith) n, append-nil))
 
   pub open-listed : (u : List ℕ) (r : ℕ) → SpreadListed v p u r → OpenListed w p u r

@@ -44,7 +44,9 @@ map-append f (x ∷ a) b = ap (λ (l : List _). f x ∷ l) (map-append f a b)
 
 pub open-append : (d : ℕ) (held : Key → ℕ) (a b : List Key) → openOf d held (a ++ b) ≡ openOf d held a ++ openOf d held b
 unfolding openOf
-open-append d held a b = rw (keep-append (λ k. ltb 0 (held k)) a b) (map-append (λ k. stretchOf d k (held k)) (keep (λ k. ltb 0 (held k)) a) (keep (λ k. ltb 0 (held k)) b))
+open-append d held a b =
+    rw (keep-append (λ k. ltb 0 (held k)) a b)
+    (map-append (λ k. stretchOf d k (held k)) (keep (λ k. ltb 0 (held k)) a) (keep (λ k. ltb 0 (held k)) b))
 
 pub open-none : (d : ℕ) (held : Key → ℕ) → openOf d held [] ≡ []
 unfolding openOf keep

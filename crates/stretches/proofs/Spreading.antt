@@ -83,7 +83,9 @@ key-front u w p r s i h =
       front-word (4 * p .held) u w (p .rows + 8 * i + 3) (omega (arith, r .rows)) s,
     )
 
-newest-front : (u w : List ℕ) (p : Plan) → ListRoom w p → Front (4 * p .held) u w → (k : Key) (i : ℕ) → i ≤ p .n → newestOf (λ j. keyAt u p j) k i ≡ newestOf (λ j. keyAt w p j) k i
+newest-front :
+    (u w : List ℕ) (p : Plan) → ListRoom w p → Front (4 * p .held) u w → (k : Key) (i : ℕ) → i ≤ p .n →
+    newestOf (λ j. keyAt u p j) k i ≡ newestOf (λ j. keyAt w p j) k i
 unfolding newestOf
 newest-front u w p r s k zero h = refl
 newest-front u w p r s k (suc i) h = rw (key-front u w p r s i (omega arith), newest-front u w p r s k i (omega arith))
