@@ -600,21 +600,27 @@ fn buffers(pieces: &[&Piece], reading: Reading) -> (Spans, BTreeMap<(Stretch, Wa
     (spans, buffers)
 }
 
-/// The stretches of a DLCI that are open at the end of a file with a good header, in rising order.
+/// The stretches of a DLCI that are open at the end of a file with a good header, in the
+/// order of their first pieces.
 pub fn open(file: &[u8], dlci: u64) -> Vec<answer::Stretch> {
     let pieces = pieces(&pdus(be(&file[12..16]), &records(&file[16..]).0, RIGHT), RIGHT);
     let own: Vec<&Piece> = pieces.iter().filter(|p| u64::from(p.dlci) == dlci).collect();
-    let stretch = |(((handle, cid, sessions, links), way), held): (&(Stretch, Way), &Vec<u8>)| answer::Stretch {
-        way: 2 * u32::from(*handle) + u32::from(*way),
-        cid: u32::from(*cid),
-        dlci: dlci as u32,
-        sessions: *sessions,
-        links: *links,
-        held: held.len() as u32,
+    let mut buffers = buffers(&own, RIGHT).1;
+    // the first piece of a key takes its buffer out
+    let stretch = |piece: &&Piece| {
+        let held = buffers.remove(&(piece.stretch, piece.way))?;
+        let (handle, cid, sessions, links) = piece.stretch;
+        let way = 2 * u32::from(handle) + u32::from(piece.way);
+        Some(answer::Stretch {
+            way,
+            cid: u32::from(cid),
+            dlci: dlci as u32,
+            sessions,
+            links,
+            held: held.len() as u32,
+        })
     };
-    let mut open: Vec<answer::Stretch> = buffers(&own, RIGHT).1.iter().map(stretch).collect();
-    open.sort();
-    open
+    own.iter().filter_map(stretch).collect()
 }
 
 /// Puts stretches to the first places of a list.

@@ -641,6 +641,41 @@ fn faults() -> Vec<(&'static str, &'static str, Planted)> {
         ),
         (
             "import",
+            "a stretch is touched where the output is short",
+            Planted {
+                fill: |number, places, open| match places.first_mut() {
+                    Some(place) if number == 7 => place.held = 0,
+                    _ => (NONE.fill)(number, places, open),
+                },
+                ..NONE
+            },
+        ),
+        (
+            "import",
+            "the place after the open stretches is touched",
+            Planted {
+                fill: |number, places, open| {
+                    (NONE.fill)(number, places, open);
+                    if let (0, Some(place)) = (number, places.get_mut(open.len())) {
+                        place.held = 0;
+                    }
+                },
+                ..NONE
+            },
+        ),
+        (
+            "import",
+            "open stretches are listed from the last to the first",
+            Planted {
+                fill: |number, places, open| {
+                    let turned: Vec<Stretch> = open.iter().rev().copied().collect();
+                    (NONE.fill)(number, places, &turned);
+                },
+                ..NONE
+            },
+        ),
+        (
+            "import",
             "an open stretch is not listed",
             Planted { fill: |_, places, open| model::fill(places, open.get(1..).unwrap_or(&[])), ..NONE },
         ),

@@ -1,13 +1,14 @@
 -- From the passes to the call: each refusal, and what is read where none is met.
 use Prim.Native.Nat.{ℕ, _*_, _<_, _≤_}
-use mathlib.Core.Path.{_≡_, refl, sym, _∙_}
+use mathlib.Core.Path.{_≡_, refl, sym, ap, _∙_}
 use mathlib.Core.Bool.{Bool, true, false, not, _&&_}
 use mathlib.Core.List.{List, [], _∷_}
+use native.Mathlib.Omega.{arith}
 use lib.ListN.{length}
 use lib.Dec.{eqb}
 use borrow.Author.Tests.{le-leb, lt-leb}
 use Rattle.laws.proofs.Choice.{no-way}
-use Rattle.laws.specs.Answers.{Meets}
+use Rattle.laws.specs.Answers.{accepted, Meets}
 use Rattle.laws.proofs.Answers.{meets-refused, meets-as}
 use Rattle.btsnoop.specs.Header.{datalink}
 use Rattle.btsnoop.specs.Headers.{headerOf}
@@ -31,14 +32,36 @@ use Rattle.outcome.specs.Import.{read, endsWell, outcome, given, fits, workSuff
 use Rattle.outcome.specs.Import as import
 use Rattle.cut.proofs.Theorem.{cut-claim}
 use Rattle.capture.specs.Options.{tailOf, optionsOf}
-use Rattle.capture.specs.Calls.{toldImported, Imports, Sized, HeaderMeets, truncates, recordsOutcome, RecordsMeet}
+use Rattle.capture.specs.Calls.{toldImported, Imports, Left, ImportsFound, Sized, HeaderMeets, truncates, recordsOutcome, RecordsMeet}
 use Rattle.capture.specs.Passes.{Passes}
+use Rattle.capture.specs.declared.Found.{Found}
 use Rattle.capture.specs.declared.Imported.{Imported}
 use Rattle.capture.specs.declared.Imported.the-variants.{Spans, FileLong, WorkShort, NotBtsnoop, Datalink, Truncated, NoStream, OutShort}
 use Rattle.capture.specs.declared.Options.{Options}
 use Rattle.capture.specs.declared.Tail.{Tail}
 use Rattle.capture.specs.declared.Tail.the-variants.{Strict, Tolerant}
-use Rattle.capture.proofs.PassLaws.{composed}
+use Rattle.capture.proofs.PassLaws.{composed, left-file}
+
+-- ---- what is left in work
+
+no-list : {G : Type 0} → _≡_ {A = ℕ} 0 1 → G
+no-list z = absurd (omega arith)
+
+left-none :
+    (f : List ℕ) (o : import.Options) (r : Imported) (n : ℕ) (u : List ℕ) → ((d a b c e : ℕ) → r ≡ Spans d a b c e → ⊥) → Left f o (record { answer = r; pieces = n }) u
+left-none f o r n u x = record { at = λ d a b c e g. absurd (x d a b c e g) }
+
+-- a list that is told by values
+record Back (tail : ℕ) (l : Listed) (vs : List ℕ) : Type 0 where
+  pub stream : Stream
+  pub is : l ≡ SpansListed stream
+  pub values : stream .dlci ∷ stream .spans ∷ stream .unfinished ∷ tail ∷ stream .bytes ∷ [] ≡ vs
+
+told-back : (tail : ℕ) (l : Listed) (vs : List ℕ) → told tail l ≡ accepted vs → Back tail l vs
+unfolding told
+told-back tail NoneListed vs e = no-list cc
+told-back tail (ListShort n) vs e = no-list cc
+told-back tail (SpansListed s) vs e = record { stream = s; is = refl; values = cc }
 
 -- ---- from the records on
 
@@ -81,16 +104,19 @@ module _ (f w : List ℕ) (p : Packets) (rp : ReadTo f w p) (o : Options) (t : B
   ends : not (endsWell btsnoop (tailOf (o .tail)) f) ≡ t
   ends = sym (truncates-is f (o .tail) (p .tail) (rp .tail)) ∙ sym et
 
-  pub records-truncated : t ≡ true → (out : List ℕ) → RecordsMeet f (optionsOf o) out (Truncated (p .tail)) out
+  pub records-truncated : t ≡ true → (out u : List ℕ) (n : ℕ) → RecordsMeet f (optionsOf o) out (record { answer = Truncated (p .tail); pieces = n }) u out
   unfolding recordsOutcome given
-  records-truncated q out =
+  records-truncated q out u n =
       let z : endsWell btsnoop (tailOf (o .tail)) f ≡ false = not-not (endsWell btsnoop (tailOf (o .tail)) f) (ends ∙ q) in
-      record { meets = rw (rp .tail) (meets-refused (recordsOutcome f (optionsOf o)) out 5 (tailOffset f ∷ []) (rw z)) }
+      record {
+        meets = rw (rp .tail) (meets-refused (recordsOutcome f (optionsOf o)) out 5 (tailOffset f ∷ []) (rw z));
+        left = left-none f (optionsOf o) (Truncated (p .tail)) n u (λ d a b c e g. no-list cc);
+      }
 
   pub records-read :
       t ≡ false → (v : List ℕ) (made : ℕ) → Reassembled f v made (pdus (packetsFrom f w 0 (p .count))) → (x : List ℕ) (rows : ℕ) → ReadChannels f v made x rows →
       (u : List ℕ) (n : ℕ) → ReadPieces f x made u n → (out : List ℕ) (l : Listed) (y out′ : List ℕ) → ListsSpans f u n (o .channel) out l y out′ →
-      (r : Imported) → toldImported r ≡ told (p .tail) l → RecordsMeet f (optionsOf o) out r out′
+      (r : Imported) → toldImported r ≡ told (p .tail) l → RecordsMeet f (optionsOf o) out (record { answer = r; pieces = n }) y out′
   unfolding recordsOutcome
   records-read q v made ra x rows rc u n rps out l y out′ ls r e =
       let z : endsWell btsnoop (tailOf (o .tail)) f ≡ true = not-true (endsWell btsnoop (tailOf (o .tail)) f) (ends ∙ q) in
@@ -110,7 +136,15 @@ module _ (f w : List ℕ) (p : Packets) (rp : ReadTo f w p) (o : Options) (t : B
         list-spans = ls;
       } in
       let m = composed f o p out l out′ s in
-      record { meets = meets-as (recordsOutcome f (optionsOf o)) (given (read btsnoop f (optionsOf o))) out (rw z) (rw e (m .meets)) }
+      record {
+        meets = meets-as (recordsOutcome f (optionsOf o)) (given (read btsnoop f (optionsOf o))) out (rw z) (rw e (m .meets));
+        left = record {
+          at = λ d a b c g k.
+            let h = told-back (p .tail) l (d ∷ a ∷ b ∷ c ∷ g ∷ []) (sym e ∙ ap toldImported k) in
+            let i : h .stream .dlci ≡ d = cc in
+            rw i at (left-file f o p out l out′ s (h .stream) (h .is));
+        };
+      }
 
 -- ---- from the header on
 
@@ -118,21 +152,27 @@ pub header-pre : (f w : List ℕ) → Sized f w → (h : Header) → h ≡ heade
 header-pre f w size h eh n q = record { some = begins-long f (known-link f n (sym eh ∙ q) .0); small = size .small; room = size .room }
 
 module _ (f : List ℕ) (h : Header) (eh : h ≡ headerOf f) (o : import.Options) (out : List ℕ) where
-  pub header-none : h ≡ NoHeader → HeaderMeets f o out NotBtsnoop out
+  pub header-none : h ≡ NoHeader → (n : ℕ) (u : List ℕ) → HeaderMeets f o out (record { answer = NotBtsnoop; pieces = n }) u out
   unfolding outcome given
-  header-none q = record { meets = meets-refused (given (outcome btsnoop f o)) out 3 [] (rw (no-header f (sym eh ∙ q))) }
+  header-none q n u = record {
+    meets = meets-refused (given (outcome btsnoop f o)) out 3 [] (rw (no-header f (sym eh ∙ q)));
+    left = left-none f o NotBtsnoop n u (λ d a b c e g. no-list cc);
+  }
 
-  pub header-other : (n : ℕ) → h ≡ Other n → HeaderMeets f o out (Datalink n) out
+  pub header-other : (n : ℕ) → h ≡ Other n → (m : ℕ) (u : List ℕ) → HeaderMeets f o out (record { answer = Datalink n; pieces = m }) u out
   unfolding outcome given
-  header-other n q =
+  header-other n q m u =
       let k = other-link f n (sym eh ∙ q) in
-      record { meets = rw (k .2) (meets-refused (given (outcome btsnoop f o)) out 4 (datalink f ∷ []) (rw (k .0, k .1))) }
+      record {
+        meets = rw (k .2) (meets-refused (given (outcome btsnoop f o)) out 4 (datalink f ∷ []) (rw (k .0, k .1)));
+        left = left-none f o (Datalink n) m u (λ d a b c e g. no-list cc);
+      }
 
-  pub header-read : (n : ℕ) → h ≡ Known n → (r : Imported) (out′ : List ℕ) → RecordsMeet f o out r out′ → HeaderMeets f o out r out′
+  pub header-read : (n : ℕ) → h ≡ Known n → (r : Found) (u out′ : List ℕ) → RecordsMeet f o out r u out′ → HeaderMeets f o out r u out′
   unfolding outcome recordsOutcome
-  header-read n q r out′ m =
+  header-read n q r u out′ m =
       let k = known-link f n (sym eh ∙ q) in
-      record { meets = meets-as (given (outcome btsnoop f o)) (recordsOutcome f o) out (rw (k .0, k .1)) (m .meets) }
+      record { meets = meets-as (given (outcome btsnoop f o)) (recordsOutcome f o) out (rw (k .0, k .1)) (m .meets); left = m .left }
 
 -- ---- the call
 
@@ -143,17 +183,26 @@ module _ (f w : List ℕ) (o : import.Options) (out : List ℕ) where
   imports-by : (r : Imported) (w′ out′ : List ℕ) → Meets (imported btsnoop f (length w) o) out (toldImported r) out′ → ((fits f && workSuffices f (length w)) ≡ false → w′ ≡ w) → Imports f w o out r w′ out′
   imports-by r w′ out′ m s = record { meets = m; spared = s; cut = cut-claim lawful f (length w) o out (toldImported r) out′ m }
 
-  pub import-long : 1048576 < length f → Imports f w o out FileLong w out
+  pub import-long : 1048576 < length f → (n : ℕ) → ImportsFound f w o out (record { answer = FileLong; pieces = n }) w out
   unfolding imported fits
-  import-long h = imports-by FileLong w out (meets-refused (imported btsnoop f (length w) o) out 1 [] (rw (lt-leb (length f) 1048576 h))) (λ e. refl)
+  import-long h n = record {
+    imports = imports-by FileLong w out (meets-refused (imported btsnoop f (length w) o) out 1 [] (rw (lt-leb (length f) 1048576 h))) (λ e. refl);
+    left = left-none f o FileLong n w (λ d a b c e g. no-list cc);
+  }
 
-  pub import-short : length f ≤ 1048576 → length w < 8 * length f → Imports f w o out WorkShort w out
+  pub import-short : length f ≤ 1048576 → length w < 8 * length f → (n : ℕ) → ImportsFound f w o out (record { answer = WorkShort; pieces = n }) w out
   unfolding imported fits workSuffices
-  import-short h g = imports-by WorkShort w out (meets-refused (imported btsnoop f (length w) o) out 2 [] (rw (le-leb (length f) 1048576 h, lt-leb (8 * length f) (length w) g))) (λ e. refl)
+  import-short h g n = record {
+    imports = imports-by WorkShort w out (meets-refused (imported btsnoop f (length w) o) out 2 [] (rw (le-leb (length f) 1048576 h, lt-leb (8 * length f) (length w) g))) (λ e. refl);
+    left = left-none f o WorkShort n w (λ d a b c e k. no-list cc);
+  }
 
-  pub import-meets : length f ≤ 1048576 → 8 * length f ≤ length w → (r : Imported) (w′ out′ : List ℕ) → HeaderMeets f o out r out′ → Imports f w o out r w′ out′
+  pub import-meets : length f ≤ 1048576 → 8 * length f ≤ length w → (r : Found) (w′ out′ : List ℕ) → HeaderMeets f o out r w′ out′ → ImportsFound f w o out r w′ out′
   unfolding imported fits workSuffices
-  import-meets h g r w′ out′ m =
-      imports-by r w′ out′
-      (meets-as (imported btsnoop f (length w) o) (given (outcome btsnoop f o)) out (rw (le-leb (length f) 1048576 h, le-leb (8 * length f) (length w) g)) (m .meets))
-      (λ e. no-way (rw (le-leb (length f) 1048576 h, le-leb (8 * length f) (length w) g)) e)
+  import-meets h g r w′ out′ m = record {
+    imports =
+        imports-by (r .answer) w′ out′
+        (meets-as (imported btsnoop f (length w) o) (given (outcome btsnoop f o)) out (rw (le-leb (length f) 1048576 h, le-leb (8 * length f) (length w) g)) (m .meets))
+        (λ e. no-way (rw (le-leb (length f) 1048576 h, le-leb (8 * length f) (length w) g)) e);
+    left = m .left;
+  }

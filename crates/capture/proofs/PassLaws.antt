@@ -18,10 +18,12 @@ use Rattle.channels.specs.Tried.{source}
 use Rattle.rfcomm.specs.Pieces.{judged}
 use Rattle.rfcomm.specs.Gathering.{PiecesPre, ReadPieces}
 use Rattle.outcome.specs.Import.{filePieces, read}
-use Rattle.streams.specs.Streams.{tablePieces}
+use Rattle.streams.specs.Streams.{channelOf, tablePieces, Leaves}
 use Rattle.streams.proofs.Streams.{tabled}
 use Rattle.streams.specs.Streams as streams
 use Rattle.streams.specs.declared.Listed.{Listed}
+use Rattle.streams.specs.declared.Listed.the-variants.{Spans}
+use Rattle.streams.specs.declared.Stream.{Stream}
 use Rattle.capture.specs.Passes.{Passes, Composed}
 use Rattle.capture.specs.declared.Options.{Options}
 
@@ -54,3 +56,9 @@ pub composed : (f : List ℕ) (o : Options) (p : Packets) (out : List ℕ) (l : 
 unfolding read
 composed f o p out l out′ s =
     record { meets = rw (s .read-packets .tail) (rw (file-pieces f o p out l out′ s, s .read-packets .tail) at (s .list-spans .meets (p .tail))) }
+
+-- what the last pass leaves of the DLCI chosen is of the file's pieces
+pub left-file :
+    (f : List ℕ) (o : Options) (p : Packets) (out : List ℕ) (l : Listed) (out′ : List ℕ) (s : Passes f o p out l out′) →
+    (t : Stream) → l ≡ Spans t → Leaves f (filePieces btsnoop source f) (channelOf (o .channel)) (s .n) (s .w₅) (t .dlci)
+left-file f o p out l out′ s t e = rw (file-pieces f o p out l out′ s) at (s .list-spans .left t e)

@@ -7,8 +7,10 @@ use lib.ListN.{length}
 use lib.Dec.{eqb}
 use Rattle.laws.specs.Answers.{Answer, accepted, refused, Outcome, Meets}
 use Rattle.btsnoop.specs.Records.{btsnoop, tailOffset}
-use Rattle.outcome.specs.Import.{Options, read, endsWell, missing, outcome, given, fits, workSuffices, imported}
+use Rattle.outcome.specs.Import.{Options, filePieces, read, endsWell, missing, outcome, given, fits, workSuffices, imported}
+use Rattle.streams.specs.Streams.{Leaves}
 use Rattle.cut.specs.Claim.{CutClaim}
+use Rattle.capture.specs.declared.Found.{Found}
 use Rattle.capture.specs.declared.Imported.{Imported}
 use Rattle.capture.specs.declared.Imported.the-variants.{Spans, FileLong, WorkShort, NotBtsnoop, Datalink, Truncated, NoStream, OutShort}
 use Rattle.capture.specs.declared.Tail.{Tail}
@@ -32,14 +34,25 @@ pub record Imports (f w : List ℕ) (o : Options) (out : List ℕ) (r : Imported
   pub spared : (fits f && workSuffices f (length w)) ≡ false → w′ ≡ w
   pub cut : CutClaim btsnoop f (length w) o out (toldImported r) out′
 
+-- where an import gives spans, work has what counting left of the DLCI chosen, with so many pieces in its table
+pub record Left (f : List ℕ) (o : Options) (r : Found) (w′ : List ℕ) : Type 0 where
+  pub at :
+      (d frames unfinished tail written : ℕ) → r .answer ≡ Spans d frames unfinished tail written →
+      Leaves f (filePieces btsnoop (o .rule) f) (o .channel) (r .pieces) w′ d
+
+pub record ImportsFound (f w : List ℕ) (o : Options) (out : List ℕ) (r : Found) (w′ out′ : List ℕ) : Type 0 where
+  pub imports : Imports f w o out (r .answer) w′ out′
+  pub left : Left f o r w′
+
 -- ---- from the header on
 
 pub record Sized (f w : List ℕ) : Type 0 where
   pub small : length f ≤ 1048576
   pub room : 8 * length f ≤ length w
 
-pub record HeaderMeets (f : List ℕ) (o : Options) (out : List ℕ) (r : Imported) (out′ : List ℕ) : Type 0 where
-  pub meets : Meets (given (outcome btsnoop f o)) out (toldImported r) out′
+pub record HeaderMeets (f : List ℕ) (o : Options) (out : List ℕ) (r : Found) (w′ out′ : List ℕ) : Type 0 where
+  pub meets : Meets (given (outcome btsnoop f o)) out (toldImported (r .answer)) out′
+  pub left : Left f o r w′
 
 -- ---- from the records on
 
@@ -51,5 +64,6 @@ truncates Tolerant at end = false
 unfoldable pub recordsOutcome : List ℕ → Options → Outcome
 recordsOutcome f o = given (cond (endsWell btsnoop (o .tail) f) (read btsnoop f o) (missing 5 (tailOffset f ∷ [])))
 
-pub record RecordsMeet (f : List ℕ) (o : Options) (out : List ℕ) (r : Imported) (out′ : List ℕ) : Type 0 where
-  pub meets : Meets (recordsOutcome f o) out (toldImported r) out′
+pub record RecordsMeet (f : List ℕ) (o : Options) (out : List ℕ) (r : Found) (w′ out′ : List ℕ) : Type 0 where
+  pub meets : Meets (recordsOutcome f o) out (toldImported (r .answer)) out′
+  pub left : Left f o r w′

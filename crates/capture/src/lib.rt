@@ -3,7 +3,7 @@ ghost use mathlib.Core.Path.{_≡_};
 ghost use Rattle.btsnoop.specs.Adding.{ReadPre};
 ghost use Rattle.streams.specs.Streams.{told};
 ghost use Rattle.capture.specs.Options.{optionsOf};
-ghost use Rattle.capture.specs.Calls.{toldImported, truncates, RecordsMeet, Sized, HeaderMeets, Imports};
+ghost use Rattle.capture.specs.Calls.{toldImported, truncates, RecordsMeet, Sized, HeaderMeets, Imports, ImportsFound};
 use btsnoop::Header;
 use btsnoop::read_header;
 use btsnoop::read_packets;
@@ -53,9 +53,9 @@ pub fn import(file: &[u8], work: &mut [u8], out: &mut [u8], options: Options) ->
     f.answer
 }
 
-// The same, with the number of pieces. A file that is too long, and work that is too short, are refused first.
+// The same, with the number of pieces; work keeps what was counted of the DLCI chosen. A file that is too long, and work that is too short, are refused first.
 pub fn import_found(file: &[u8], work: &mut [u8], out: &mut [u8], options: Options) -> Found
-    ensures { λ r. ⌜ Imports (now (file .entry)) (now (work .entry)) (optionsOf options) (now (out .entry)) (r .answer) (now (work .exit)) (now (out .exit)) ⌝ }
+    ensures { λ r. ⌜ ImportsFound (now (file .entry)) (now (work .entry)) (optionsOf options) (now (out .entry)) r (now (work .exit)) (now (out .exit)) ⌝ }
 {
     let n = file.len();
     if 1048576 < n {
@@ -76,7 +76,7 @@ pub fn import_found(file: &[u8], work: &mut [u8], out: &mut [u8], options: Optio
 // Imports a file of a size that is taken, with work enough.
 fn import_from_header(file: &[u8], work: &mut [u8], out: &mut [u8], options: Options) -> Found
     requires { ⌜ Sized (now file) (now work) ⌝ }
-    ensures { λ r. ⌜ HeaderMeets (now (file .entry)) (optionsOf options) (now (out .entry)) (r .answer) (now (out .exit)) ⌝ }
+    ensures { λ r. ⌜ HeaderMeets (now (file .entry)) (optionsOf options) (now (out .entry)) r (now (work .exit)) (now (out .exit)) ⌝ }
 {
     let h = read_header(file);
     match h {
@@ -95,7 +95,7 @@ fn import_from_header(file: &[u8], work: &mut [u8], out: &mut [u8], options: Opt
 // Imports a file whose header is read, by five passes over work.
 fn import_from_records(file: &[u8], work: &mut [u8], out: &mut [u8], options: Options) -> Found
     requires { ⌜ ReadPre (now file) (now work) ⌝ }
-    ensures { λ r. ⌜ RecordsMeet (now (file .entry)) (optionsOf options) (now (out .entry)) (r .answer) (now (out .exit)) ⌝ }
+    ensures { λ r. ⌜ RecordsMeet (now (file .entry)) (optionsOf options) (now (out .entry)) r (now (work .exit)) (now (out .exit)) ⌝ }
 {
     let tail = options.tail;
     let channel = options.channel;

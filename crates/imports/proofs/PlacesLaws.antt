@@ -1,13 +1,15 @@
 -- Each refusal of import with places, and what it gives where none is met.
 use Prim.Native.Nat.{ℕ, _*_, _/_, _<_, _≤_}
-use mathlib.Core.Path.{_≡_, refl, subst}
+use mathlib.Core.Path.{_≡_, refl, subst, _∙_}
 use mathlib.Core.Bool.{true}
 use mathlib.Core.List.{List, [], _∷_}
 use native.Mathlib.Omega.{arith}
 use lib.ListN.{length}
 use borrow.Author.Tests.{le-leb, lt-leb}
 use Rattle.laws.proofs.Choice.{splitB, no-way}
-use Rattle.laws.specs.Answers.{Outcome, Meets}
+use types.Run.{OneOf, miss}
+use denote.Enum.Declared.{tagOf}
+use Rattle.laws.specs.Answers.{refused, Outcome, Meets}
 use Rattle.laws.proofs.Answers.{meets-refused, meets-as}
 use Rattle.btsnoop.specs.Records.{btsnoop}
 use Rattle.btsnoop.proofs.Laws.{lawful}
@@ -15,15 +17,21 @@ use Rattle.outcome.specs.Import.{Options, fits, workSuffices, placesSuffice, im
 use Rattle.outcome.proofs.Import.{same-in}
 use Rattle.cut.specs.Claim.{CutClaim}
 use Rattle.cut.proofs.Theorem.{cut-claim}
+use Rattle.split.specs.Rows.{Laid}
 use Rattle.split.specs.declared.Plan.{Plan}
 use Rattle.streams.specs.Streams.{planOf}
-use Rattle.capture.specs.Calls.{toldImported, Imports}
+use Rattle.capture.specs.Calls.{toldImported, ImportsFound}
+use Rattle.capture.specs.declared.Found.{Found}
 use Rattle.capture.specs.declared.Imported.{Imported}
-use Rattle.capture.specs.declared.Imported.the-variants.{FileLong, WorkShort}
+use Rattle.capture.specs.declared.Imported.the-variants.{Spans, FileLong, WorkShort, NotBtsnoop, Datalink, Truncated, NoStream, OutShort}
+use Rattle.capture.proofs.Imported.{the-type}
+use Rattle.stretches.specs.Filled.{stretchesTo}
+use Rattle.stretches.specs.Listing.{SpreadPre, OpenListed}
+use Rattle.stretches.specs.declared.Stretch.{Stretch}
 use Rattle.telling.specs.Telling.{numberOf, valuesOf, Shows, Tells}
 use Rattle.telling.specs.declared.Shown.{Shown}
 use Rattle.telling.proofs.TellLaws.{calls}
-use Rattle.imports.specs.Places.{suffices, ImportsIn, ToldIn}
+use Rattle.imports.specs.Places.{suffices, openOn, fileStretches, listedBy, ImportsIn, ToldIn, Listable, FoundListed}
 
 module _ (f w : List ℕ) (places : ℕ) (o : Options) (out : List ℕ) where
   abbrev O : Outcome
@@ -32,33 +40,87 @@ module _ (f w : List ℕ) (places : ℕ) (o : Options) (out : List ℕ) where
   cut-in : (r : Imported) (out′ : List ℕ) → Meets O out (toldImported r) out′ → placesSuffice f places ≡ true → CutClaim btsnoop f (length w) o out (toldImported r) out′
   cut-in r out′ m h = cut-claim lawful f (length w) o out (toldImported r) out′ (rw (same-in btsnoop f (length w) places o h) at m)
 
-  refused-in : (r : Imported) → Meets O out (toldImported r) out → ImportsIn f w places o out r 0 w out
-  refused-in r m = record { meets = m; spared = λ e. refl; none = λ e. refl; few = omega arith; cut = cut-in r out m }
+  refused-in : (r : Imported) (n : ℕ) → toldImported r ≡ refused n [] → Meets O out (toldImported r) out → ImportsIn f w places o out r 0 w out
+  unfolding stretchesTo listedBy
+  refused-in r n e m = record { meets = m; spared = λ e. refl; list = rw e; few = omega arith; cut = cut-in r out m }
 
   pub in-long : 1048576 < length f → ImportsIn f w places o out FileLong 0 w out
   unfolding importedIn fits
-  in-long h = refused-in FileLong (meets-refused O out 1 [] (rw (lt-leb (length f) 1048576 h)))
+  in-long h = refused-in FileLong 1 refl (meets-refused O out 1 [] (rw (lt-leb (length f) 1048576 h)))
 
   pub in-short : length f ≤ 1048576 → length w < 8 * length f → ImportsIn f w places o out WorkShort 0 w out
   unfolding importedIn imported fits workSuffices
-  in-short h g = refused-in WorkShort (meets-refused O out 2 [] (splitB (placesSuffice f places) (λ e. rw (le-leb (length f) 1048576 h, lt-leb (8 * length f) (length w) g, e)) (λ e. rw (le-leb (length f) 1048576 h, lt-leb (8 * length f) (length w) g, e))))
+  in-short h g = refused-in WorkShort 2 refl (meets-refused O out 2 [] (splitB (placesSuffice f places) (λ e. rw (le-leb (length f) 1048576 h, lt-leb (8 * length f) (length w) g, e)) (λ e. rw (le-leb (length f) 1048576 h, lt-leb (8 * length f) (length w) g, e))))
 
   pub in-few : length f ≤ 1048576 → places < length f / 24 → ImportsIn f w places o out WorkShort 0 w out
   unfolding importedIn fits placesSuffice
-  in-few h g = refused-in WorkShort (meets-refused O out 2 [] (rw (le-leb (length f) 1048576 h, lt-leb (length f / 24) places g)))
+  in-few h g = refused-in WorkShort 2 refl (meets-refused O out 2 [] (rw (le-leb (length f) 1048576 h, lt-leb (length f / 24) places g)))
 
-  pub in-met : length f ≤ 1048576 → 8 * length f ≤ length w → length f / 24 ≤ places → (r : Imported) (v out′ : List ℕ) → Imports f w o out r v out′ → (listed : ℕ) → listed ≤ places → (w′ : List ℕ) → ImportsIn f w places o out r listed w′ out′
+  pub in-met :
+      length f ≤ 1048576 → 8 * length f ≤ length w → length f / 24 ≤ places →
+      (r : Found) (v out′ : List ℕ) → ImportsFound f w o out r v out′ → (listed : ℕ) (w′ : List ℕ) → FoundListed f v r w′ listed →
+      ImportsIn f w places o out (r .answer) listed w′ out′
   unfolding fits workSuffices placesSuffice suffices
-  in-met h g k r v out′ m listed few w′ =
+  in-met h g k r v out′ m listed w′ l =
       let q : placesSuffice f places ≡ true = le-leb (length f / 24) places k in
       let s : suffices f (length w) places ≡ true = rw (le-leb (length f) 1048576 h, le-leb (8 * length f) (length w) g, le-leb (length f / 24) places k) in
-      let p = meets-as O (imported btsnoop f (length w) o) out (same-in btsnoop f (length w) places o q) (m .meets) in
-      record { meets = p; spared = λ e. no-way s e; none = λ e. no-way s e; few = few; cut = cut-in r out′ p }
+      let p = meets-as O (imported btsnoop f (length w) o) out (same-in btsnoop f (length w) places o q) (m .imports .meets) in
+      record { meets = p; spared = λ e. no-way s e; list = l .list o (m .left); few = omega (arith, l .few); cut = cut-in (r .answer) out′ p }
 
--- the plan's number of pieces
-pub plan-few : (q n dlci : ℕ) (p : Plan) → p ≡ planOf q n dlci → n ≤ q → q ≤ 1048576 → p .n ≤ 1048576
-unfolding planOf
-plan-few q n dlci p e h g = rw e (omega arith)
+  pub in-listable : length f ≤ 1048576 → (r : Found) (v out′ : List ℕ) → ImportsFound f w o out r v out′ → Listable f v r
+  in-listable h r v out′ m = record { laid = λ d a b c e k. m .left .at d a b c e k .laid; few = λ d a b c e k. omega (arith, m .left .at d a b c e k .few); small = h }
+
+-- ---- the list
+
+listed-refused : (r : Imported) (l : List Stretch) → OneOf (1 ∷ 2 ∷ 3 ∷ 4 ∷ 5 ∷ 6 ∷ 7 ∷ []) (tagOf the-type r) → [] ≡ listedBy (toldImported r) l
+unfolding listedBy
+listed-refused (Spans d a b c e) l h = absurd (miss (1 ∷ 2 ∷ 3 ∷ 4 ∷ 5 ∷ 6 ∷ 7 ∷ []) 0 tt h)
+listed-refused FileLong l h = refl
+listed-refused WorkShort l h = refl
+listed-refused NotBtsnoop l h = refl
+listed-refused (Datalink n) l h = refl
+listed-refused (Truncated at) l h = refl
+listed-refused NoStream l h = refl
+listed-refused (OutShort n) l h = refl
+
+-- no spans
+pub found-none : (f w : List ℕ) (r : Found) → OneOf (1 ∷ 2 ∷ 3 ∷ 4 ∷ 5 ∷ 6 ∷ 7 ∷ []) (tagOf the-type (r .answer)) → FoundListed f w r w 0
+unfolding stretchesTo
+found-none f w r h = record { list = λ o l. listed-refused (r .answer) (fileStretches f o) h; few = omega arith }
+
+module _ (f w : List ℕ) (r : Found) (g : Listable f w r) (d a b c e : ℕ) (k : r .answer ≡ Spans d a b c e) where
+  pub found-plan : (length f / 4 ≤ 1048576) × (r .pieces ≤ 1048576)
+  found-plan = (omega (arith, g .small), omega (arith, g .small, g .few d a b c e k))
+
+  module _ (p : Plan) (ep : p ≡ planOf (length f / 4) (r .pieces) d) where
+    laid : Laid f w p
+    laid = rw ep (g .laid d a b c e k)
+
+    pub found-room : SpreadPre w p
+    unfolding planOf
+    found-room = record {
+      room = record {
+        low = rw ep (omega (arith, g .few d a b c e k));
+        after = rw ep (omega arith);
+        rows = laid .rows;
+        chain = laid .chain;
+        ends = laid .ends;
+        words = omega (arith, laid .area, laid .room);
+        many = laid .many;
+      };
+      linked = laid .linked;
+    }
+
+    pub found-listed : (u : List ℕ) (listed : ℕ) → OpenListed w p u listed → FoundListed f w r u listed
+    unfolding planOf listedBy fileStretches openOn
+    found-listed u listed l =
+        let z : p .n ≡ r .pieces = rw ep in
+        record {
+          list = λ o left.
+            let x = left .at d a b c e k in
+            l .list f laid (rw ep (x .told)) ∙ rw (ep, k, x .is, x .pieces);
+          few = omega (arith, l .few, g .few d a b c e k);
+        }
 
 pub told-in :
     (f w : List ℕ) (places : ℕ) (o : Options) (out : List ℕ) (i : Imported) (listed : ℕ) (w′ out′ : List ℕ) → ImportsIn f w places o out i listed w′ out′ →
@@ -67,7 +129,7 @@ pub told-in :
 told-in f w places o out i listed w′ out′ m s p v r v′ t o′ e = subst (λ (z : Options). ToldIn f w places out z v r listed w′ out′ v′) e (record {
   calls = calls (importedIn btsnoop f (length w) places o) out (toldImported i) out′ (m .meets) s p v r v′ t;
   spared = m .spared;
-  none = m .none;
+  list = rw (m .meets .answers) at (m .list);
   few = m .few;
   cut = λ h. rw (m .meets .answers) at (m .cut h);
 })

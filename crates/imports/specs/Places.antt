@@ -1,26 +1,60 @@
 -- What import promises where a list of stretches is lent.
-use Prim.Native.Nat.{ℕ, _≤_}
+use Prim.Native.Nat.{ℕ, _*_, _/_, _≤_}
 use mathlib.Core.Path.{_≡_}
 use mathlib.Core.Bool.{Bool, true, false, _&&_}
-use mathlib.Core.List.{List}
-use lib.ListN.{length}
-use Rattle.laws.specs.Answers.{answer, Meets}
+use mathlib.Core.List.{List, [], _++_}
+use mathlib.Core.Option.{Option, none, some}
+use lib.ListN.{length, drop}
+use Rattle.laws.specs.Answers.{Answer, accepted, refused, answer, Meets}
 use Rattle.btsnoop.specs.Records.{btsnoop}
-use Rattle.outcome.specs.Import.{Options, fits, workSuffices, placesSuffice, importedIn}
+use Rattle.rfcomm.specs.Pieces.{Piece}
+use Rattle.spans.specs.Spans.{onDlci}
+use Rattle.split.specs.Rows.{Laid}
+use Rattle.outcome.specs.Import.{Options, filePieces, chosen, fits, workSuffices, placesSuffice, importedIn}
 use Rattle.cut.specs.Claim.{CutClaim}
-use Rattle.capture.specs.Calls.{toldImported}
+use Rattle.streams.specs.Streams.{planOf}
+use Rattle.capture.specs.Calls.{toldImported, Left}
+use Rattle.capture.specs.declared.Found.{Found}
 use Rattle.capture.specs.declared.Imported.{Imported}
+use Rattle.capture.specs.declared.Imported.the-variants.{Spans}
+use Rattle.stretches.specs.Open.{openStretches}
+use Rattle.stretches.specs.Filled.{stretchesTo}
+use Rattle.stretches.specs.declared.Stretch.{Stretch}
 use Rattle.telling.specs.Telling.{Calls}
+
+-- ---- what the places hold
+
+-- on the DLCI chosen, if one is
+unfoldable pub openOn : List Piece → Option ℕ → List Stretch
+openOn ps none = []
+openOn ps (some d) = openStretches d (onDlci d ps)
+
+-- the stretches that are open at the end of a file
+unfoldable pub fileStretches : List ℕ → Options → List Stretch
+fileStretches f o = openOn (filePieces btsnoop (o .rule) f) (chosen (o .channel) (filePieces btsnoop (o .rule) f))
+
+-- the places after a call that answers so: the open stretches and then the places past them; all as they were after a refusal
+unfoldable pub placesAfter : Answer → List Stretch → List Stretch → List Stretch
+placesAfter (accepted vs) l s = l ++ drop (length l) s
+placesAfter (refused n vs) l s = s
+
+-- what is listed for them: nothing after a refusal
+unfoldable pub listedBy : Answer → List Stretch → List Stretch
+listedBy (accepted vs) l = l
+listedBy (refused n vs) l = []
+
+-- ---- the call
 
 -- neither 1 nor 2
 unfoldable pub suffices : List ℕ → ℕ → ℕ → Bool
 suffices f work places = fits f && (workSuffices f work && placesSuffice f places)
 
--- Answer and output by the definition; work is unchanged after 1 and 2, and no stretch is listed; and with enough places the claim of the cut.
+-- Answer and output by the definition; work is unchanged after 1 and 2; the open stretches are listed at the start of work, none after a
+-- refusal; and with enough places the claim of the cut.
 pub record ImportsIn (f w : List ℕ) (places : ℕ) (o : Options) (out : List ℕ) (r : Imported) (listed : ℕ) (w′ out′ : List ℕ) : Type 0 where
   pub meets : Meets (importedIn btsnoop f (length w) places o) out (toldImported r) out′
   pub spared : suffices f (length w) places ≡ false → w′ ≡ w
-  pub none : suffices f (length w) places ≡ false → listed ≡ 0
+  pub list : stretchesTo w′ listed ≡ listedBy (toldImported r) (fileStretches f o)
   pub few : listed ≤ places
   pub cut : placesSuffice f places ≡ true → CutClaim btsnoop f (length w) o out (toldImported r) out′
 
@@ -28,6 +62,19 @@ pub record ImportsIn (f w : List ℕ) (places : ℕ) (o : Options) (out : List �
 pub record ToldIn (f w : List ℕ) (places : ℕ) (out : List ℕ) (o : Options) (v : List ℕ) (r listed : ℕ) (w′ out′ v′ : List ℕ) : Type 0 where
   pub calls : Calls (importedIn btsnoop f (length w) places o) out out′ v r v′
   pub spared : suffices f (length w) places ≡ false → w′ ≡ w
-  pub none : suffices f (length w) places ≡ false → listed ≡ 0
+  pub list : stretchesTo w′ listed ≡ listedBy (answer (importedIn btsnoop f (length w) places o) (length out)) (fileStretches f o)
   pub few : listed ≤ places
   pub cut : placesSuffice f places ≡ true → CutClaim btsnoop f (length w) o out (answer (importedIn btsnoop f (length w) places o) (length out)) out′
+
+-- ---- from what import found
+
+-- where it gave spans, the table of pieces stands in work
+pub record Listable (f w : List ℕ) (r : Found) : Type 0 where
+  pub laid : (d frames unfinished tail written : ℕ) → r .answer ≡ Spans d frames unfinished tail written → Laid f w (planOf (length f / 4) (r .pieces) d)
+  pub few : (d frames unfinished tail written : ℕ) → r .answer ≡ Spans d frames unfinished tail written → 32 * r .pieces ≤ length f
+  pub small : length f ≤ 1048576
+
+-- the open stretches are listed, whichever options the import had
+pub record FoundListed (f w : List ℕ) (r : Found) (u : List ℕ) (listed : ℕ) : Type 0 where
+  pub list : (o : Options) → Left f o r w → stretchesTo u listed ≡ listedBy (toldImported (r .answer)) (fileStretches f o)
+  pub few : listed ≤ length f / 24

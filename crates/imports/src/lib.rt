@@ -1,14 +1,13 @@
 // Import as the calls ask for it: by options in a list of numbers, with or without places for stretches; and its answer as a
 // number and values.
 ghost use mathlib.Core.Path.{_≡_};
-ghost use Prim.Native.Nat.{_≤_};
 ghost use lib.ListN.{getD};
 ghost use Rattle.capture.specs.Calls.{toldImported};
 ghost use Rattle.capture.specs.Options.{tailOf, optionsOf};
 ghost use Rattle.streams.specs.Streams.{channelOf};
 ghost use Rattle.telling.specs.Telling.{numberOf, valuesOf, Shows};
 ghost use Rattle.imports.specs.Numbers.{channelNumber, tailNumber, optionsIn, optionsNumber};
-ghost use Rattle.imports.specs.Places.{ImportsIn, ToldIn};
+ghost use Rattle.imports.specs.Places.{ImportsIn, ToldIn, Listable, FoundListed};
 use capture::Found;
 use capture::Imported;
 use capture::Options;
@@ -159,24 +158,20 @@ pub fn import_places(
     }
     let found = import_found(file, work, out, options);
     let answer = found.answer;
-    let listed = list_found(work, n / 4, found, places);
+    let listed = list_found(file, work, found);
     Placed { answer, listed }
 }
 
-// Puts the stretches that are open after an import of a file of 4 * q bytes or a little more to the start of work, at most
-// so many, and returns how many: none where it gave no spans.
-fn list_found(w: &mut [u8], q: usize, found: Found, most: usize) -> usize
-    requires { ⌜ q ≤ 1048576 ⌝ }
-    ensures { λ r. ⌜ r ≤ most ⌝ }
+// Lists the stretches that are open after an import at the start of work, and returns how many: none where it gave no spans.
+fn list_found(file: &[u8], w: &mut [u8], found: Found) -> usize
+    requires { ⌜ Listable (now file) (now w) found ⌝ }
+    ensures { λ r. ⌜ FoundListed (now (file .entry)) (now (w .entry)) found (now (w .exit)) r ⌝ }
 {
-    let n = found.pieces;
-    if q < n {
-        return 0;
-    }
     let answer = found.answer;
     let Imported::Spans(dlci, _, _, _, _) = answer else {
         return 0;
     };
-    let p = plan(q, n, dlci as u32);
-    list_open(w, p, most)
+    let q = file.len() / 4;
+    let p = plan(q, found.pieces, dlci as u32);
+    list_open(w, p)
 }

@@ -1,18 +1,31 @@
 -- What a caller gets of an import with a lent list of stretches.
-use Prim.Native.Nat.{ℕ}
-use mathlib.Core.Path.{_≡_, ap, _∙_}
+use Prim.Native.Nat.{ℕ, _≤_}
+use mathlib.Core.Path.{_≡_, ap, sym, _∙_}
 use mathlib.Core.Bool.{true}
-use mathlib.Core.List.{List}
+use mathlib.Core.List.{List, []}
+use native.Mathlib.Omega.{arith}
 use lib.ListN.{length}
+use Rattle.laws.specs.Answers.{Answer, accepted, refused, answer}
 use Rattle.laws.proofs.Choice.{splitB, no-way}
 use Rattle.btsnoop.specs.Records.{btsnoop}
 use Rattle.outcome.specs.Import.{Options, fits, workSuffices, placesSuffice, imported, importedIn}
 use Rattle.outcome.proofs.Import.{same-in}
-use Rattle.imports.specs.Places.{suffices, ToldIn}
-use Rattle.stretches.specs.Filled.{filled}
+use Rattle.imports.specs.Places.{suffices, fileStretches, placesAfter, listedBy, ToldIn}
+use Rattle.stretches.specs.Filled.{filled, stretchesTo}
+use Rattle.stretches.proofs.Filling.{filled-is, length-to}
 use Rattle.stretches.specs.declared.Stretch.{Stretch}
 use Rattle.lumbryth.specs.Imports.{ImportCalls}
 use Rattle.lumbryth.specs.Stretches.{StretchCalls}
+
+-- the places filled from a list in words are those after the answer
+places-are : (a : Answer) (l s : List Stretch) (w : List ℕ) (n : ℕ) → n ≤ length s → stretchesTo w n ≡ listedBy a l → filled w n s ≡ placesAfter a l s
+unfolding listedBy placesAfter
+places-are (accepted vs) l s w n h e =
+    let z : n ≡ length l = sym (length-to w n) ∙ ap length e in
+    filled-is w n s h ∙ rw (e, z)
+places-are (refused m vs) l s w n h e =
+    let z : n ≡ 0 = sym (length-to w n) ∙ ap length e in
+    rw z
 
 pub stretch-calls :
     (f w : List ℕ) (s : List Stretch) (out : List ℕ) (o : Options) (v : List ℕ) (r listed : ℕ) (w′ out′ v′ : List ℕ) → ToldIn f w (length s) out o v r listed w′ out′ v′ →
@@ -20,7 +33,7 @@ pub stretch-calls :
 stretch-calls f w s out o v r listed w′ out′ v′ m s′ e = record {
   calls = m .calls;
   spared = m .spared;
-  left = λ h. e ∙ ap (λ (n : ℕ). filled w′ n s) (m .none h);
+  places = e ∙ places-are (answer (importedIn btsnoop f (length w) (length s) o) (length out)) (fileStretches f o) s w′ listed (m .few) (m .list);
   cut = m .cut;
 }
 

@@ -8,13 +8,14 @@ use Rattle.laws.specs.Answers.{answer}
 use Rattle.btsnoop.specs.Records.{btsnoop}
 use Rattle.outcome.specs.Import.{Options, placesSuffice, importedIn}
 use Rattle.cut.specs.Claim.{CutClaim}
-use Rattle.imports.specs.Places.{suffices}
+use Rattle.imports.specs.Places.{suffices, fileStretches, placesAfter}
 use Rattle.stretches.specs.declared.Stretch.{Stretch}
 use Rattle.telling.specs.Telling.{Calls}
 
--- Answer and output by the definition; work and stretches are unchanged after 1 and 2; and with enough places the claim of the cut.
+-- Answer and output by the definition; work is unchanged after 1 and 2; the first places hold the open stretches and those past them are as
+-- they were, as all are after a refusal; and with enough places the claim of the cut.
 pub record StretchCalls (f w : List ℕ) (s : List Stretch) (out : List ℕ) (o : Options) (v : List ℕ) (r : ℕ) (w′ : List ℕ) (s′ : List Stretch) (out′ v′ : List ℕ) : Type 0 where
   pub calls : Calls (importedIn btsnoop f (length w) (length s) o) out out′ v r v′
   pub spared : suffices f (length w) (length s) ≡ false → w′ ≡ w
-  pub left : suffices f (length w) (length s) ≡ false → s′ ≡ s
+  pub places : s′ ≡ placesAfter (answer (importedIn btsnoop f (length w) (length s) o) (length out)) (fileStretches f o) s
   pub cut : placesSuffice f (length s) ≡ true → CutClaim btsnoop f (length w) o out (answer (importedIn btsnoop f (length w) (length s) o) (length out)) out′

@@ -30,12 +30,12 @@ laid-chain f w p i l h = record { row = laid-row f w p i l h; chain = l .chain; 
 -- ---- the newest piece of a key
 
 module _ (w : List ℕ) (p : Plan) (k : Key) where
-  newest-less : (n : ℕ) → newestOf (λ j. keyAt w p j) k n ≤ n
+  pub newest-less : (n : ℕ) → newestOf (λ j. keyAt w p j) k n ≤ n
   unfolding newestOf
   newest-less zero = omega arith
   newest-less (suc n) = splitB (eqK (keyAt w p n) k) (λ e. rw e (omega arith)) (λ e. rw e (omega (arith, newest-less n)))
 
-  newest-mine : (n : ℕ) → 0 < newestOf (λ j. keyAt w p j) k n → keyAt w p (newestOf (λ j. keyAt w p j) k n - 1) ≡ k
+  pub newest-mine : (n : ℕ) → 0 < newestOf (λ j. keyAt w p j) k n → keyAt w p (newestOf (λ j. keyAt w p j) k n - 1) ≡ k
   unfolding newestOf
   newest-mine zero h = absurd (omega arith)
   newest-mine (suc n) h =

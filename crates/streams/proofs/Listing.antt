@@ -19,7 +19,7 @@ use Rattle.split.specs.Rows.{all}
 use Rattle.split.specs.Walks.{ListPre, LinkRoom, LinkedTo}
 use Rattle.split.specs.declared.Plan.{Plan}
 use Rattle.outcome.specs.Import.{chosen, listed, given}
-use Rattle.streams.specs.Streams.{channelOf, planOf, tablePieces, Tabled, Ready, below, streamOf, choiceOf, Chooses, told, ListsSpans}
+use Rattle.streams.specs.Streams.{channelOf, planOf, tablePieces, Tabled, Ready, below, streamOf, choiceOf, Chooses, told, Leaves, ListsSpans}
 use Rattle.streams.specs.declared.Channel.{Channel}
 use Rattle.streams.specs.declared.Stream.{Stream}
 use Rattle.streams.specs.declared.Choice.{Choice}
@@ -46,7 +46,11 @@ module _ (f w : List ℕ) (n : ℕ) (channel : Channel) (u : List ℕ) (c : Choi
   unfolding listed given told
   lists-none e =
       let z : chosen (channelOf channel) (tablePieces f w n) ≡ none = choice-none (tablePieces f w n) (chosen (channelOf channel) (tablePieces f w n)) (sym e ∙ q .chooses) in
-      record { meets = λ tail. meets-refused (given (listed (tablePieces f w n) tail (chosen (channelOf channel) (tablePieces f w n)))) out 6 [] (rw z); front = low f n u w (q .front) }
+      record {
+        meets = λ tail. meets-refused (given (listed (tablePieces f w n) tail (chosen (channelOf channel) (tablePieces f w n)))) out 6 [] (rw z);
+        front = low f n u w (q .front);
+        left = λ s g. (let y : _≡_ {A = ℕ} 0 1 = cc in absurd (omega arith));
+      }
 
   module _ (s : Stream) (e : c ≡ Chosen s) where
     of-stream : (chosen (channelOf channel) (tablePieces f w n) ≡ some (s .dlci)) × (s ≡ streamOf (tablePieces f w n) (s .dlci))
@@ -68,7 +72,11 @@ module _ (f w : List ℕ) (n : ℕ) (channel : Channel) (u : List ℕ) (c : Choi
 
     pub lists-short : length out < s .bytes → ListsSpans f w n channel out (OutShort (s .bytes)) u out
     unfolding told
-    lists-short h = record { meets = λ tail. meets-short _ out _ list (s .bytes) (gives-list tail) needed h; front = low f n u w (q .front) }
+    lists-short h = record {
+      meets = λ tail. meets-short _ out _ list (s .bytes) (gives-list tail) needed h;
+      front = low f n u w (q .front);
+      left = λ t g. (let y : _≡_ {A = ℕ} 0 1 = cc in absurd (omega arith));
+    }
 
     module _ (t : Ready f w n) (h : s .bytes ≤ length out) (k : length u ≡ length w) (p : Plan) (ep : p ≡ planOf (length f / 4) n (s .dlci)) where
       pub lists-pre : ListPre f u p out
@@ -79,11 +87,25 @@ module _ (f w : List ℕ) (n : ℕ) (channel : Channel) (u : List ℕ) (c : Choi
         room = rw (all-same f w n t u (q .front) p (s .dlci) ep) (omega (arith, needed));
       }
 
+      leaves : Leaves f (tablePieces f w n) (channelOf channel) n u (s .dlci)
+      unfolding planOf
+      leaves = record {
+        is = of-stream .0;
+        pieces = rw ep at (all-same f w n t u (q .front) p (s .dlci) ep);
+        laid = rw ep at (laid-later f w n t u (q .front) k p (s .dlci) ep);
+        told = q .told s e;
+        few = omega (arith, t .tabled .few);
+      }
+
       pub lists-all : (r : ℕ) (out′ : List ℕ) → Writes out 0 (spanList (spans (all f u p))) r out′ → ListsSpans f w n channel out (Spans s) u out′
       unfolding told
       lists-all r out′ y =
           let x : Writes out 0 list r out′ = rw (all-same f w n t u (q .front) p (s .dlci) ep) at y in
-          record { meets = λ tail. meets-wrote _ out _ list r out′ (gives-list tail) (omega (arith, needed)) x; front = low f n u w (q .front) }
+          record {
+            meets = λ tail. meets-wrote _ out _ list r out′ (gives-list tail) (omega (arith, needed)) x;
+            front = low f n u w (q .front);
+            left = λ t g. (let y : t ≡ s = cc in rw y leaves);
+          }
 
 -- ---- the pieces linked first
 
@@ -122,4 +144,4 @@ module _ (f w : List ℕ) (n : ℕ) (t : Tabled f w n) (p : Plan) (ep : p ≡ pl
         }
 
     pub link-lists : (channel : Channel) (out : List ℕ) (r : Listed) (v out′ : List ℕ) → ListsSpans f u n channel out r v out′ → ListsSpans f w n channel out r v out′
-    link-lists channel out r v out′ y = record { meets = rw same at (y .meets); front = front-then (24 * (length f / 4)) v u w (y .front) front }
+    link-lists channel out r v out′ y = record { meets = rw same at (y .meets); front = front-then (24 * (length f / 4)) v u w (y .front) front; left = rw same at (y .left) }

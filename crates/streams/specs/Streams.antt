@@ -1,5 +1,5 @@
 -- The DLCI chosen, with what is counted of it; and what the call that lists its spans answers.
-use Prim.Native.Nat.{ℕ, _+_, _*_, _/_}
+use Prim.Native.Nat.{ℕ, _+_, _*_, _/_, _≤_}
 use mathlib.Core.Path.{_≡_}
 use mathlib.Core.List.{List, [], _∷_}
 use mathlib.Core.Option.{Option, none, some}
@@ -10,7 +10,7 @@ use Rattle.items.specs.Items.{spanList}
 use Rattle.rfcomm.specs.Pieces.{Piece}
 use Rattle.rfcomm.specs.PieceTable.{piecesFrom, Pieced}
 use Rattle.spans.specs.Spans.{spans, unfinished, onDlci}
-use Rattle.split.specs.Rows.{Linked}
+use Rattle.split.specs.Rows.{all, Linked, Laid}
 use Rattle.split.specs.Walks.{AllTold}
 use Rattle.split.specs.declared.Plan.{Plan}
 use Rattle.outcome.specs.Import.{chosen, listed, given}
@@ -77,7 +77,17 @@ told tail NoStream = refused 6 []
 told tail (OutShort n) = refused 7 (n ∷ [])
 told tail (Spans s) = accepted (s .dlci ∷ s .spans ∷ s .unfinished ∷ tail ∷ s .bytes ∷ [])
 
--- the answer and the output are those of the list of the DLCI chosen, whatever the tail offset is
+-- what stands in work for the DLCI d, chosen for the pieces ps: a table of n pieces that has its pieces, linked, and their words
+pub record Leaves (f : List ℕ) (ps : List Piece) (channel : Option ℕ) (n : ℕ) (u : List ℕ) (d : ℕ) : Type 0 where
+  pub is : chosen channel ps ≡ some d
+  pub pieces : all f u (planOf (length f / 4) n d) ≡ onDlci d ps
+  pub laid : Laid f u (planOf (length f / 4) n d)
+  pub told : AllTold f u (planOf (length f / 4) n d) n
+  pub few : 16 + 32 * n ≤ length f
+
+-- the answer and the output are those of the list of the DLCI chosen, whatever the tail offset is; where there is a list, work has what
+-- counting left
 pub record ListsSpans (f w : List ℕ) (n : ℕ) (channel : Channel) (out : List ℕ) (r : Listed) (u out′ : List ℕ) : Type 0 where
   pub meets : (tail : ℕ) → Meets (given (listed (tablePieces f w n) tail (chosen (channelOf channel) (tablePieces f w n)))) out (told tail r) out′
   pub front : Front (24 * (length f / 4)) u w
+  pub left : (s : Stream) → r ≡ Spans s → Leaves f (tablePieces f w n) (channelOf channel) n u (s .dlci)

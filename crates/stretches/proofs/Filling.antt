@@ -1,12 +1,13 @@
 -- A stretch that is read from words, and one place of a list after another filled.
 use Prim.Native.Nat.{ℕ, zero, suc, _+_, _*_, _/_, _<_, _≤_}
-use mathlib.Core.Path.{_≡_, refl, ap}
-use mathlib.Core.List.{List, [], _∷_}
+use mathlib.Core.Path.{_≡_, refl, ap, _∙_}
+use mathlib.Core.List.{List, [], _∷_, _++_}
 use native.Mathlib.Nat.{le-of-suc-le-suc, not-suc-le-zero}
-use lib.ListN.{length, set}
+use native.Mathlib.Omega.{arith}
+use lib.ListN.{length, set, drop, length-append}
 use borrow.Author.Tests.{lt-ltb, le-ltb}
 use Rattle.words.specs.Words.{word}
-use Rattle.stretches.specs.Filled.{blank, stretchAt, filledBy}
+use Rattle.stretches.specs.Filled.{blank, stretchAt, filledBy, filled, stretchesTo}
 use Rattle.stretches.specs.declared.Stretch.{Stretch}
 
 module _ (w : List ℕ) (i : ℕ) where
@@ -30,3 +31,33 @@ pub filled-more : (f : ℕ → Stretch) (i : ℕ) (xs : List Stretch) → i < le
 filled-more f i [] h = absurd (not-suc-le-zero h)
 filled-more f zero (x ∷ xs) h = refl
 filled-more f (suc i) (x ∷ xs) h = ap (λ (l : List Stretch). f 0 ∷ l) (filled-more (λ j. f (suc j)) i xs (le-of-suc-le-suc h))
+
+-- ---- the places filled are the stretches in words, and those past them stay
+
+listBy : (ℕ → Stretch) → ℕ → List Stretch
+listBy f zero = []
+listBy f (suc n) = listBy f n ++ (f n ∷ [])
+
+list-cons : (f : ℕ → Stretch) (n : ℕ) → listBy f (suc n) ≡ f 0 ∷ listBy (λ j. f (suc j)) n
+unfolding listBy
+list-cons f zero = refl
+list-cons f (suc n) = ap (λ (l : List Stretch). l ++ (f (suc n) ∷ [])) (list-cons f n)
+
+filled-by : (f : ℕ → Stretch) (n : ℕ) (xs : List Stretch) → n ≤ length xs → filledBy f n xs ≡ listBy f n ++ drop n xs
+unfolding listBy
+filled-by f zero xs h = refl
+filled-by f (suc n) [] h = absurd (not-suc-le-zero h)
+filled-by f (suc n) (x ∷ xs) h = rw (list-cons f n) (ap (λ (l : List Stretch). f 0 ∷ l) (filled-by (λ j. f (suc j)) n xs (le-of-suc-le-suc h)))
+
+list-to : (w : List ℕ) (n : ℕ) → listBy (stretchAt w) n ≡ stretchesTo w n
+unfolding listBy stretchesTo
+list-to w zero = refl
+list-to w (suc n) = rw (list-to w n)
+
+pub filled-is : (w : List ℕ) (n : ℕ) (xs : List Stretch) → n ≤ length xs → filled w n xs ≡ stretchesTo w n ++ drop n xs
+filled-is w n xs h = filled-by (stretchAt w) n xs h ∙ rw (list-to w n)
+
+pub length-to : (w : List ℕ) (n : ℕ) → length (stretchesTo w n) ≡ n
+unfolding stretchesTo
+length-to w zero = refl
+length-to w (suc n) = length-append (stretchesTo w n) (stretchAt w n ∷ []) ∙ omega (arith, length-to w n)

@@ -1,7 +1,7 @@
 -- A list of stretches whose first places are filled from words.
 use Prim.Native.Nat.{ℕ, zero, suc, _+_, _*_, _/_}
 use mathlib.Core.Bool.{cond}
-use mathlib.Core.List.{List, [], _∷_}
+use mathlib.Core.List.{List, [], _∷_, _++_}
 use lib.ListN.{length}
 use lib.Dec.{ltb}
 use Rattle.words.specs.Words.{word}
@@ -25,3 +25,8 @@ filledBy f (suc n) (x ∷ xs) = f 0 ∷ filledBy (λ j. f (suc j)) n xs
 
 abbrev pub filled : List ℕ → ℕ → List Stretch → List Stretch
 filled w n xs = filledBy (stretchAt w) n xs
+
+-- the first n stretches in words
+unfoldable pub stretchesTo : List ℕ → ℕ → List Stretch
+stretchesTo w zero = []
+stretchesTo w (suc n) = stretchesTo w n ++ (stretchAt w n ∷ [])

@@ -1,1 +1,3 @@
+pub mod Open
 pub mod Filled
+pub mod Listing

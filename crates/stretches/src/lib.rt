@@ -1,8 +1,11 @@
 // The stretches that are open at the end of a trace, each with its counts: listed in work, and put into a lent list.
 ghost use mathlib.Core.Path.{_≡_};
-ghost use Prim.Native.Nat.{_+_, _≤_};
+ghost use Prim.Native.Nat.{_+_, _*_, _≤_};
 ghost use lib.ListN.{length};
+ghost use Rattle.words.specs.Rows.{putWords};
+ghost use Rattle.split.specs.Walks.{Chain};
 ghost use Rattle.stretches.specs.Filled.{stretchAt, filled};
+ghost use Rattle.stretches.specs.Listing.{ListRoom, RowIn, Handed, SpreadPre, Spread, isOpen, rowStretch, wordsOf, AddPre, Added, SpreadListed, OpenListed};
 use split::Plan;
 use words::get32;
 use words::put32;
@@ -56,163 +59,112 @@ pub fn fill(work: &[u8], stretches: &mut [Stretch], count: usize)
     }
 }
 
+// ---- what each key holds at the end, told to each of its pieces
+
+// Tells the length held after piece i to the piece before it of its key, if there is one.
+fn hand_back(w: &mut [u8], p: Plan, i: usize)
+    requires { ⌜ Chain (now w) p i ⌝ }
+    ensures { λ _. ⌜ Handed (now (w .entry)) p i (now (w .exit)) ⌝ }
+{
+    let j = get32(w, p.chain + i) as usize;
+    if 0 < j {
+        let h = get32(w, p.held + i);
+        put32(w, p.held + (j - 1), h);
+    }
+}
+
+// Tells every piece the length held after the last piece of its key, from the last piece to the first.
+fn spread_back(w: &mut [u8], p: Plan)
+    requires { ⌜ SpreadPre (now w) p ⌝ }
+    ensures { λ _. ⌜ Spread (now (w .entry)) p (now (w .exit)) ⌝ }
+{
+    let mut i = p.n;
+    while 0 < i {
+        i -= 1;
+        hand_back(w, p, i);
+    }
+}
+
 // ---- the stretches that are open at the end, listed in work
 
-// The word number i from word base of w on, or 0 where it is not there.
-fn word_of(w: &[u8], base: usize, i: usize) -> u32 {
-    let n = w.len() / 4;
-    if n <= base {
-        return 0;
-    }
-    if n - base <= i {
-        return 0;
-    }
-    get32(w, base + i)
-}
-
-// Stores v as the word number i from word base of w on, where it is there.
-fn put_word(w: &mut [u8], base: usize, i: usize, v: u32) {
-    let n = w.len() / 4;
-    if n <= base {
-        return;
-    }
-    if n - base <= i {
-        return;
-    }
-    put32(w, base + i, v);
-}
-
-// Whether two pieces have the same DLCI, stretch and direction.
-fn same_key(w: &[u8], rows: usize, i: usize, j: usize) -> bool
-    requires { ⌜ i ≤ 1048576 ⌝ }
-    requires { ⌜ j ≤ 1048576 ⌝ }
-{
-    let a = 8 * i;
-    let b = 8 * j;
-    if word_of(w, rows, a) != word_of(w, rows, b) {
-        return false;
-    }
-    if word_of(w, rows, a + 1) != word_of(w, rows, b + 1) {
-        return false;
-    }
-    if word_of(w, rows, a + 2) != word_of(w, rows, b + 2) {
-        return false;
-    }
-    word_of(w, rows, a + 3) == word_of(w, rows, b + 3)
-}
-
-// One more than the piece of the same key before piece i, found by the links of pieces; 0 if there is none. A link leads to
-// an earlier piece, so the walk ends where one does not.
-fn earlier(w: &[u8], p: Plan, i: usize) -> usize
-    requires { ⌜ i ≤ 1048576 ⌝ }
-{
-    let mut at = i;
-    let mut k = word_of(w, p.chain, at) as usize;
-    while 0 < k {
-        if at < k {
-            return 0;
-        }
-        at = k - 1;
-        if same_key(w, p.rows, at, i) {
-            return k;
-        }
-        k = word_of(w, p.chain, at) as usize;
-    }
-    0
-}
-
-// Leaves nothing held after the piece of the same key before piece i.
-fn drop_earlier(w: &mut [u8], p: Plan, i: usize)
-    requires { ⌜ i ≤ 1048576 ⌝ }
-{
-    let k = earlier(w, p, i);
-    if 0 < k {
-        put_word(w, p.held, k - 1, 0);
-    }
-}
-
-// Leaves nothing held after a piece that another piece of its key follows.
-fn drop_followed(w: &mut [u8], p: Plan)
-    requires { ⌜ p .n ≤ 1048576 ⌝ }
-{
-    let n = p.n;
-    let mut i = 0;
-    while i < n {
-        drop_earlier(w, p, i);
-        i += 1;
-    }
-}
-
-// Whether piece i is of the DLCI, and bytes are held after it.
+// Whether piece i is the first of its key, of the DLCI, and something is held.
 fn is_open(w: &[u8], p: Plan, i: usize) -> bool
-    requires { ⌜ i ≤ 1048576 ⌝ }
+    requires { ⌜ RowIn (now w) p i ⌝ }
+    ensures { λ r. ⌜ r ≡ isOpen (now (w .entry)) p i ⌝ }
 {
-    if word_of(w, p.rows, 8 * i) != p.dlci {
+    if get32(w, p.rows + 8 * i) != p.dlci {
         return false;
     }
-    word_of(w, p.held, i) != 0
+    if get32(w, p.chain + i) != 0 {
+        return false;
+    }
+    0 < get32(w, p.held + i)
 }
 
-// The stretch of piece i, with what is held after it.
+// The stretch of piece i, with the length held.
 fn stretch_of(w: &[u8], p: Plan, i: usize) -> Stretch
-    requires { ⌜ i ≤ 1048576 ⌝ }
+    requires { ⌜ RowIn (now w) p i ⌝ }
+    ensures { λ r. ⌜ r ≡ rowStretch (now (w .entry)) p i ⌝ }
 {
-    let a = 8 * i;
-    let counts = word_of(w, p.rows, a + 3);
+    let row = p.rows + 8 * i;
+    let counts = get32(w, row + 3);
     Stretch {
-        way: word_of(w, p.rows, a + 1),
-        cid: word_of(w, p.rows, a + 2),
-        dlci: word_of(w, p.rows, a),
+        way: get32(w, row + 1),
+        cid: get32(w, row + 2),
+        dlci: get32(w, row),
         sessions: counts % 65536,
         links: counts / 65536,
-        held: word_of(w, p.held, i),
+        held: get32(w, p.held + i),
     }
 }
 
-// Puts a stretch into the six words from word 6 * k on.
-fn put_stretch(w: &mut [u8], k: usize, s: Stretch)
-    requires { ⌜ k ≤ 1048576 ⌝ }
+// Puts a stretch into the six words from word at on.
+fn put_stretch(w: &mut [u8], at: usize, s: Stretch)
+    requires { ⌜ 4 * at + 24 ≤ length (now w) ⌝ }
+    ensures { λ _. ⌜ now (w .exit) ≡ putWords (now (w .entry)) at (wordsOf s) ⌝ }
 {
-    let to = 6 * k;
-    put_word(w, to, 0, s.way);
-    put_word(w, to, 1, s.cid);
-    put_word(w, to, 2, s.dlci);
-    put_word(w, to, 3, s.sessions);
-    put_word(w, to, 4, s.links);
-    put_word(w, to, 5, s.held);
+    put32(w, at, s.way);
+    put32(w, at + 1, s.cid);
+    put32(w, at + 2, s.dlci);
+    put32(w, at + 3, s.sessions);
+    put32(w, at + 4, s.links);
+    put32(w, at + 5, s.held);
 }
 
-// Lists the stretch of piece i behind the k that are listed, if it is open and there is a place; returns how many are listed.
-fn add_open(w: &mut [u8], p: Plan, i: usize, k: usize, most: usize) -> usize
-    requires { ⌜ p .n ≤ 1048576 ⌝ }
-    requires { ⌜ i ≤ 1048576 ⌝ }
-    requires { ⌜ k ≤ i ⌝ }
-    requires { ⌜ k ≤ most ⌝ }
-    ensures { λ r. ⌜ (r ≤ k + 1) × (r ≤ most) ⌝ }
+// Lists the stretch of piece i behind the k that are listed, if it is open there; returns how many are listed.
+fn add_open(w: &mut [u8], p: Plan, i: usize, k: usize) -> usize
+    requires { ⌜ AddPre (now w) p i k ⌝ }
+    ensures { λ r. ⌜ Added (now (w .entry)) p i k (now (w .exit)) r ⌝ }
 {
-    if k == most {
-        return k;
-    }
     if is_open(w, p, i) {
         let s = stretch_of(w, p, i);
-        put_stretch(w, k, s);
+        put_stretch(w, 6 * k, s);
         return k + 1;
     }
     k
 }
 
-// Puts the stretches that are open at the end to the start of work, at most so many, and returns how many.
-pub fn list_open(w: &mut [u8], p: Plan, most: usize) -> usize
-    requires { ⌜ p .n ≤ 1048576 ⌝ }
-    ensures { λ r. ⌜ r ≤ most ⌝ }
+// Lists the open stretches at the start of work, in the order of their first pieces, where every piece is told what its key
+// holds; returns how many.
+fn list_spread(w: &mut [u8], p: Plan) -> usize
+    requires { ⌜ ListRoom (now w) p ⌝ }
+    ensures { λ r. ⌜ SpreadListed (now (w .entry)) p (now (w .exit)) r ⌝ }
 {
-    drop_followed(w, p);
     let n = p.n;
     let mut i = 0;
     let mut k = 0;
     while i < n {
-        k = add_open(w, p, i, k, most);
+        k = add_open(w, p, i, k);
         i += 1;
     }
     k
+}
+
+// Lists the stretches that are open at the end at the start of work, in the order of their first pieces, and returns how many.
+pub fn list_open(w: &mut [u8], p: Plan) -> usize
+    requires { ⌜ SpreadPre (now w) p ⌝ }
+    ensures { λ r. ⌜ OpenListed (now (w .entry)) p (now (w .exit)) r ⌝ }
+{
+    spread_back(w, p);
+    list_spread(w, p)
 }

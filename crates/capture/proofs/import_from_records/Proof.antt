@@ -40,7 +40,7 @@ same-length-3 : tie.Need-same-length-3
 same-length-3 c = search needs
 
 returns-2 : tie.Need-returns-2
-returns-2 c = search records-read
+returns-2 c = records-read _ _ _ (c .before .before .before .before .before .before .before .before .before .before .before .before .before .before .before .before .before .before .before .before .before .before .before .before .read-packets .ensures) _ _ (c .before .before .before .before .before .before .before .before .before .before .before .before .before .before .before .before .before .before .before .before .before .is-truncated .ensures) (c .before .before .before .before .before .before .before .before .before .before .before .before .before .before .before .before .before .before .before .before .if1 .left) _ _ (c .before .before .before .before .before .before .before .before .before .before .before .before .before .before .before .before .before .before .reassemble .ensures) _ _ (c .before .before .before .before .before .before .before .before .before .before .before .before .before .before .read-channels .ensures) _ _ (c .before .before .before .before .before .before .before .before .before .before .read-pieces .ensures) _ _ _ _ (c .before .before .before .before .before .list-spans .ensures) _ (c .answer-of .ensures)
 
 pub import-from-records-spec : {M : Type 1} → statement M
 import-from-records-spec =

@@ -1,4 +1,4 @@
-use Rattle.imports.proofs.PlacesLaws.{in-long, in-short, in-few, in-met}
+use Rattle.imports.proofs.PlacesLaws.{in-long, in-short, in-few, in-listable, in-met}
 use native.Mathlib.Omega.{arith}
 use borrow.Author.Needs.{needs}
 use Rattle.imports.proofs.import_places.Statement.{statement}
@@ -20,7 +20,7 @@ import-found-requires : tie.Need-import-found-requires
 import-found-requires c κs = search needs
 
 list-found-requires : tie.Need-list-found-requires
-list-found-requires c κs = search needs
+list-found-requires c κs = search in-listable
 
 same-length : tie.Need-same-length
 same-length c = search needs

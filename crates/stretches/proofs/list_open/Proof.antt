@@ -1,64 +1,28 @@
-use Prim.Native.Nat.{_≤_, _-_}
-use mathlib.Core.Path.{_≡_}
-use lib.ListN.{length}
-use borrow.Author.Needs.{needs}
+use Rattle.stretches.proofs.Listing.{open-listed}
 use native.Mathlib.Omega.{arith}
+use borrow.Author.Needs.{needs}
 use Rattle.stretches.proofs.list_open.Statement.{statement}
 use Rattle.stretches.proofs.list_open.Tie as tie
 use Rattle.stretches.proofs.list_open.Reads as reads
 use Rattle.stretches.proofs.list_open.Lts as lts
-use Rattle.stretches.proofs.add_open.Reads as add-open-reads
-use Rattle.stretches.proofs.drop_followed.Reads as drop-followed-reads
+use Rattle.stretches.proofs.list_spread.Reads as list-spread-reads
+use Rattle.stretches.proofs.spread_back.Reads as spread-back-reads
 
-abbrev Inv-loop : tie.InvT-loop
-Inv-loop w₀ p most n i₀ k₀ w i k = (k ≤ i) × (k ≤ most) × (n ≤ 1048576) × (length w ≡ length w₀)
+-- src/lib.rt:168:5
+spread-back-requires : tie.Need-spread-back-requires
+spread-back-requires c κs = search needs
 
-abbrev μ-loop : tie.MeasureT-loop
-μ-loop w₀ p most n i₀ k₀ w i k = n - i
+-- src/lib.rt:169:5
+list-spread-requires : tie.Need-list-spread-requires
+list-spread-requires c κs = search needs
 
--- src/lib.rt:210:5
-drop-followed-requires : tie.Need-drop-followed-requires Inv-loop μ-loop
-drop-followed-requires c κs = search needs
-
--- src/lib.rt:214:5
-loop-holds : tie.Need-loop-holds Inv-loop μ-loop
-loop-holds c = search needs
-
--- src/lib.rt:215:9
-add-open-requires : tie.Need-add-open-requires Inv-loop μ-loop
-add-open-requires c κs = search needs
-
--- src/lib.rt:216:9
-add-i : tie.Need-add-i Inv-loop μ-loop
-add-i c = search needs
-
--- src/lib.rt:214:5
-loop-less : tie.Need-loop-less Inv-loop μ-loop
-loop-less c = search needs
-
--- src/lib.rt:214:5
-loop-again : tie.Need-loop-again Inv-loop μ-loop
-loop-again c = search needs
-
--- src/lib.rt:206:1
-same-length : tie.Need-same-length Inv-loop μ-loop
+-- src/lib.rt:164:1
+same-length : tie.Need-same-length
 same-length c = search needs
 
--- src/lib.rt:206:1
-returns : tie.Need-returns Inv-loop μ-loop
-returns c = search needs
+-- src/lib.rt:164:1
+returns : tie.Need-returns
+returns c = search open-listed
 
 pub list-open-spec : {M : Type 1} → statement M
-list-open-spec =
-    tie.close
-    (tie.spec
-    Inv-loop
-    μ-loop
-    drop-followed-requires
-    loop-holds
-    add-open-requires
-    add-i
-    loop-less
-    loop-again
-    same-length
-    returns)
+list-open-spec = tie.close (tie.spec spread-back-requires list-spread-requires same-length returns)
