@@ -140,9 +140,9 @@ module _ (f w : List ℕ) (p : Packets) (rp : ReadTo f w p) (o : Options) (t : B
         meets = meets-as (recordsOutcome f (optionsOf o)) (given (read btsnoop f (optionsOf o))) out (rw z) (rw e (m .meets));
         left = record {
           at = λ d a b c g k.
-            let h = told-back (p .tail) l (d ∷ a ∷ b ∷ c ∷ g ∷ []) (sym e ∙ ap toldImported k) in
-            let i : h .stream .dlci ≡ d = cc in
-            rw i at (left-file f o p out l out′ s (h .stream) (h .is));
+              let h = told-back (p .tail) l (d ∷ a ∷ b ∷ c ∷ g ∷ []) (sym e ∙ ap toldImported k) in
+              let i : h .stream .dlci ≡ d = cc in
+              rw i at (left-file f o p out l out′ s (h .stream) (h .is));
         };
       }
 

@@ -117,8 +117,8 @@ module _ (f w : List ℕ) (r : Found) (g : Listable f w r) (d a b c e : ℕ) (k 
         let z : p .n ≡ r .pieces = rw ep in
         record {
           list = λ o left.
-            let x = left .at d a b c e k in
-            l .list f laid (rw ep (x .told)) ∙ rw (ep, k, x .is, x .pieces);
+              let x = left .at d a b c e k in
+              l .list f laid (rw ep (x .told)) ∙ rw (ep, k, x .is, x .pieces);
           few = omega (arith, l .few, g .few d a b c e k);
         }
 

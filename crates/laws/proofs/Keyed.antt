@@ -46,9 +46,18 @@ module _ {X Y : Type 0} (M : Machine X Y) (p : Key → Bool) (q : Y → Bool)
   run-kept m n same (x ∷ xs) =
       keep-append q (M .out (m (M .key x)) x) (run M (step M m x) xs)
       ∙ splitB (p (M .key x))
-      (λ e. rw (own (m (M .key x)) x, e, run-kept (step M m x) (step M n x) (λ k h. splitK k (M .key x)
-          (λ z. rw (eq-eqK k (M .key x) z, same (M .key x) e))
-          (λ z. rw (ne-eqK k (M .key x) z) (same k h))) xs, same (M .key x) e))
-      (λ e. rw (own (m (M .key x)) x, e, run-kept (step M m x) n (λ k h. splitK k (M .key x)
-          (λ z. no-way (rw z at h) e)
-          (λ z. rw (ne-eqK k (M .key x) z) (same k h))) xs))
+      (λ e. rw (
+        own (m (M .key x)) x,
+        e,
+        run-kept (step M m x) (step M n x) (λ k h. splitK k (M .key x)
+            (λ z. rw (eq-eqK k (M .key x) z, same (M .key x) e))
+            (λ z. rw (ne-eqK k (M .key x) z) (same k h))) xs,
+        same (M .key x) e,
+      ))
+      (λ e. rw (
+        own (m (M .key x)) x,
+        e,
+        run-kept (step M m x) n (λ k h. splitK k (M .key x)
+            (λ z. no-way (rw z at h) e)
+            (λ z. rw (ne-eqK k (M .key x) z) (same k h))) xs,
+      ))

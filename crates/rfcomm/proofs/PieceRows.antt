@@ -49,6 +49,7 @@ module _ (f w : List ℕ) (at : ℕ) (p : Part) (t : ℕ) (pre : PutPre w at p) 
   pub row-within : (top : ℕ) → p .start + p .len ≤ cond (eqb (p .joined) 1) top (length f) → 0 < p .dlci → p .dlci < 64 → Within f u at top
   unfolding rowOf stretchOf bytesOf
   row-within top i lo hi = record { inside = rw (row 4 (omega arith), row-len, row-joined) i; least = rw row-start lo; most = rw row-start hi }
+
 pub row-long : (p : Part) (t : ℕ) → length (rowOf p t) ≡ 8
 unfolding rowOf stretchOf bytesOf
 row-long p t = refl

@@ -150,6 +150,7 @@ machines (p ∷ ps) m q =
     let o : spansOf (m (p .key) ++ p .bytes) ≡ emitted (m (p .key)) (p .bytes) = out-is (m (p .key)) (p .bytes) (q .at (p .key)) in
     let ih : (run scanner (step byBytes m p) ps ≡ run byBytes (step byBytes m p) ps) × (after scanner (step byBytes m p) ps ≡ after byBytes (step byBytes m p) ps) = machines ps (step byBytes m p) (quiet-step m p q) in
     (rw (n, o, ih .0), rw (n, ih .1))
+
 -- something held, and no 3C behind it: nothing comes out, and all is held
 pub no-end : (b x : List ℕ) → 0 < length b → Quiet b → ended x ≡ false → (spansOf (b ++ x) ≡ []) × (restOf (b ++ x) ≡ b ++ x)
 no-end [] x h q e = absurd (omega arith)

@@ -18,6 +18,7 @@ shorter b e =
     let k : length (begun b) ≡ length b - seek 0x3E b = length-drop (seek 0x3E b) b in
     let m : length (drop (end (begun b)) (begun b)) ≡ length (begun b) - end (begun b) = length-drop (end (begun b)) (begun b) in
     omega arith
+
 spans-fuel : (n m : ℕ) (b : List ℕ) → length b < n → length b < m → spansN n b ≡ spansN m b
 unfolding spansN
 spans-fuel zero m b h g = absurd (omega arith)

@@ -104,9 +104,9 @@ module _ (w₀ : List ℕ) (p : Plan) (w : List ℕ) where
     linked-now : Linked w p
     linked-now = record {
       before = λ i o.
-        front-word (4 * p .held) w w₀ (p .chain + i) (omega (arith, g .room .chain)) (v .front)
-        ∙ g .linked .before i o
-        ∙ sym (rw (key-front w w₀ p (g .room) (v .front) i o) (newest-front w w₀ p (g .room) (v .front) (keyAt w₀ p i) i (omega arith)));
+          front-word (4 * p .held) w w₀ (p .chain + i) (omega (arith, g .room .chain)) (v .front)
+          ∙ g .linked .before i o
+          ∙ sym (rw (key-front w w₀ p (g .room) (v .front) i o) (newest-front w w₀ p (g .room) (v .front) (keyAt w₀ p i) i (omega arith)));
     }
 
     back-pre : Chain w p m
@@ -136,8 +136,8 @@ module _ (w₀ : List ℕ) (p : Plan) (w : List ℕ) where
       early-other k n o =
           let z : newest k (suc m) ≡ newest k m = rw (ne-eqK (keyAt w₀ p m) k n) in
           t .kept (newest k m - 1) (λ e.
-            let y : newest (keyAt w₀ p m) m ≡ newest k m = sym chain-is ∙ e ∙ omega arith in
-            n (sym (rw y at (newest-mine w₀ p (keyAt w₀ p m) m (rw y o))) ∙ newest-mine w₀ p k m o))
+          let y : newest (keyAt w₀ p m) m ≡ newest k m = sym chain-is ∙ e ∙ omega arith in
+          n (sym (rw y at (newest-mine w₀ p (keyAt w₀ p m) m (rw y o))) ∙ newest-mine w₀ p k m o))
           ∙ (rw z at (v .early k (rw z o)))
 
       spreading-step : length u ≡ length w → Spreading w₀ p u m
@@ -148,8 +148,8 @@ module _ (w₀ : List ℕ) (p : Plan) (w : List ℕ) where
         front = front-then (4 * p .held) u w w₀ (t .front) (v .front);
         early = λ k o. splitK (keyAt w₀ p m) k (λ e. rw (← e) (early-own (rw e o))) (λ n. early-other k n o);
         late = λ i a b.
-          t .kept i (λ e. omega (arith, chain-is, low))
-          ∙ split≡ i m (λ e. rw e own) (λ n. v .late i (omega arith) b);
+            t .kept i (λ e. omega (arith, chain-is, low))
+            ∙ split≡ i m (λ e. rw e own) (λ n. v .late i (omega arith) b);
       }
 
   module _ (i : ℕ) (o : 0 < i) (v : Spreading w₀ p w i) where
