@@ -3,8 +3,6 @@
 //
 // data/GROUP.bin is what `compare sample GROUP FILE` writes: the answers of the source that was ported to the calls of a
 // group. compare/README.md says how to make it again, and how the file is laid out.
-mod sample;
-
 ghost use mathlib.Core.Path.{_≡_};
 ghost use Prim.Native.Nat.{_≤_, _<_};
 ghost use lib.ListN.{length};
@@ -20,35 +18,35 @@ fn room() -> [u8; 262144]
 // The number where no call is run: no answer has it.
 const NO_CALL: u32 = 4294967295;
 
-fn run_codec(s: &[u8], c: sample::Call, out: &mut [u8], values: &mut [u64]) -> u32 {
-    let input = sample::part(s, c.first, c.first_size);
+fn run_codec(s: &[u8], c: samples::Call, out: &mut [u8], values: &mut [u64]) -> u32 {
+    let input = samples::part(s, c.first, c.first_size);
     if c.op == 1 {
         return lumbryth::lumbryth_unpack(input, out, values);
     }
-    let kind = sample::byte(s, c.numbers);
-    let seq = sample::byte(s, sample::sum(c.numbers, 1));
+    let kind = samples::byte(s, c.numbers);
+    let seq = samples::byte(s, samples::sum(c.numbers, 1));
     lumbryth::lumbryth_pack(kind, seq, input, out, values)
 }
 
-fn run_names(s: &[u8], c: sample::Call, out: &mut [u8], values: &mut [u64]) -> u32 {
-    let input = sample::part(s, c.first, c.first_size);
+fn run_names(s: &[u8], c: samples::Call, out: &mut [u8], values: &mut [u64]) -> u32 {
+    let input = samples::part(s, c.first, c.first_size);
     if c.op == 4 {
         return lumbryth::lumbryth_is_command_name(input);
     }
-    let ms = sample::long(s, c.numbers);
-    let counter = sample::word(s, sample::sum(c.numbers, 8));
-    let way = sample::byte(s, sample::sum(c.numbers, 12));
+    let ms = samples::long(s, c.numbers);
+    let counter = samples::word(s, samples::sum(c.numbers, 8));
+    let way = samples::byte(s, samples::sum(c.numbers, 12));
     lumbryth::lumbryth_fixture_name(ms, counter, way, input, out, values)
 }
 
-fn run_plan(s: &[u8], c: sample::Call, out: &mut [u8], values: &mut [u64]) -> u32 {
-    let spans = sample::part(s, c.first, c.first_size);
-    let excluded = sample::part(s, c.second, c.second_size);
+fn run_plan(s: &[u8], c: samples::Call, out: &mut [u8], values: &mut [u64]) -> u32 {
+    let spans = samples::part(s, c.first, c.first_size);
+    let excluded = samples::part(s, c.second, c.second_size);
     lumbryth::lumbryth_plan(spans, excluded, out, values)
 }
 
-fn run_order(s: &[u8], c: sample::Call, out: &mut [u8], values: &mut [u64]) -> u32 {
-    let names = sample::part(s, c.first, c.first_size);
+fn run_order(s: &[u8], c: samples::Call, out: &mut [u8], values: &mut [u64]) -> u32 {
+    let names = samples::part(s, c.first, c.first_size);
     lumbryth::lumbryth_capture_order(names, out, values)
 }
 
@@ -69,13 +67,13 @@ fn import(
 // The work lent is 8 times the file's length, with what earlier cases left in it: no answer depends on that.
 fn run_import(
     s: &[u8],
-    c: sample::Call,
+    c: samples::Call,
     work: &mut [u8],
     out: &mut [u8],
     values: &mut [u64],
 ) -> u32 {
-    let file = sample::part(s, c.first, c.first_size);
-    let channel = sample::word(s, c.numbers);
+    let file = samples::part(s, c.first, c.first_size);
+    let channel = samples::word(s, c.numbers);
     let n = file.len();
     if work.len() / 8 < n {
         return NO_CALL;
@@ -83,7 +81,7 @@ fn run_import(
     import(c.op == 8, file, &mut work[..8 * n], out, channel, values)
 }
 
-fn run(s: &[u8], c: sample::Call, work: &mut [u8], out: &mut [u8], values: &mut [u64]) -> u32 {
+fn run(s: &[u8], c: samples::Call, work: &mut [u8], out: &mut [u8], values: &mut [u64]) -> u32 {
     let op = c.op;
     match op {
         1 | 2 => run_codec(s, c, out, values),
@@ -95,16 +93,16 @@ fn run(s: &[u8], c: sample::Call, work: &mut [u8], out: &mut [u8], values: &mut 
     }
 }
 
-fn is_same(s: &[u8], c: sample::Call, a: sample::Answer, work: &mut [u8], out: &mut [u8]) -> bool {
-    sample::fill(out);
-    let mut values = [sample::UNTOUCHED; 8];
+fn is_same(s: &[u8], c: samples::Call, a: samples::Answer, work: &mut [u8], out: &mut [u8]) -> bool {
+    samples::fill(out);
+    let mut values = [samples::UNTOUCHED; 8];
     if run(s, c, work, out, &mut values) != a.number {
         return false;
     }
-    if !sample::has_values(s, a.values, a.count, &values) {
+    if !samples::has_values(s, a.values, a.count, &values) {
         return false;
     }
-    sample::has_output(sample::part(s, a.output, a.size), out)
+    samples::has_output(samples::part(s, a.output, a.size), out)
 }
 
 // Whether a case's call answers what the case says, and the place after the case.
@@ -114,8 +112,8 @@ struct Replayed {
 }
 
 fn replay_case(s: &[u8], at: usize, work: &mut [u8], space: &mut [u8]) -> Replayed {
-    let c = sample::read_call(s, at);
-    let a = sample::read_answer(s, c.end);
+    let c = samples::read_call(s, at);
+    let a = samples::read_answer(s, c.end);
     let end = a.end;
     let lent = a.lent;
     if s.len() < end {
@@ -179,7 +177,7 @@ fn stem(name: &[u8]) -> usize {
 }
 
 fn print(name: &[u8], t: Totals) {
-    io::write_all(STDOUT_FILENO, sample::part(name, 0, stem(name)));
+    io::write_all(STDOUT_FILENO, samples::part(name, 0, stem(name)));
     io::write_all(STDOUT_FILENO, b": ");
     io::print_decimal(STDOUT_FILENO, t.cases);
     io::write_all(STDOUT_FILENO, b" cases replayed, ");

@@ -1,19 +1,19 @@
 // Reads the cases of a sample. What lies past the end of the file reads as 0. A case is whole if its end lies in the file.
 
 // The sum, or the largest number if the sum is larger.
-pub(crate) fn sum(a: usize, b: usize) -> usize {
+pub fn sum(a: usize, b: usize) -> usize {
     if usize::MAX - b < a {
         return usize::MAX;
     }
     a + b
 }
 
-pub(crate) fn byte(s: &[u8], at: usize) -> u8 {
+pub fn byte(s: &[u8], at: usize) -> u8 {
     if at < s.len() { s[at] } else { 0 }
 }
 
 // The 32-bit number at a place.
-pub(crate) fn word(s: &[u8], at: usize) -> u32 {
+pub fn word(s: &[u8], at: usize) -> u32 {
     let n = s.len();
     if n < 4 {
         return 0;
@@ -25,7 +25,7 @@ pub(crate) fn word(s: &[u8], at: usize) -> u32 {
 }
 
 // The 64-bit number at a place.
-pub(crate) fn long(s: &[u8], at: usize) -> u64 {
+pub fn long(s: &[u8], at: usize) -> u64 {
     let n = s.len();
     if n < 8 {
         return 0;
@@ -37,7 +37,7 @@ pub(crate) fn long(s: &[u8], at: usize) -> u64 {
 }
 
 // So many bytes at a place, or none if they are not all there.
-pub(crate) fn part(s: &[u8], at: usize, size: usize) -> &[u8] {
+pub fn part(s: &[u8], at: usize, size: usize) -> &[u8] {
     let end = sum(at, size);
     if s.len() < end {
         return &s[0..0];
@@ -100,7 +100,7 @@ fn read_second(s: &[u8], op: u8, at: usize) -> Counted {
     }
 }
 
-pub(crate) fn read_call(s: &[u8], at: usize) -> Call {
+pub fn read_call(s: &[u8], at: usize) -> Call {
     let op = byte(s, at);
     let numbers = sum(at, 1);
     let first = read_counted(s, sum(numbers, numbers_size(op)));
@@ -134,7 +134,7 @@ fn value_bytes(count: u8) -> usize {
     8 * words::wide(count)
 }
 
-pub(crate) fn read_answer(s: &[u8], at: usize) -> Answer {
+pub fn read_answer(s: &[u8], at: usize) -> Answer {
     let count = byte(s, sum(at, 8));
     let values = sum(at, 9);
     let output = read_counted(s, sum(values, value_bytes(count)));
@@ -156,7 +156,7 @@ fn untouched(i: usize) -> u8 {
     ((i % 251 + 165) % 256) as u8
 }
 
-pub(crate) fn fill(out: &mut [u8]) {
+pub fn fill(out: &mut [u8]) {
     let mut i: usize = 0;
     while i < out.len() {
         out[i] = untouched(i);
@@ -172,7 +172,7 @@ fn value(s: &[u8], at: usize, is_given: bool) -> u64 {
 }
 
 // Whether the values are those of the file, and the rest of the list is untouched.
-pub(crate) fn has_values(s: &[u8], at: usize, count: usize, values: &[u64]) -> bool {
+pub fn has_values(s: &[u8], at: usize, count: usize, values: &[u64]) -> bool {
     if values.len() < count {
         return false;
     }
@@ -196,7 +196,7 @@ fn output_byte(written: &[u8], i: usize) -> u8 {
 }
 
 // Whether the output starts with the bytes written, and the rest of it is untouched.
-pub(crate) fn has_output(written: &[u8], out: &[u8]) -> bool {
+pub fn has_output(written: &[u8], out: &[u8]) -> bool {
     if out.len() < written.len() {
         return false;
     }
