@@ -15,88 +15,10 @@ fn room() -> [u8; 262144]
     [0u8; 262144]
 }
 
-// The number where no call is run: no answer has it.
-const NO_CALL: u32 = 4294967295;
-
-fn run_codec(s: &[u8], c: samples::Call, out: &mut [u8], values: &mut [u64]) -> u32 {
-    let input = samples::part(s, c.first, c.first_size);
-    if c.op == 1 {
-        return lumbryth::lumbryth_unpack(input, out, values);
-    }
-    let kind = samples::byte(s, c.numbers);
-    let seq = samples::byte(s, samples::sum(c.numbers, 1));
-    lumbryth::lumbryth_pack(kind, seq, input, out, values)
-}
-
-fn run_names(s: &[u8], c: samples::Call, out: &mut [u8], values: &mut [u64]) -> u32 {
-    let input = samples::part(s, c.first, c.first_size);
-    if c.op == 4 {
-        return lumbryth::lumbryth_is_command_name(input);
-    }
-    let ms = samples::long(s, c.numbers);
-    let counter = samples::word(s, samples::sum(c.numbers, 8));
-    let way = samples::byte(s, samples::sum(c.numbers, 12));
-    lumbryth::lumbryth_fixture_name(ms, counter, way, input, out, values)
-}
-
-fn run_plan(s: &[u8], c: samples::Call, out: &mut [u8], values: &mut [u64]) -> u32 {
-    let spans = samples::part(s, c.first, c.first_size);
-    let excluded = samples::part(s, c.second, c.second_size);
-    lumbryth::lumbryth_plan(spans, excluded, out, values)
-}
-
-fn run_order(s: &[u8], c: samples::Call, out: &mut [u8], values: &mut [u64]) -> u32 {
-    let names = samples::part(s, c.first, c.first_size);
-    lumbryth::lumbryth_capture_order(names, out, values)
-}
-
-fn import(
-    tolerant: bool,
-    file: &[u8],
-    work: &mut [u8],
-    out: &mut [u8],
-    channel: u32,
-    values: &mut [u64],
-) -> u32 {
-    if tolerant {
-        return lumbryth::lumbryth_import(file, work, out, channel, 1, values);
-    }
-    lumbryth::lumbryth_import_strict(file, work, out, channel, values)
-}
-
-// The work lent is 8 times the file's length, with what earlier cases left in it: no answer depends on that.
-fn run_import(
-    s: &[u8],
-    c: samples::Call,
-    work: &mut [u8],
-    out: &mut [u8],
-    values: &mut [u64],
-) -> u32 {
-    let file = samples::part(s, c.first, c.first_size);
-    let channel = samples::word(s, c.numbers);
-    let n = file.len();
-    if work.len() / 8 < n {
-        return NO_CALL;
-    }
-    import(c.op == 8, file, &mut work[..8 * n], out, channel, values)
-}
-
-fn run(s: &[u8], c: samples::Call, work: &mut [u8], out: &mut [u8], values: &mut [u64]) -> u32 {
-    let op = c.op;
-    match op {
-        1 | 2 => run_codec(s, c, out, values),
-        3 | 4 => run_names(s, c, out, values),
-        5 => run_plan(s, c, out, values),
-        6 => run_order(s, c, out, values),
-        7 | 8 => run_import(s, c, work, out, values),
-        _ => NO_CALL,
-    }
-}
-
 fn is_same(s: &[u8], c: samples::Call, a: samples::Answer, work: &mut [u8], out: &mut [u8]) -> bool {
     samples::fill(out);
     let mut values = [samples::UNTOUCHED; 8];
-    if run(s, c, work, out, &mut values) != a.number {
+    if rerun::run(s, c, work, out, &mut values) != a.number {
         return false;
     }
     if !samples::has_values(s, a.values, a.count, &values) {

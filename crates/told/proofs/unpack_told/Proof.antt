@@ -1,7 +1,7 @@
 use Rattle.telling.proofs.TellLaws.{calls}
 use borrow.Author.Needs.{needs}
-use Rattle.lumbryth.proofs.lumbryth_unpack.Statement.{statement}
-use Rattle.lumbryth.proofs.lumbryth_unpack.Tie as tie
+use Rattle.told.proofs.unpack_told.Statement.{statement}
+use Rattle.told.proofs.unpack_told.Tie as tie
 
 unpack-requires : tie.Need-unpack-requires
 unpack-requires c κs = search needs
@@ -21,8 +21,8 @@ same-length-2 c = search needs
 returns : tie.Need-returns
 returns c = search calls
 
-pub lumbryth-unpack-spec : {M : Type 1} → statement M
-lumbryth-unpack-spec =
+pub unpack-told-spec : {M : Type 1} → statement M
+unpack-told-spec =
     tie.close
     (tie.spec
     unpack-requires

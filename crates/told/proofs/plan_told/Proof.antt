@@ -1,7 +1,7 @@
 use Rattle.telling.proofs.TellLaws.{calls}
 use borrow.Author.Needs.{needs}
-use Rattle.lumbryth.proofs.lumbryth_plan.Statement.{statement}
-use Rattle.lumbryth.proofs.lumbryth_plan.Tie as tie
+use Rattle.told.proofs.plan_told.Statement.{statement}
+use Rattle.told.proofs.plan_told.Tie as tie
 
 plan-requires : tie.Need-plan-requires
 plan-requires c κs = search needs
@@ -21,7 +21,7 @@ same-length-2 c = search needs
 returns : tie.Need-returns
 returns c = search calls
 
-pub lumbryth-plan-spec : {M : Type 1} → statement M
-lumbryth-plan-spec =
+pub plan-told-spec : {M : Type 1} → statement M
+plan-told-spec =
     tie.close
     (tie.spec plan-requires shown-planned-requires tell-requires same-length same-length-2 returns)

@@ -1,7 +1,7 @@
 use Rattle.telling.proofs.TellLaws.{calls}
 use borrow.Author.Needs.{needs}
-use Rattle.lumbryth.proofs.lumbryth_pack.Statement.{statement}
-use Rattle.lumbryth.proofs.lumbryth_pack.Tie as tie
+use Rattle.told.proofs.pack_told.Statement.{statement}
+use Rattle.told.proofs.pack_told.Tie as tie
 
 pack-requires : tie.Need-pack-requires
 pack-requires c κs = search needs
@@ -21,7 +21,7 @@ same-length-2 c = search needs
 returns : tie.Need-returns
 returns c = search calls
 
-pub lumbryth-pack-spec : {M : Type 1} → statement M
-lumbryth-pack-spec =
+pub pack-told-spec : {M : Type 1} → statement M
+pack-told-spec =
     tie.close
     (tie.spec pack-requires shown-packed-requires tell-requires same-length same-length-2 returns)

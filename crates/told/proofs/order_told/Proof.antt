@@ -1,7 +1,7 @@
 use Rattle.telling.proofs.TellLaws.{calls}
 use borrow.Author.Needs.{needs}
-use Rattle.lumbryth.proofs.lumbryth_capture_order.Statement.{statement}
-use Rattle.lumbryth.proofs.lumbryth_capture_order.Tie as tie
+use Rattle.told.proofs.order_told.Statement.{statement}
+use Rattle.told.proofs.order_told.Tie as tie
 
 capture-order-requires : tie.Need-capture-order-requires
 capture-order-requires c κs = search needs
@@ -21,8 +21,8 @@ same-length-2 c = search needs
 returns : tie.Need-returns
 returns c = search calls
 
-pub lumbryth-capture-order-spec : {M : Type 1} → statement M
-lumbryth-capture-order-spec =
+pub order-told-spec : {M : Type 1} → statement M
+order-told-spec =
     tie.close
     (tie.spec
     capture-order-requires

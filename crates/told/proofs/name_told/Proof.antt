@@ -1,10 +1,7 @@
-use Rattle.lumbryth.proofs.ImportLaws.{named-calls}
+use Rattle.telling.proofs.TellLaws.{calls}
 use borrow.Author.Needs.{needs}
-use Rattle.lumbryth.proofs.lumbryth_fixture_name.Statement.{statement}
-use Rattle.lumbryth.proofs.lumbryth_fixture_name.Tie as tie
-
-direction-of-requires : tie.Need-direction-of-requires
-direction-of-requires c κs = search needs
+use Rattle.told.proofs.name_told.Statement.{statement}
+use Rattle.told.proofs.name_told.Tie as tie
 
 fixture-name-requires : tie.Need-fixture-name-requires
 fixture-name-requires c κs = search needs
@@ -22,13 +19,12 @@ same-length-2 : tie.Need-same-length-2
 same-length-2 c = search needs
 
 returns : tie.Need-returns
-returns c = search named-calls
+returns c = search calls
 
-pub lumbryth-fixture-name-spec : {M : Type 1} → statement M
-lumbryth-fixture-name-spec =
+pub name-told-spec : {M : Type 1} → statement M
+name-told-spec =
     tie.close
     (tie.spec
-    direction-of-requires
     fixture-name-requires
     shown-named-requires
     tell-requires
