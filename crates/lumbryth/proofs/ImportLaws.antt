@@ -5,7 +5,6 @@ use mathlib.Core.Bool.{Bool, true, false}
 use mathlib.Core.List.{List}
 use lib.ListN.{length}
 use borrow.Author.Tests.{eq-eqb, ne-eqb}
-use Rattle.laws.specs.Answers.{Meets}
 use Rattle.items.specs.Items.{rxOf}
 use Rattle.items.specs.declared.Direction.{Direction}
 use Rattle.items.specs.declared.Direction.the-variants.{Rx, Tx}
@@ -14,8 +13,6 @@ use Rattle.outcome.specs.Import.{Options, imported}
 use Rattle.capture.specs.Calls.{toldImported, Imports}
 use Rattle.capture.specs.declared.Imported.{Imported}
 use Rattle.names.specs.Names.{fixtureName}
-use Rattle.names.specs.Told.{toldNamed}
-use Rattle.names.specs.declared.Named.{Named}
 use Rattle.telling.specs.Telling.{numberOf, valuesOf, Calls, Shows, Tells}
 use Rattle.telling.specs.declared.Shown.{Shown}
 use Rattle.telling.proofs.TellLaws.{calls}
@@ -39,10 +36,9 @@ bit-false b t e q = rw (sym e ∙ q)
 
 -- a name's direction by number
 pub named-calls :
-    (ms counter way : ℕ) (d : Direction) → rxOf d ≡ wayOf way → (wire out : List ℕ) (n : Named) (out′ : List ℕ) → Meets (fixtureName ms counter (rxOf d) wire) out (toldNamed n) out′ →
-    (s : Shown) → Shows (numberOf (toldNamed n)) (valuesOf (toldNamed n)) s → (v : List ℕ) (r : ℕ) (v′ : List ℕ) → Tells s v r v′ →
+    (ms counter way : ℕ) (d : Direction) → rxOf d ≡ wayOf way → (wire out out′ v : List ℕ) (r : ℕ) (v′ : List ℕ) → Calls (fixtureName ms counter (rxOf d) wire) out out′ v r v′ →
     Calls (fixtureName ms counter (wayOf way) wire) out out′ v r v′
-named-calls ms counter way d e wire out n out′ m s p v r v′ t = rw (sym e) (calls (fixtureName ms counter (rxOf d) wire) out (toldNamed n) out′ m s p v r v′ t)
+named-calls ms counter way d e wire out out′ v r v′ t = rw (sym e) t
 
 -- ---- import
 

@@ -16,21 +16,19 @@ use imports::import_told;
 use imports::options_in;
 use imports::shown_imported;
 use telling::shown_listed;
-use telling::shown_named;
-use telling::shown_ordered;
-use telling::shown_packed;
-use telling::shown_planned;
-use telling::shown_unpacked;
 use telling::tell;
+use told::name_told;
+use told::order_told;
+use told::pack_told;
+use told::plan_told;
+use told::unpack_told;
 
 // Reads one frame, and writes its payload to the front of out. Values: type, sequence number, payload length.
 #[no_mangle]
 pub extern "C" fn lumbryth_unpack(wire: &[u8], out: &mut [u8], values: &mut [u64]) -> u32
     ensures { λ r. ⌜ Calls (unpackOf (now (wire .entry))) (now (out .entry)) (now (out .exit)) (now (values .entry)) r (now (values .exit)) ⌝ }
 {
-    let u = unpacking::unpack(wire, out);
-    let s = shown_unpacked(u);
-    tell(s, values)
+    unpack_told(wire, out, values)
 }
 
 // Writes a frame to the front of out. Value: the wire's length.
@@ -44,9 +42,7 @@ pub extern "C" fn lumbryth_pack(
 ) -> u32
     ensures { λ r. ⌜ Calls (packOf kind seq (now (payload .entry))) (now (out .entry)) (now (out .exit)) (now (values .entry)) r (now (values .exit)) ⌝ }
 {
-    let p = packing::pack(kind, seq, payload, out);
-    let s = shown_packed(p);
-    tell(s, values)
+    pack_told(kind, seq, payload, out, values)
 }
 
 // Which way a frame went, by number: 1 is Rx, any other Tx.
@@ -72,9 +68,7 @@ pub extern "C" fn lumbryth_fixture_name(
     ensures { λ r. ⌜ Calls (fixtureName ms counter (wayOf way) (now (wire .entry))) (now (out .entry)) (now (out .exit)) (now (values .entry)) r (now (values .exit)) ⌝ }
 {
     let direction = direction_of(way);
-    let n = names::fixture_name(ms, counter, direction, wire, out);
-    let s = shown_named(n);
-    tell(s, values)
+    name_told(ms, counter, direction, wire, out, values)
 }
 
 // 1 if either table has the name, else 0.
@@ -98,9 +92,7 @@ pub extern "C" fn lumbryth_plan(
 ) -> u32
     ensures { λ r. ⌜ Calls (planOf (now (spans .entry)) (now (excluded .entry))) (now (out .entry)) (now (out .exit)) (now (values .entry)) r (now (values .exit)) ⌝ }
 {
-    let p = fixtures::plan(spans, excluded, out);
-    let s = shown_planned(p);
-    tell(s, values)
+    plan_told(spans, excluded, out, values)
 }
 
 // Writes a list of names in the order of their frames to the front of out. Value: its length.
@@ -108,9 +100,7 @@ pub extern "C" fn lumbryth_plan(
 pub extern "C" fn lumbryth_capture_order(names: &[u8], out: &mut [u8], values: &mut [u64]) -> u32
     ensures { λ r. ⌜ Calls (captureOrder (now (names .entry))) (now (out .entry)) (now (out .exit)) (now (values .entry)) r (now (values .exit)) ⌝ }
 {
-    let o = order::capture_order(names, out);
-    let s = shown_ordered(o);
-    tell(s, values)
+    order_told(names, out, values)
 }
 
 // Imports a trace: writes the list of the spans of one DLCI to the front of out. The options are a list of numbers: a channel,

@@ -3,8 +3,6 @@
 //
 // data/GROUP.bin is what `compare sample GROUP FILE` writes: the answers of the source that was ported to the calls of a
 // group. compare/README.md says how to make it again, and how the file is laid out.
-mod sample;
-
 ghost use mathlib.Core.Path.{_≡_};
 ghost use Prim.Native.Nat.{_≤_, _<_};
 ghost use lib.ListN.{length};
@@ -17,94 +15,16 @@ fn room() -> [u8; 262144]
     [0u8; 262144]
 }
 
-// The number where no call is run: no answer has it.
-const NO_CALL: u32 = 4294967295;
-
-fn run_codec(s: &[u8], c: sample::Call, out: &mut [u8], values: &mut [u64]) -> u32 {
-    let input = sample::part(s, c.first, c.first_size);
-    if c.op == 1 {
-        return lumbryth::lumbryth_unpack(input, out, values);
-    }
-    let kind = sample::byte(s, c.numbers);
-    let seq = sample::byte(s, sample::sum(c.numbers, 1));
-    lumbryth::lumbryth_pack(kind, seq, input, out, values)
-}
-
-fn run_names(s: &[u8], c: sample::Call, out: &mut [u8], values: &mut [u64]) -> u32 {
-    let input = sample::part(s, c.first, c.first_size);
-    if c.op == 4 {
-        return lumbryth::lumbryth_is_command_name(input);
-    }
-    let ms = sample::long(s, c.numbers);
-    let counter = sample::word(s, sample::sum(c.numbers, 8));
-    let way = sample::byte(s, sample::sum(c.numbers, 12));
-    lumbryth::lumbryth_fixture_name(ms, counter, way, input, out, values)
-}
-
-fn run_plan(s: &[u8], c: sample::Call, out: &mut [u8], values: &mut [u64]) -> u32 {
-    let spans = sample::part(s, c.first, c.first_size);
-    let excluded = sample::part(s, c.second, c.second_size);
-    lumbryth::lumbryth_plan(spans, excluded, out, values)
-}
-
-fn run_order(s: &[u8], c: sample::Call, out: &mut [u8], values: &mut [u64]) -> u32 {
-    let names = sample::part(s, c.first, c.first_size);
-    lumbryth::lumbryth_capture_order(names, out, values)
-}
-
-fn import(
-    tolerant: bool,
-    file: &[u8],
-    work: &mut [u8],
-    out: &mut [u8],
-    channel: u32,
-    values: &mut [u64],
-) -> u32 {
-    if tolerant {
-        return lumbryth::lumbryth_import(file, work, out, channel, 1, values);
-    }
-    lumbryth::lumbryth_import_strict(file, work, out, channel, values)
-}
-
-// The work lent is 8 times the file's length, with what earlier cases left in it: no answer depends on that.
-fn run_import(
-    s: &[u8],
-    c: sample::Call,
-    work: &mut [u8],
-    out: &mut [u8],
-    values: &mut [u64],
-) -> u32 {
-    let file = sample::part(s, c.first, c.first_size);
-    let channel = sample::word(s, c.numbers);
-    let n = file.len();
-    if work.len() / 8 < n {
-        return NO_CALL;
-    }
-    import(c.op == 8, file, &mut work[..8 * n], out, channel, values)
-}
-
-fn run(s: &[u8], c: sample::Call, work: &mut [u8], out: &mut [u8], values: &mut [u64]) -> u32 {
-    let op = c.op;
-    match op {
-        1 | 2 => run_codec(s, c, out, values),
-        3 | 4 => run_names(s, c, out, values),
-        5 => run_plan(s, c, out, values),
-        6 => run_order(s, c, out, values),
-        7 | 8 => run_import(s, c, work, out, values),
-        _ => NO_CALL,
-    }
-}
-
-fn is_same(s: &[u8], c: sample::Call, a: sample::Answer, work: &mut [u8], out: &mut [u8]) -> bool {
-    sample::fill(out);
-    let mut values = [sample::UNTOUCHED; 8];
-    if run(s, c, work, out, &mut values) != a.number {
+fn is_same(s: &[u8], c: samples::Call, a: samples::Answer, work: &mut [u8], out: &mut [u8]) -> bool {
+    samples::fill(out);
+    let mut values = [samples::UNTOUCHED; 8];
+    if rerun::run(s, c, work, out, &mut values) != a.number {
         return false;
     }
-    if !sample::has_values(s, a.values, a.count, &values) {
+    if !samples::has_values(s, a.values, a.count, &values) {
         return false;
     }
-    sample::has_output(sample::part(s, a.output, a.size), out)
+    samples::has_output(samples::part(s, a.output, a.size), out)
 }
 
 // Whether a case's call answers what the case says, and the place after the case.
@@ -114,8 +34,8 @@ struct Replayed {
 }
 
 fn replay_case(s: &[u8], at: usize, work: &mut [u8], space: &mut [u8]) -> Replayed {
-    let c = sample::read_call(s, at);
-    let a = sample::read_answer(s, c.end);
+    let c = samples::read_call(s, at);
+    let a = samples::read_answer(s, c.end);
     let end = a.end;
     let lent = a.lent;
     if s.len() < end {
@@ -179,7 +99,7 @@ fn stem(name: &[u8]) -> usize {
 }
 
 fn print(name: &[u8], t: Totals) {
-    io::write_all(STDOUT_FILENO, sample::part(name, 0, stem(name)));
+    io::write_all(STDOUT_FILENO, samples::part(name, 0, stem(name)));
     io::write_all(STDOUT_FILENO, b": ");
     io::print_decimal(STDOUT_FILENO, t.cases);
     io::write_all(STDOUT_FILENO, b" cases replayed, ");

@@ -6,11 +6,10 @@ use mathlib.Core.List.{List, [], _∷_, _++_, append-nil, map}
 use native.Mathlib.Omega.{arith}
 use native.Mathlib.Numerals.{add-one}
 use lib.ListN.{length}
-use lib.Dec.{eqb, ltb}
+use lib.Dec.{eqb}
 use borrow.Author.Tests.{eq-eqb, ne-eqb}
 use Rattle.laws.specs.Keys.{Key, eqK}
 use Rattle.laws.specs.Keyed.{step, run, after}
-use Rattle.laws.specs.Count.{count, nub}
 use Rattle.words.specs.Front.{Front}
 use Rattle.rfcomm.specs.Pieces.{Piece}
 use Rattle.rfcomm.specs.PieceTable.{pieceAt, piecesFrom}
@@ -18,7 +17,7 @@ use Rattle.spans.specs.Scan.{spansOf}
 use Rattle.spans.specs.Spans.{scanner, emptied, onDlci}
 use Rattle.spans.specs.Parts.{tagged}
 use Rattle.split.specs.Last.{lastn}
-use Rattle.split.specs.Rows.{piece, dlciAt, tailAt, keyAt, heldIn, streamOf, opened, Fits, joined, ahead, keysTo, liveTo, Laid}
+use Rattle.split.specs.Rows.{piece, dlciAt, tailAt, keyAt, heldIn, streamOf, opened, Fits, joined, ahead, Laid}
 use Rattle.split.proofs.Fronts.{table-front}
 use Rattle.split.specs.declared.Plan.{Plan}
 use Rattle.split.proofs.Lasts.{lastn-zero}
@@ -69,7 +68,7 @@ module _ (f w : List ℕ) (p : Plan) (i : ℕ) (h : i < p .n) (d : dlciAt w p i 
   unfolding piecesFrom onDlci pieceAt
   ahead-skip = let z : p .n - i ≡ suc (p .n - (i + 1)) = omega arith in rw (z, ne-eqb (dlciAt w p i) (p .dlci) d, add-one i)
 
-  held-skip : (k : Key) → heldIn w p (i + 1) (p .dlci ∷ k) ≡ heldIn w p i (p .dlci ∷ k)
+  pub held-skip : (k : Key) → heldIn w p (i + 1) (p .dlci ∷ k) ≡ heldIn w p i (p .dlci ∷ k)
   unfolding heldIn eqK keyAt
   held-skip k = rw (add-one i, ne-eqb (dlciAt w p i) (p .dlci) d)
 
@@ -83,11 +82,3 @@ module _ (f w : List ℕ) (p : Plan) (i : ℕ) (h : i < p .n) (d : dlciAt w p i 
 
   pub fits-skip : Fits f w p i → Fits f w p (i + 1)
   fits-skip x = record { at = λ k. rw (held-skip k, stream-skip k) (x .at k) }
-
-  pub keys-skip : keysTo w p (i + 1) ≡ keysTo w p i
-  unfolding keysTo
-  keys-skip = rw (add-one i, ne-eqb (dlciAt w p i) (p .dlci) d)
-
-  pub live-skip : liveTo w p (i + 1) ≡ liveTo w p i
-  unfolding liveTo
-  live-skip = rw (keys-skip, fun-ext (λ k. ap (λ (n : ℕ). ltb 0 n) (held-skip k)))

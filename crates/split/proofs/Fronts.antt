@@ -11,7 +11,7 @@ use Rattle.words.proofs.Front.{front-word}
 use Rattle.rfcomm.specs.Pieces.{Piece}
 use Rattle.rfcomm.specs.PieceTable.{pieceAt, piecesFrom, infosOf}
 use Rattle.rfcomm.proofs.PieceRows.{piece-front, pieces-front, infos-front, within-front}
-use Rattle.split.specs.Rows.{rowOf, piece, dlciAt, tailAt, keyAt, lenAt, bytesAt, streamOf, heldIn, keysTo, newestOf, Linked, Laid}
+use Rattle.split.specs.Rows.{rowOf, piece, dlciAt, tailAt, keyAt, lenAt, bytesAt, streamOf, heldIn, newestOf, Linked, Laid}
 use Rattle.split.specs.declared.Plan.{Plan}
 
 module _ (f u w : List ℕ) (p : Plan) (l : Laid f w p) (s : Front (4 * p .held) u w) where
@@ -45,11 +45,6 @@ module _ (f u w : List ℕ) (p : Plan) (l : Laid f w p) (s : Front (4 * p .held)
   unfolding streamOf
   stream-front zero k h = refl
   stream-front (suc i) k h = rw (stream-front i k (omega arith), key-front i (omega arith), bytes-front i (omega arith))
-
-  pub keys-front : (i : ℕ) → i ≤ p .n → keysTo u p i ≡ keysTo w p i
-  unfolding keysTo
-  keys-front zero h = refl
-  keys-front (suc i) h = rw (dlci-front i (omega arith), tail-front i (omega arith), keys-front i (omega arith))
 
   -- with the lengths held before i also the same
   pub held-front : (i : ℕ) (k : Key) → i ≤ p .n → ((j : ℕ) → j < i → word u (p .held + j) ≡ word w (p .held + j)) → heldIn u p i k ≡ heldIn w p i k

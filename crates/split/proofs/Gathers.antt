@@ -6,16 +6,15 @@ use mathlib.Core.List.{List, [], _∷_, _++_}
 use mathlib.Core.Logic.{_≢_}
 use native.Mathlib.Omega.{arith}
 use lib.ListN.{length, getD, set, take, drop, length-append, length-drop, length-set}
-use lib.Seq.{sets, length-sets, length-take-le, take-all, drop-drop, drop-cons, getD-set-other}
+use lib.Seq.{sets, length-sets, take-all, drop-drop, drop-cons, getD-set-other}
 use Rattle.laws.proofs.Choice.{split≡}
 use Rattle.laws.specs.Keys.{Key}
-use Rattle.laws.specs.Stores.{Writes}
 use Rattle.words.specs.Front.{Front}
 use Rattle.words.proofs.Front.{front-refl, front-then, front-sets, part-take}
 use Rattle.rfcomm.specs.PieceTable.{infosOf}
 use Rattle.split.specs.Last.{lastn}
 use Rattle.split.specs.Rows.{keyAt, lenAt, startAt, inWork, bytesAt, streamOf, streamTo, Laid}
-use Rattle.split.specs.Walks.{Row, Chain, Earlier, PutPre, GatherPre, OutPre, GatherOut}
+use Rattle.split.specs.Walks.{Row, Chain, Earlier, PutPre, GatherPre}
 use Rattle.split.proofs.Fronts.{len-front, bytes-front, laid-front}
 use Rattle.split.specs.declared.Plan.{Plan}
 use Rattle.split.proofs.Backs.{sets-back}
@@ -86,18 +85,6 @@ module _ (f w : List ℕ) (p : Plan) (j : ℕ) (t : Bool) (et : t ≡ inWork w p
 
     pub put-file : t ≡ false → (u : List ℕ) → u ≡ sets w to (take (s + skip + m - (s + skip)) (drop (s + skip) f)) → u ≡ sets w to (take m (drop skip (bytesAt f w p j)))
     put-file e u eu = let y : s + skip + m - (s + skip) ≡ m = omega arith in eu ∙ rw (y, part-of skip m (q .part), e, es)
-
--- a part of it, to a place in the output
-module _ (f w : List ℕ) (p : Plan) (j skip m : ℕ) (out : List ℕ) (to : ℕ) (q : OutPre f w p j skip m out to) (x : List ℕ) (ex : x ≡ bytesAt f w p j) where
-  pub out-part : skip + m ≤ length x
-  out-part = omega (arith, q .part, ap length ex, length-bytes f w p (q .laid) j (q .row))
-
-  module _ (y : List ℕ) (ey : y ≡ take m (drop skip x)) where
-    pub out-fits : to + length y ≤ length out
-    out-fits = omega (arith, q .fits, ap length ey, length-take-le m (drop skip x) (omega (arith, length-drop skip x, out-part)))
-
-    pub out-put : (r : ℕ) (u : List ℕ) → Writes out to y r u → u ≡ sets out to (take m (drop skip (bytesAt f w p j)))
-    out-put r u k = k .writes ∙ rw (ey, ex)
 
 -- ---- the walk back: what is left of a key's bytes before piece j, and the piece before it
 
@@ -201,52 +188,3 @@ module _ (f w₀ : List ℕ) (p : Plan) (i h : ℕ) (q : GatherPre f w₀ p i h)
               front = front-then (4 * p .held) u w w₀ (rw eu (front-sets (4 * p .held) (take m (drop (n - m) (bytesAt f w p (j - 1)))) w (p .area + left - m) (omega (arith, q .laid .area)))) (g .front);
               done = back-sets f w₀ p (q .laid) (keyAt w₀ p i) j left below (g .mine) (g .come) z r b₀ n m n₀ em w (p .area) u v ∙ g .done;
             }
-
--- to a place in the output
-pub record Reaching (f w : List ℕ) (p : Plan) (i h : ℕ) (out₀ : List ℕ) (at : ℕ) (out : List ℕ) (j left : ℕ) : Type 0 where
-  pub low : j ≤ i
-  pub most : left ≤ h
-  pub come : left ≤ length (streamOf f w p j (keyAt w p i))
-  pub mine : 0 < j → keyAt w p (j - 1) ≡ keyAt w p i
-  pub long : length out ≡ length out₀
-  pub done : sets out at (lastn left (streamOf f w p j (keyAt w p i))) ≡ sets out₀ at (lastn h (streamTo f w p i))
-
-module _ (f w : List ℕ) (p : Plan) (i h : ℕ) (out₀ : List ℕ) (at : ℕ) (q : GatherOut f w p i h out₀ at) where
-  pub reaching-start : (r : ℕ) → Earlier w p i r → Reaching f w p i h out₀ at out₀ r h
-  reaching-start r b =
-      let s = stream-back f w p i r b in
-      record { low = b .less; most = omega arith; come = rw s at (q .come); mine = b .mine; long = refl; done = rw s }
-
-  module _ (out : List ℕ) (j left : ℕ) (g : Reaching f w p i h out₀ at out j left) where
-    pub reaching-end : left ≤ 0 → out ≡ sets out₀ at (lastn h (streamTo f w p i))
-    reaching-end l = rw (lastn-zero left (streamOf f w p j (keyAt w p i)) (omega arith)) at (g .done)
-
-    under : j ≤ p .n
-    under = omega (arith, g .low, q .row)
-
-    pub reaching-room : at + left ≤ length out
-    reaching-room = omega (arith, g .most, g .long, q .fits)
-
-    module _ (z : 0 < left) where
-      pub reaching-more : 0 < j
-      reaching-more = back-more f w p (q .laid) (keyAt w p i) j left under (g .mine) (g .come) z
-
-      pub reaching-row : Row w p (j - 1)
-      reaching-row = laid-row f w p (j - 1) (q .laid) (omega (arith, reaching-more, under))
-
-      pub reaching-chain : Chain w p (j - 1)
-      reaching-chain = laid-chain f w p (j - 1) (q .laid) (omega (arith, reaching-more, under))
-
-      module _ (n m : ℕ) (en : n ≡ lenAt w p (j - 1)) (em : m ≡ min left n) where
-        pub reaching-put : OutPre f w p (j - 1) (n - m) m out (at + left - m)
-        reaching-put = record { laid = q .laid; row = omega (arith, reaching-more, under); part = omega arith; fits = omega (arith, reaching-room) }
-
-        pub reaching-turn : (r : ℕ) → Earlier w p (j - 1) r → (u : List ℕ) → u ≡ sets out (at + left - m) (take m (drop (n - m) (bytesAt f w p (j - 1)))) → Reaching f w p i h out₀ at u r (left - m)
-        reaching-turn r b u eu = record {
-          low = omega (arith, g .low, b .less);
-          most = omega (arith, g .most);
-          come = back-come f w p (q .laid) (keyAt w p i) j left under (g .mine) (g .come) z r b n m en em;
-          mine = back-mine f w p (q .laid) (keyAt w p i) j left under (g .mine) (g .come) z r b;
-          long = ap length eu ∙ simp length-sets (g .long);
-          done = back-sets f w p (q .laid) (keyAt w p i) j left under (g .mine) (g .come) z r b n m en em out at u eu ∙ g .done;
-        }

@@ -1,11 +1,8 @@
 pub mod Linking
 pub mod Backs
 pub mod Lasts
-pub mod Counts
 pub mod Tables
 pub mod Gathers
 pub mod Steps
 pub mod Aheads
-pub mod Counting
-pub mod Writing
 pub mod Fronts

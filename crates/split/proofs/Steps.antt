@@ -8,33 +8,27 @@ use native.Mathlib.Omega.{arith}
 use native.Mathlib.Numerals.{add-one}
 use lib.ListN.{length, take, drop, length-append}
 use lib.Seq.{sets, length-sets, take-all}
-use lib.Dec.{ltb}
-use borrow.Author.Tests.{eq-eqb}
-use Rattle.laws.proofs.Choice.{split≡}
 use Rattle.laws.specs.Keys.{Key}
 use Rattle.laws.proofs.Keys.{splitK, eq-eqK, ne-eqK}
 use Rattle.laws.specs.Keyed.{step}
 use Rattle.laws.proofs.Stores.{sets-append}
-use Rattle.words.specs.Words.{word, putWord}
-use Rattle.words.proofs.Words.{length-put, word-put-same, word-put-other}
+use Rattle.words.specs.Words.{word}
 use Rattle.words.specs.Front.{Front}
-use Rattle.words.proofs.Front.{front-refl, front-then, front-less, front-put, front-sets, front-word}
+use Rattle.words.proofs.Front.{front-refl, front-sets}
 use Rattle.rfcomm.specs.PieceTable.{infosOf}
 use Rattle.spans.specs.Scan.{restOf, capped}
-use Rattle.search.specs.Seek.{seek}
 use Rattle.spans.specs.Spans.{scanner}
 use Rattle.spans.specs.Bytewise.{AllQuiet}
 use Rattle.spans.proofs.Bytewise.{quiet-scanned}
 use Rattle.spans.proofs.Scans.{rest-le}
 use Rattle.split.specs.Last.{lastn}
-use Rattle.split.specs.Rows.{rowOf, piece, dlciAt, tailAt, keyAt, lenAt, bytesAt, streamOf, heldIn, heldOf, streamTo, opened, Fits, joined, cappedLength, keysTo, liveTo, sign, Laid}
-use Rattle.split.specs.Walks.{Row, PutPre, JoinPre, Joined, Kept, Noted, Told, AllTold, Moved}
-use Rattle.split.proofs.Fronts.{dlci-front, tail-front, key-front, len-front, bytes-front, stream-front, held-front, keys-front, laid-front}
+use Rattle.split.specs.Rows.{rowOf, piece, dlciAt, tailAt, keyAt, lenAt, bytesAt, streamOf, heldIn, heldOf, streamTo, opened, Fits, joined, cappedLength, Laid}
+use Rattle.split.specs.Walks.{PutPre, JoinPre, Joined, Kept, Moved}
+use Rattle.split.proofs.Fronts.{key-front, len-front, bytes-front, stream-front, held-front, laid-front}
 use Rattle.split.specs.declared.Plan.{Plan}
 use Rattle.split.proofs.Backs.{part-sets}
 use Rattle.split.proofs.Lasts.{length-lastn, lastn-lastn, capped-le, capped-back}
-use Rattle.split.proofs.Counts.{again}
-use Rattle.split.proofs.Tables.{piece-key, piece-bytes, stream-mine, stream-other, unseen, length-bytes, stream-infos, infos-mono}
+use Rattle.split.proofs.Tables.{piece-key, piece-bytes, stream-mine, stream-other, length-bytes, stream-infos, infos-mono}
 
 pub own-key : (w : List ℕ) (p : Plan) (i : ℕ) → dlciAt w p i ≡ p .dlci → keyAt w p i ≡ p .dlci ∷ tailAt w p i
 unfolding keyAt
@@ -63,32 +57,6 @@ module _ (f w : List ℕ) (p : Plan) (i : ℕ) (l : Laid f w p) (o : i < p .n) (
 pub kept-own : (w : List ℕ) (p : Plan) (i : ℕ) → Kept w p i w
 kept-own w p i = record { front = front-refl (4 * p .held) w; long = refl; held = λ j h. refl; ends = λ j h. refl }
 
--- stored in v, which is w below the area
-pub kept-over : (f w : List ℕ) (p : Plan) (i : ℕ) → Laid f w p → i < p .n → (v u : List ℕ) → length v ≡ length w → Front (p .area) v w → Kept v p i u → Kept w p i u
-kept-over f w p i l o v u lv s k = record {
-  front = front-then (4 * p .held) u v w (k .front) (front-less (4 * p .held) (p .area) v w (omega (arith, l .ends, l .area)) s);
-  long = k .long ∙ lv;
-  held = λ j h. k .held j h ∙ front-word (p .area) v w (p .held + j) (omega (arith, l .ends, l .area)) s;
-  ends = λ j h. k .ends j h ∙ front-word (p .area) v w (p .ends + j) (omega (arith, l .area)) s;
-}
-
-pub noted-is : (w : List ℕ) (p : Plan) (i : ℕ) → Row w p i → (r e : ℕ) (v u : List ℕ) → v ≡ putWord w (p .held + i) r → u ≡ putWord v (p .ends + i) e → Noted w p i r e u
-noted-is w p i g r e v u ev eu = record {
-  kept = record {
-    front = front-then (4 * p .held) u v w (rw eu (front-put (4 * p .held) v (p .ends + i) e (omega (arith, g .ends)))) (rw ev (front-put (4 * p .held) w (p .held + i) r (omega arith)));
-    long = ap length eu ∙ length-put v (p .ends + i) e ∙ lv;
-    held = λ j h. other (p .held + j) (λ z. omega (arith, g .ends, g .row)) ∙ rw ev (word-put-other w (p .held + i) r (p .held + j) (λ z. omega arith));
-    ends = λ j h. other (p .ends + j) (λ z. omega arith) ∙ rw ev (word-put-other w (p .held + i) r (p .ends + j) (λ z. omega (arith, g .ends, g .row)));
-  };
-  holds = other (p .held + i) (λ z. omega (arith, g .ends, g .row)) ∙ rw ev (word-put-same w (p .held + i) r (omega (arith, g .ends, g .words, g .row)));
-  end = rw eu (word-put-same v (p .ends + i) e (omega (arith, g .words, g .row, lv)));
-} where
-  lv : length v ≡ length w
-  lv = ap length ev ∙ length-put w (p .held + i) r
-
-  other : (j : ℕ) → (p .ends + i ≡ j → ⊥) → word u j ≡ word v j
-  other j n = rw eu (word-put-other v (p .ends + i) e j n)
-
 -- what the words of the pieces before say stays true
 module _ (f u w : List ℕ) (p : Plan) (l : Laid f w p) (i : ℕ) (o : i < p .n) (k : Kept w p i u) where
   held-kept : (j : ℕ) (q : Key) → j ≤ i → heldIn u p j q ≡ heldIn w p j q
@@ -103,17 +71,6 @@ module _ (f u w : List ℕ) (p : Plan) (l : Laid f w p) (i : ℕ) (o : i < p .n)
         stream-front f u w p l (k .front) j (keyAt w p j) (omega arith),
         bytes-front f u w p l (k .front) j (omega arith),
       )
-
-  told-kept : (j : ℕ) → j < i → Told f w p j → Told f u p j
-  told-kept j h t = record {
-    holds = k .held j h ∙ t .holds ∙ rw (joined-kept j (omega arith));
-    end = k .ends j h ∙ t .end ∙ rw (bytes-front f u w p l (k .front) j (omega arith));
-  }
-
-  pub all-told : AllTold f w p i → Told f u p i → AllTold f u p (i + 1)
-  all-told a t = record {
-    at = λ j h e. split≡ j i (λ z. rw z t) (λ z. told-kept j (omega arith) (a .at j (omega arith) (sym (dlci-front f u w p l (k .front) j (omega arith)) ∙ e)));
-  }
 
 -- ---- the step
 
@@ -134,11 +91,11 @@ module _ (f w : List ℕ) (p : Plan) (i : ℕ) (l : Laid f w p) (o : i < p .n) (
   step-key : keyAt u p i ≡ keyAt w p i
   step-key = key-front f u w p l step-front i o
 
-  held-mine : heldIn u p (suc i) (keyAt w p i) ≡ word u (p .held + i)
+  pub held-mine : heldIn u p (suc i) (keyAt w p i) ≡ word u (p .held + i)
   unfolding heldIn
   held-mine = rw (step-key, eq-eqK (keyAt w p i) (keyAt w p i) refl)
 
-  held-other : (k : Key) → k ≢ keyAt w p i → heldIn u p (suc i) k ≡ heldIn w p i k
+  pub held-other : (k : Key) → k ≢ keyAt w p i → heldIn u p (suc i) k ≡ heldIn w p i k
   unfolding heldIn
   held-other k n = rw (step-key, ne-eqK (keyAt w p i) k (λ e. n (sym e)), held-kept f u w p l i o (m .kept) i k (omega arith))
 
@@ -149,8 +106,8 @@ module _ (f w : List ℕ) (p : Plan) (i : ℕ) (l : Laid f w p) (o : i < p .n) (
   stream-else k n = stream-other f u p i k (λ e. n (sym e ∙ step-key)) ∙ stream-front f u w p l step-front i k (omega arith)
 
   module _ (d : dlciAt w p i ≡ p .dlci) where
-    other : (k : Key) → k ≢ tailAt w p i → p .dlci ∷ k ≢ keyAt w p i
-    other k n e = n (let z : p .dlci ∷ k ≡ p .dlci ∷ tailAt w p i = e ∙ own-key w p i d in cc)
+    pub other-key : (k : Key) → k ≢ tailAt w p i → p .dlci ∷ k ≢ keyAt w p i
+    other-key k n e = n (let z : p .dlci ∷ k ≡ p .dlci ∷ tailAt w p i = e ∙ own-key w p i d in cc)
 
     -- the buffer of each key
     step-at : (k : Key) → opened f u p (suc i) k ≡ step scanner (opened f w p i) (piece f w p i) k
@@ -159,7 +116,7 @@ module _ (f w : List ℕ) (p : Plan) (i : ℕ) (l : Laid f w p) (o : i < p .n) (
         rw (piece-key f w p i, piece-bytes f w p i)
         (splitK k (tailAt w p i)
         (λ e. rw (e, eq-eqK (tailAt w p i) (tailAt w p i) refl, ← own-key w p i d, held-mine, stream-own) mine)
-        (λ e. rw (ne-eqK k (tailAt w p i) e, held-other (p .dlci ∷ k) (other k e), stream-else (p .dlci ∷ k) (other k e))))
+        (λ e. rw (ne-eqK k (tailAt w p i) e, held-other (p .dlci ∷ k) (other-key k e), stream-else (p .dlci ∷ k) (other-key k e))))
 
     pub moved-opens : opened f u p (i + 1) ≡ step scanner (opened f w p i) (piece f w p i)
     moved-opens = rw (add-one i) (fun-ext step-at)
@@ -172,23 +129,8 @@ module _ (f w : List ℕ) (p : Plan) (i : ℕ) (l : Laid f w p) (o : i < p .n) (
     moved-fits y = record {
       at = λ k. rw (add-one i) (splitK k (tailAt w p i)
           (λ e. rw (e, ← own-key w p i d, held-mine, stream-own, length-append) (omega (arith, step-small, length-joined f w p i l o x, length-bytes f w p l i o)))
-          (λ e. rw (held-other (p .dlci ∷ k) (other k e), stream-else (p .dlci ∷ k) (other k e)) (y .at k)));
+          (λ e. rw (held-other (p .dlci ∷ k) (other-key k e), stream-else (p .dlci ∷ k) (other-key k e)) (y .at k)));
     }
-
-    -- how many keys hold something
-    pub moved-live : liveTo u p (i + 1) + sign (heldOf w p i) ≡ liveTo w p i + sign (word u (p .held + i))
-    unfolding liveTo keysTo sign
-    moved-live =
-        rw (
-          add-one i,
-          dlci-front f u w p l step-front i o,
-          tail-front f u w p l step-front i o,
-          eq-eqb (dlciAt w p i) (p .dlci) d,
-          keys-front f u w p l step-front i (omega arith),
-          ← held-mine,
-          own-key w p i d,
-        )
-        (again (λ k. ltb 0 (heldIn w p i (p .dlci ∷ k))) (λ k. ltb 0 (heldIn u p (suc i) (p .dlci ∷ k))) (tailAt w p i) (λ j n. rw (held-other (p .dlci ∷ j) (other j n))) (keysTo w p i) (λ e. rw (unseen w p i (tailAt w p i) e)))
 
 -- ---- what is joined
 

@@ -7,16 +7,14 @@ use native.Mathlib.Omega.{arith}
 use native.Mathlib.Numerals.{add-one}
 use lib.ListN.{length, take, drop, length-append, length-drop}
 use lib.Seq.{length-take-le}
-use lib.Dec.{eqb}
-use Rattle.laws.proofs.Choice.{splitB, split≡, no-way}
+use Rattle.laws.proofs.Choice.{splitB, split≡}
 use Rattle.laws.specs.Keys.{Key, eqK}
 use Rattle.laws.proofs.Keys.{splitK, eqK-true, eq-eqK, ne-eqK}
-use Rattle.laws.specs.Count.{mem}
 use Rattle.words.specs.Words.{word}
 use Rattle.words.specs.Front.{Front}
 use Rattle.rfcomm.specs.Pieces.{Piece}
 use Rattle.rfcomm.specs.PieceTable.{pieceAt, infosOf}
-use Rattle.split.specs.Rows.{piece, dlciAt, tailAt, keyAt, lenAt, startAt, inWork, bytesAt, streamOf, heldIn, heldOf, keysTo, newestOf, Laid}
+use Rattle.split.specs.Rows.{piece, dlciAt, tailAt, keyAt, lenAt, startAt, inWork, bytesAt, streamOf, heldIn, heldOf, newestOf, Laid}
 use Rattle.split.specs.Walks.{Row, Chain, Earlier}
 use Rattle.split.proofs.Fronts.{key-front, newest-front}
 use Rattle.split.specs.declared.Plan.{Plan}
@@ -99,27 +97,6 @@ module _ (f w : List ℕ) (p : Plan) (i : ℕ) where
 
 pub stream-back : (f w : List ℕ) (p : Plan) (i r : ℕ) → Earlier w p i r → streamOf f w p i (keyAt w p i) ≡ streamOf f w p r (keyAt w p i)
 stream-back f w p i r b = rw (b .newest) (newest-same w p (keyAt w p i) (λ j. streamOf f w p j (keyAt w p i)) (λ j n. stream-other f w p j (keyAt w p i) n) i)
-
--- a key of the DLCI that no piece had holds nothing
-pub unseen : (w : List ℕ) (p : Plan) (i : ℕ) (k : Key) → mem k (keysTo w p i) ≡ false → heldIn w p i (p .dlci ∷ k) ≡ 0
-unfolding keysTo heldIn eqK keyAt mem
-unseen w p zero k e = refl
-unseen w p (suc i) k e =
-    splitB (eqb (dlciAt w p i) (p .dlci))
-    (λ d. let g : mem k (keysTo w p i ++ (tailAt w p i ∷ [])) ≡ false = rw d at e in
-    let n : tailAt w p i ≡ k → ⊥ = λ q. no-way (mem-last (keysTo w p i) (tailAt w p i) k (sym q)) g in
-    rw (d, ne-eqK (tailAt w p i) k n) (unseen w p i k (mem-front (keysTo w p i) (tailAt w p i) k g)))
-    (λ d. rw d (unseen w p i k (rw d at e))) where
-      mem-last : (xs : List Key) (x k : Key) → k ≡ x → mem k (xs ++ (x ∷ [])) ≡ true
-      mem-last [] x k q = rw (eq-eqK k x q)
-      mem-last (y ∷ xs) x k q = rw (mem-last xs x k q) (splitB (eqK k y) (λ e. rw e) (λ e. rw e))
-
-      mem-front : (xs : List Key) (x k : Key) → mem k (xs ++ (x ∷ [])) ≡ false → mem k xs ≡ false
-      mem-front [] x k q = refl
-      mem-front (y ∷ xs) x k q =
-          splitB (eqK k y)
-          (λ e. no-way {b = true} refl (rw e at q))
-          (λ e. rw e (mem-front xs x k (rw e at q)))
 
 -- ---- lengths
 

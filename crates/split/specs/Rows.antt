@@ -5,9 +5,8 @@ use mathlib.Core.Path.{_≡_}
 use mathlib.Core.Bool.{Bool, cond}
 use mathlib.Core.List.{List, [], _∷_, _++_}
 use lib.ListN.{length, take, drop}
-use lib.Dec.{eqb, leb, ltb}
+use lib.Dec.{eqb, leb}
 use Rattle.laws.specs.Keys.{Key, eqK}
-use Rattle.laws.specs.Count.{count, nub}
 use Rattle.words.specs.Words.{word}
 use Rattle.rfcomm.specs.Pieces.{Piece}
 use Rattle.rfcomm.specs.PieceTable.{pieceAt, piecesFrom, infosOf, Within}
@@ -79,24 +78,13 @@ joined f w p i = lastn (heldOf w p i) (streamTo f w p i) ++ bytesAt f w p i
 unfoldable pub cappedLength : ℕ → ℕ
 cappedLength n = cond (leb n 65536) n 0
 
--- ---- the DLCI's pieces from the i-th on, the keys of those before it, and how many of these hold something
+-- ---- the DLCI's pieces from the i-th on, and all of them
 
 abbrev pub ahead : List ℕ → List ℕ → Plan → ℕ → List Piece
 ahead f w p i = onDlci (p .dlci) (piecesFrom f w (p .rows) i (p .n - i))
 
 abbrev pub all : List ℕ → List ℕ → Plan → List Piece
 all f w p = onDlci (p .dlci) (piecesFrom f w (p .rows) 0 (p .n))
-
-unfoldable pub keysTo : List ℕ → Plan → ℕ → List Key
-keysTo w p zero = []
-keysTo w p (suc i) = cond (eqb (dlciAt w p i) (p .dlci)) (keysTo w p i ++ (tailAt w p i ∷ [])) (keysTo w p i)
-
-unfoldable pub liveTo : List ℕ → Plan → ℕ → ℕ
-liveTo w p i = count (λ k. ltb 0 (heldIn w p i (p .dlci ∷ k))) (nub (keysTo w p i))
-
--- 1 if something is held
-unfoldable pub sign : ℕ → ℕ
-sign n = cond (ltb 0 n) 1 0
 
 -- ---- where the tables lie
 

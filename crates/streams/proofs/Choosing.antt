@@ -22,10 +22,10 @@ use Rattle.rfcomm.proofs.PieceRows.{pieces-front}
 use Rattle.spans.specs.Parts.{bit}
 use Rattle.spans.specs.Spans.{spans, unfinished, onDlci}
 use Rattle.split.specs.Rows.{all, tailAt, keyAt, Linked, Laid}
-use Rattle.split.specs.Walks.{CountIs}
 use Rattle.split.proofs.Fronts.{laid-front}
 use Rattle.split.specs.declared.Plan.{Plan}
-use Rattle.split.specs.declared.Sums.{Sums}
+use Rattle.measuring.specs.Counting.{CountIs}
+use Rattle.measuring.specs.declared.Sums.{Sums}
 use Rattle.outcome.specs.Import.{onChannel, first, hasFrame, chosen}
 use Rattle.streams.specs.Streams.{channelOf, planOf, tablePieces, Tabled, Ready, below, streamOf, choiceOf, Chooses}
 use Rattle.streams.specs.declared.Channel.{Channel}

@@ -16,8 +16,9 @@ use Rattle.rfcomm.specs.PieceTable.{infosOf}
 use Rattle.rfcomm.proofs.PieceRows.{pieces-front, infos-front, within-front}
 use Rattle.spans.specs.Spans.{spans, unfinished, onDlci}
 use Rattle.split.specs.Rows.{all}
-use Rattle.split.specs.Walks.{ListPre, LinkRoom, LinkedTo}
+use Rattle.split.specs.Walks.{LinkRoom, LinkedTo}
 use Rattle.split.specs.declared.Plan.{Plan}
+use Rattle.writing.specs.Writing.{ListPre}
 use Rattle.outcome.specs.Import.{chosen, listed, given}
 use Rattle.streams.specs.Streams.{channelOf, planOf, tablePieces, Tabled, Ready, below, streamOf, choiceOf, Chooses, told, Leaves, ListsSpans}
 use Rattle.streams.specs.declared.Channel.{Channel}

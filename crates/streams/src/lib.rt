@@ -4,13 +4,13 @@ ghost use Prim.Native.Nat.{_*_, _/_, _≤_, _<_};
 ghost use lib.ListN.{length, getD, set};
 ghost use Rattle.outcome.specs.Import.{onChannel};
 ghost use Rattle.streams.specs.Streams.{channelOf, planOf, Tabled, Ready, Chooses, ListsSpans};
+use measuring::Sums;
+use measuring::count_spans;
 use spans::Tally;
 use split::Plan;
-use split::Sums;
-use split::count_spans;
 use split::link_pieces;
-use split::write_spans;
 use words::get32;
+use writing::write_spans;
 
 // The channel that is asked for: any, or one.
 pub enum Channel {

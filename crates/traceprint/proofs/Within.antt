@@ -25,6 +25,7 @@ use Rattle.fixtures.specs.declared.Planned.the-variants.{Wrote}
 use Rattle.capture.specs.Calls.{Imports}
 use Rattle.capture.specs.declared.Imported.{Imported}
 use Rattle.capture.specs.declared.Imported.the-variants.{Spans}
+use Rattle.traceprint.specs.Lies.{Lies}
 
 -- ---- an item
 
@@ -99,11 +100,16 @@ imported-last f work o d n u t k w e =
     (λ b. not-given (rw (a, b) at e)))
     (λ a. not-given (rw a at e))
 
-pub import-within : (f work : List ℕ) (o : Options) (out : List ℕ) (r : Imported) (work′ out′ : List ℕ) → Imports f work o out r work′ out′ → (d n u t k : ℕ) → r ≡ Spans d n u t k → k ≤ length out′
-import-within f work o out r work′ out′ i d n u t k e =
-    let g = accepts (imported btsnoop f (length work) o) out (d ∷ n ∷ u ∷ t ∷ k ∷ []) out′ (rw e at (i .meets)) in
+pub import-lies : (f work : List ℕ) (o : Options) (out : List ℕ) (r : Imported) (work′ out′ : List ℕ) → Imports f work o out r work′ out′ → Lies r out′
+import-lies f work o out r work′ out′ i = record {
+  within = λ d n u t k e.
+    (let g = accepts (imported btsnoop f (length work) o) out (d ∷ n ∷ u ∷ t ∷ k ∷ []) out′ (rw e at (i .meets)) in
     let q = imported-last f (length work) o d n u t k (g .bytes) (g .gift) in
-    omega (arith, g .room)
+    omega (arith, g .room));
+}
+
+pub lies-within : (r : Imported) (out : List ℕ) → Lies r out → (d n u t k : ℕ) → r ≡ Spans d n u t k → k ≤ length out
+lies-within r out l = l .within
 
 -- and the last that planning answers
 

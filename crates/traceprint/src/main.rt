@@ -1,5 +1,6 @@
 // Prints a trace: reads standard input, its first 4,096 bytes and no more, and prints the DLCI, frames and unfinished that
 // import gives, then the names of the fixtures, one to a line; or the number of a refusal, with the values it carries.
+ghost use Rattle.traceprint.specs.Lies.{Lies};
 use capture::Imported;
 use capture::Options;
 use capture::Tail;
@@ -79,20 +80,22 @@ fn print_spans(spans: &[u8], dlci: usize, frames: usize, unfinished: usize) {
     }
 }
 
-// What import gives of a trace, strictly and on any channel. 65,536 bytes of work are more than the 8 times 4,096 that
-// it asks, and its list takes less than 8 times the trace.
-fn print_trace(file: &[u8]) {
+// Import of a trace, strictly and on any channel. 65,536 bytes of work are more than the 8 times 4,096 that it asks.
+fn import_any(file: &[u8], spans: &mut [u8]) -> Imported
+    ensures { λ r. ⌜ Lies r (now (spans .exit)) ⌝ }
+{
     let mut work = io::large_buffer();
-    let mut spans = io::large_buffer();
     let options = Options {
         channel: Channel::Any,
         tail: Tail::Strict,
     };
-    let a = import(file, &mut work, &mut spans, options);
+    import(file, &mut work, spans, options)
+}
+
+// Why import gives no spans.
+fn print_refusal(a: Imported) {
     match a {
-        Imported::Spans(dlci, frames, unfinished, _, bytes) => {
-            print_spans(&spans[..bytes], dlci as usize, frames, unfinished)
-        }
+        Imported::Spans(_, _, _, _, _) => {}
         Imported::FileLong => refuse(1),
         Imported::WorkShort => refuse(2),
         Imported::NotBtsnoop => refuse(3),
@@ -101,6 +104,17 @@ fn print_trace(file: &[u8]) {
         Imported::NoStream => refuse(6),
         Imported::OutShort(needed) => refuse_with(7, needed),
     }
+}
+
+// What import gives of a trace. Its list takes less than 8 times the trace.
+fn print_trace(file: &[u8]) {
+    let mut spans = io::large_buffer();
+    let a = import_any(file, &mut spans);
+    let Imported::Spans(dlci, frames, unfinished, _, bytes) = a else {
+        print_refusal(a);
+        return;
+    };
+    print_spans(&spans[..bytes], dlci as usize, frames, unfinished);
 }
 
 fn main() {

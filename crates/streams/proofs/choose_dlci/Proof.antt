@@ -7,7 +7,7 @@ use Rattle.streams.proofs.choose_dlci.Statement.{statement}
 use Rattle.streams.proofs.choose_dlci.Tie as tie
 use Rattle.streams.proofs.choose_dlci.Reads as reads
 use Rattle.streams.proofs.choose_dlci.Lts as lts
-use Rattle.split.proofs.count_spans.Reads as count-spans-reads
+use Rattle.measuring.proofs.count_spans.Reads as count-spans-reads
 use Rattle.streams.proofs.mark.Reads as mark-reads
 use Rattle.streams.proofs.on_channel.Reads as on-channel-reads
 use Rattle.streams.proofs.plan.Reads as plan-reads

@@ -5,7 +5,7 @@ use Rattle.streams.proofs.list_linked.Statement.{statement}
 use Rattle.streams.proofs.list_linked.Tie as tie
 use Rattle.streams.proofs.list_linked.Reads as reads
 use Rattle.streams.proofs.list_linked.Lts as lts
-use Rattle.split.proofs.write_spans.Reads as write-spans-reads
+use Rattle.writing.proofs.write_spans.Reads as write-spans-reads
 use Rattle.streams.proofs.choose_dlci.Reads as choose-dlci-reads
 use Rattle.streams.proofs.plan.Reads as plan-reads
 

@@ -1,0 +1,3 @@
+pub mod Counts
+pub mod Steps
+pub mod Counting

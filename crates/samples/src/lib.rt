@@ -1,0 +1,211 @@
+// Reads the cases of a sample. What lies past the end of the file reads as 0. A case is whole if its end lies in the file.
+
+// The sum, or the largest number if the sum is larger.
+pub fn sum(a: usize, b: usize) -> usize {
+    if usize::MAX - b < a {
+        return usize::MAX;
+    }
+    a + b
+}
+
+pub fn byte(s: &[u8], at: usize) -> u8 {
+    if at < s.len() { s[at] } else { 0 }
+}
+
+// The 32-bit number at a place.
+pub fn word(s: &[u8], at: usize) -> u32 {
+    let n = s.len();
+    if n < 4 {
+        return 0;
+    }
+    if n - 4 < at {
+        return 0;
+    }
+    words::get_le32(s, at)
+}
+
+// The 64-bit number at a place.
+pub fn long(s: &[u8], at: usize) -> u64 {
+    let n = s.len();
+    if n < 8 {
+        return 0;
+    }
+    if n - 8 < at {
+        return 0;
+    }
+    words::get_le64(s, at)
+}
+
+// So many bytes at a place, or none if they are not all there.
+pub fn part(s: &[u8], at: usize, size: usize) -> &[u8] {
+    let end = sum(at, size);
+    if s.len() < end {
+        return &s[0..0];
+    }
+    if end < at {
+        return &s[0..0];
+    }
+    &s[at..end]
+}
+
+// Bytes with their length before them: where they stand, and the place after them.
+struct Counted {
+    start: usize,
+    size: usize,
+    end: usize,
+}
+
+fn read_counted(s: &[u8], at: usize) -> Counted {
+    let start = sum(at, 4);
+    let size = words::wide32(word(s, at));
+    Counted {
+        start,
+        size,
+        end: sum(start, size),
+    }
+}
+
+// A call, and the place after it.
+pub struct Call {
+    pub op: u8,
+    // Where the op's numbers stand.
+    pub numbers: usize,
+    // Where the first input stands, and its length; the same of the second, which is empty where the op has none.
+    pub first: usize,
+    pub first_size: usize,
+    pub second: usize,
+    pub second_size: usize,
+    pub end: usize,
+}
+
+// How many bytes the numbers of an op take.
+fn numbers_size(op: u8) -> usize {
+    match op {
+        1 | 2 => 2,
+        3 => 13,
+        7 | 8 => 4,
+        _ => 0,
+    }
+}
+
+// The second input, which the plan alone has.
+fn read_second(s: &[u8], op: u8, at: usize) -> Counted {
+    if op == 5 {
+        return read_counted(s, at);
+    }
+    Counted {
+        start: at,
+        size: 0,
+        end: at,
+    }
+}
+
+pub fn read_call(s: &[u8], at: usize) -> Call {
+    let op = byte(s, at);
+    let numbers = sum(at, 1);
+    let first = read_counted(s, sum(numbers, numbers_size(op)));
+    let second = read_second(s, op, first.end);
+    Call {
+        op,
+        numbers,
+        first: first.start,
+        first_size: first.size,
+        second: second.start,
+        second_size: second.size,
+        end: second.end,
+    }
+}
+
+// The answer that a call has to give, with so much output lent, and the place after it.
+pub struct Answer {
+    pub lent: usize,
+    pub number: u32,
+    // Where the values stand, and how many there are.
+    pub values: usize,
+    pub count: usize,
+    // Where the output written stands, and its length.
+    pub output: usize,
+    pub size: usize,
+    pub end: usize,
+}
+
+// How many bytes so many values take.
+fn value_bytes(count: u8) -> usize {
+    8 * words::wide(count)
+}
+
+pub fn read_answer(s: &[u8], at: usize) -> Answer {
+    let count = byte(s, sum(at, 8));
+    let values = sum(at, 9);
+    let output = read_counted(s, sum(values, value_bytes(count)));
+    Answer {
+        lent: words::wide32(word(s, at)),
+        number: word(s, sum(at, 4)),
+        values,
+        count: words::wide(count),
+        output: output.start,
+        size: output.size,
+        end: output.end,
+    }
+}
+
+// What stands in the list of values, and at a place of the output, before a call.
+pub const UNTOUCHED: u64 = 0xD15EA5ED0DDBA115;
+
+fn untouched(i: usize) -> u8 {
+    ((i % 251 + 165) % 256) as u8
+}
+
+pub fn fill(out: &mut [u8]) {
+    let mut i: usize = 0;
+    while i < out.len() {
+        out[i] = untouched(i);
+        i += 1;
+    }
+}
+
+fn value(s: &[u8], at: usize, is_given: bool) -> u64 {
+    if is_given {
+        return long(s, at);
+    }
+    UNTOUCHED
+}
+
+// Whether the values are those of the file, and the rest of the list is untouched.
+pub fn has_values(s: &[u8], at: usize, count: usize, values: &[u64]) -> bool {
+    if values.len() < count {
+        return false;
+    }
+    let mut from = at;
+    let mut i: usize = 0;
+    while i < values.len() {
+        if values[i] != value(s, from, i < count) {
+            return false;
+        }
+        from = sum(from, 8);
+        i += 1;
+    }
+    true
+}
+
+fn output_byte(written: &[u8], i: usize) -> u8 {
+    if i < written.len() {
+        return written[i];
+    }
+    untouched(i)
+}
+
+// Whether the output starts with the bytes written, and the rest of it is untouched.
+pub fn has_output(written: &[u8], out: &[u8]) -> bool {
+    if out.len() < written.len() {
+        return false;
+    }
+    let mut i: usize = 0;
+    while i < out.len() {
+        if out[i] != output_byte(written, i) {
+            return false;
+        }
+        i += 1;
+    }
+    true
+}

@@ -1,0 +1,60 @@
+// The calls on frames, names and lists as plain functions: each writes its output, and tells its answer by a number and values.
+ghost use Rattle.fixtures.specs.Plan.{planOf};
+ghost use Rattle.items.specs.Items.{rxOf};
+ghost use Rattle.mdr.specs.Frame.{unpackOf, packOf};
+ghost use Rattle.names.specs.Names.{fixtureName};
+ghost use Rattle.order.specs.Order.{captureOrder};
+ghost use Rattle.telling.specs.Telling.{Calls};
+use telling::shown_named;
+use telling::shown_ordered;
+use telling::shown_packed;
+use telling::shown_planned;
+use telling::shown_unpacked;
+use telling::tell;
+
+pub fn unpack_told(wire: &[u8], out: &mut [u8], values: &mut [u64]) -> u32
+    ensures { λ r. ⌜ Calls (unpackOf (now (wire .entry))) (now (out .entry)) (now (out .exit)) (now (values .entry)) r (now (values .exit)) ⌝ }
+{
+    let u = unpacking::unpack(wire, out);
+    let s = shown_unpacked(u);
+    tell(s, values)
+}
+
+pub fn pack_told(kind: u8, seq: u8, payload: &[u8], out: &mut [u8], values: &mut [u64]) -> u32
+    ensures { λ r. ⌜ Calls (packOf kind seq (now (payload .entry))) (now (out .entry)) (now (out .exit)) (now (values .entry)) r (now (values .exit)) ⌝ }
+{
+    let p = packing::pack(kind, seq, payload, out);
+    let s = shown_packed(p);
+    tell(s, values)
+}
+
+pub fn name_told(
+    ms: u64,
+    counter: u32,
+    direction: items::Direction,
+    wire: &[u8],
+    out: &mut [u8],
+    values: &mut [u64],
+) -> u32
+    ensures { λ r. ⌜ Calls (fixtureName ms counter (rxOf direction) (now (wire .entry))) (now (out .entry)) (now (out .exit)) (now (values .entry)) r (now (values .exit)) ⌝ }
+{
+    let n = names::fixture_name(ms, counter, direction, wire, out);
+    let s = shown_named(n);
+    tell(s, values)
+}
+
+pub fn plan_told(spans: &[u8], excluded: &[u8], out: &mut [u8], values: &mut [u64]) -> u32
+    ensures { λ r. ⌜ Calls (planOf (now (spans .entry)) (now (excluded .entry))) (now (out .entry)) (now (out .exit)) (now (values .entry)) r (now (values .exit)) ⌝ }
+{
+    let p = fixtures::plan(spans, excluded, out);
+    let s = shown_planned(p);
+    tell(s, values)
+}
+
+pub fn order_told(names: &[u8], out: &mut [u8], values: &mut [u64]) -> u32
+    ensures { λ r. ⌜ Calls (captureOrder (now (names .entry))) (now (out .entry)) (now (out .exit)) (now (values .entry)) r (now (values .exit)) ⌝ }
+{
+    let o = order::capture_order(names, out);
+    let s = shown_ordered(o);
+    tell(s, values)
+}
