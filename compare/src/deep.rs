@@ -3,9 +3,9 @@
 //! used most are as long as a file can make them.
 //!
 //! A channel's bits are those of its number, 65,537 times the side (twice the handle, and 1
-//! for Rx) plus the CID; a product of the number says the tree. A buffer's are the same, in turn
-//! with those of DLCI and counts; an open PDU's are those of the side; a count's are those of
-//! 64 times the handle plus the DLCI, and counts have one tree.
+//! for Rx) plus the CID. A buffer's are the same, in turn with those of DLCI and counts; an
+//! open PDU's are those of the side; a count's are those of 64 times the handle plus the DLCI.
+//! A product of the number says the tree.
 
 use crate::hard::{byte, Filler};
 use crate::trace;
@@ -78,18 +78,18 @@ impl Channel {
     fn send(self, filler: &mut Filler, payload: &[u8]) -> bool {
         filler.pdu(direction_of(self.side), handle_of(self.side), self.cid, payload)
     }
+}
 
-    /// Where the number's tree stands among all, of 2^32.
-    fn spread(self) -> u64 {
-        self.number() * 2_654_435_769 % (1 << 32)
-    }
+/// Where a number's tree stands among all, of 2^32.
+fn spread(number: u64) -> u64 {
+    number * 2_654_435_769 % (1 << 32)
+}
 
-    /// A channel of the same tree that begins with so many of the same bits, and not with one more.
-    fn beside(self, bits: u32, trees: u64) -> Option<Channel> {
-        let near = |c: &Channel| self.spread().abs_diff(c.spread()) < (1 << 30) / trees;
-        let numbers = (0..1u64 << (28 - bits)).map(|high| self.number() ^ (2 * high + 1) << bits);
-        numbers.filter_map(Channel::of).find(near)
-    }
+/// Numbers of `width` bits, of the same tree of so many, that begin with `bits` of the same bits
+/// and not with one more.
+fn beside(number: u64, width: u32, bits: u32, trees: u64) -> impl Iterator<Item = u64> {
+    let numbers = (0..1u64 << (width - 1 - bits)).map(move |high| number ^ (2 * high + 1) << bits);
+    numbers.filter(move |n| spread(number).abs_diff(spread(*n)) < (1 << 30) / trees)
 }
 
 /// How many trees the channels of a file of so many bytes have.
@@ -122,7 +122,7 @@ fn sixteen(side: u64, most: usize) -> Vec<Channel> {
     let part = trees(most).min(4096);
     let bits = 12 - part.ilog2();
     let all = (0x40..=u16::MAX).map(|cid| Channel { side, cid });
-    all.filter(|c| c.spread() < (1 << 32) / part && c.number() % (1 << bits) == 0x5A5 % (1 << bits)).collect()
+    all.filter(|c| spread(c.number()) < (1 << 32) / part && c.number() % (1 << bits) == 0x5A5 % (1 << bits)).collect()
 }
 
 /// 16 channels of each side. Few sides are as far apart as they can be: then they begin with
@@ -146,7 +146,8 @@ fn many_channels(most: usize, command: &Command) -> Vec<u8> {
 /// the same tree, without those that are used.
 fn name_beside(filler: &mut Filler, used: &[Channel], trees: u64) {
     for channel in used {
-        for other in (0..29).filter_map(|bits| channel.beside(bits, trees)) {
+        let others = |bits| beside(channel.number(), 29, bits, trees).find_map(Channel::of);
+        for other in (0..29).filter_map(others) {
             if !used.contains(&other) {
                 signal(filler, other.side, &request(other, 0));
             }
@@ -183,9 +184,10 @@ fn many_buffers(most: usize) -> Vec<u8> {
     filler.ended(DLCI)
 }
 
-/// Sides that begin with more and more of the bits of a side, without those that are used.
-fn sides_beside(used: &[Channel]) -> Vec<u64> {
-    let sides = (0..13).map(|bit| used[0].side ^ 1 << bit);
+/// Sides that begin with more and more of the bits of a side, in the same tree, without those
+/// that are used.
+fn sides_beside(used: &[Channel], trees: u64) -> Vec<u64> {
+    let sides = (0..13).filter_map(|bits| beside(used[0].side, 13, bits, trees).next());
     sides.filter(|side| used.iter().all(|u| u.side != *side)).collect()
 }
 
@@ -199,7 +201,7 @@ fn empty_pdus<'a>(filler: &mut Filler, sides: impl Iterator<Item = &'a u64>) {
 /// What `fill` sends, between two paths to the sides that are used: packets may be read from
 /// the first one on or from the last.
 fn between_paths(filler: &mut Filler, used: &[Channel], fill: &mut dyn FnMut(&mut Filler)) {
-    let sides = sides_beside(used);
+    let sides = sides_beside(used, filler.most as u64 / 256 + 1);
     empty_pdus(filler, sides.iter());
     let room = 32 * sides.len();
     filler.most -= room;
@@ -258,10 +260,11 @@ fn count_key(channel: &Channel, dlci: u8) -> u64 {
 /// A SABM for each of the counts on the way to those of the channels, which are none themselves.
 fn counts_beside(filler: &mut Filler, used: &[Channel]) {
     let keys: Vec<u64> = used.iter().flat_map(|c| [count_key(c, 0), count_key(c, DLCI)]).collect();
+    let trees = filler.most as u64 / 1024 + 1;
     for key in &keys {
         let number = key + key / 65_536;
-        for beside in (0..18).map(|bit| number ^ 1 << bit) {
-            let other = beside - beside / 65_537;
+        for near in (0..18).filter_map(|bits| beside(number, 18, bits, trees).next()) {
+            let other = near - near / 65_537;
             if other < 64 * 4096 && !keys.contains(&other) {
                 filler.pdu(Tx, (other / 64) as u16, 0x41, &trace::sabm((other % 64) as u8));
             }

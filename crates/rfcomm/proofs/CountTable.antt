@@ -36,7 +36,7 @@ count-none w b k n f p q = sym (ap valueOf (lookup-nothing w b k n (sym p ∙ q)
 pub up-count : (w : List ℕ) (b n k : ℕ) → UpPre w b n k → CountPre w b n
 up-count w b n k p = record { seek = record { stands = stands-less w (countIndex b) (n + 1) n (omega arith) (p .enter .stands); indexed = p .enter .indexed }; base = p .base }
 
-pub index-is : (b : ℕ) → record { rows = b; links = b + 4 * (b / 42); roots = 1 } ≡ countIndex b
+pub index-is : (b : ℕ) → record { rows = b; links = b + 4 * (b / 42); roots = b / 1536 + 1 } ≡ countIndex b
 unfolding countIndex
 index-is b = refl
 

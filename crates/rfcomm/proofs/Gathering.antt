@@ -363,7 +363,7 @@ gathered f w₀ w made rows t j g h = record { pieced = gather-end f (pdusFrom f
 module _ (f w : List ℕ) (made rows : ℕ) (p : PiecesPre f w made rows) (x : Tree) (ex : x ≡ countIndex (6 * (length f / 4))) where
   pub count-clear : ClearPre w x
   unfolding countIndex
-  count-clear = rw ex (record { some = omega arith; many = omega arith; room = omega (arith, p .signalled .pdus .few, p .signalled .pdus .room) })
+  count-clear = rw ex (record { some = omega arith; many = omega (arith, p .signalled .pdus .small); room = omega (arith, p .signalled .pdus .few, p .signalled .pdus .room) })
 
   module _ (v : List ℕ) (c : Cleared w x v) where
     front : Front (20 * (length f / 4)) v w

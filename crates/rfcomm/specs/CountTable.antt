@@ -16,7 +16,7 @@ valueOf (some v z) = v
 
 -- where n rows from word b on and their index stand: b is 6 areas
 unfoldable pub countIndex : ℕ → Tree
-countIndex b = record { rows = b; links = b + 4 * (b / 42); roots = 1 }
+countIndex b = record { rows = b; links = b + 4 * (b / 42); roots = b / 1536 + 1 }
 
 pub record CountPre (w : List ℕ) (b n : ℕ) : Type 0 where
   pub seek : SeekPre w (countIndex b) n

@@ -154,7 +154,7 @@ fn index_of(base: usize) -> Tree
     Tree {
         rows: base,
         links: base + 4 * (base / 42),
-        roots: 1,
+        roots: base / 1536 + 1,
     }
 }
 

@@ -182,6 +182,10 @@ module _ (w : List ℕ) (x : Tree) (n k : ℕ) (p : SeekPre w x n) where
                 (λ o. q .others a r (earlier a (q .depth) (omega arith) o) h z)
 
 module _ (w : List ℕ) (x : Tree) (n k : ℕ) where
+  pub seek-none : n ≡ 0 → Nothing ≡ findIn w (x .rows) k n
+  unfolding findIn
+  seek-none e = rw e
+
   pub seek-taken : (r : Spot) → SpotIs w x n k r → (i : ℕ) → r ≡ Taken i → At i ≡ findIn w (x .rows) k n
   seek-taken r s i e = sym (s .taken i e)
 
@@ -203,7 +207,8 @@ indexed-none w x p e = record {
 
 pub cleared : (w : List ℕ) (x : Tree) → ClearPre w x → (u : List ℕ) → Filled w (x .links) (x .roots) 0 u → Cleared w x u
 cleared w x p u f = record {
-  indexed = indexed-none u x (record { some = p .some; many = p .many; room = rw (f .size) (p .room) }) (λ j a b. let e : x .links + (j - x .links) ≡ j = omega arith in rw e at (f .is (j - x .links) (omega arith)));
+  indexed = indexed-none u x (record { some = p .some; many = p .many; room = rw (f .size) (p .room) })
+      (λ j a b. let e : x .links + (j - x .links) ≡ j = omega arith in rw e at (f .is (j - x .links) (omega arith)));
   front = f .front;
   beyond = f .beyond;
   size = f .size;
@@ -222,7 +227,8 @@ module _ (w : List ℕ) (x : Tree) (n : ℕ) (s : Indexed w x n) where
   pub path-below : (k d : ℕ) → pathTo w x k d ≤ n
   path-below k d = node-below w (linksIn x) (rootIn x k) (restAt (mixOf k)) (x .links) n (s .slots) (omega arith) (root-low w x n k s) (omega arith) d
 
-  pub indexed-agree : (u : List ℕ) → ((j : ℕ) → j < n → keyAt u x j ≡ keyAt w x j) → ((j : ℕ) → x .links ≤ j → j < x .links + x .roots + 2 * n → word u j ≡ word w j) → Indexed u x n
+  pub indexed-agree : (u : List ℕ) → ((j : ℕ) → j < n → keyAt u x j ≡ keyAt w x j) →
+      ((j : ℕ) → x .links ≤ j → j < x .links + x .roots + 2 * n → word u j ≡ word w j) → Indexed u x n
   indexed-agree u e g = record {
     some = s .some;
     many = s .many;
@@ -235,11 +241,14 @@ module _ (w : List ℕ) (x : Tree) (n : ℕ) (s : Indexed w x n) where
 
 -- ---- one row more
 
-pub new-put : (w : List ℕ) (x : Tree) (i k y z : ℕ) → (v : List ℕ) → v ≡ putRow w (x .rows + 4 * i) k y z → (t : List ℕ) → t ≡ putWord v (x .links + x .roots + 2 * i) 0 → (u : List ℕ) → u ≡ putWord t (x .links + x .roots + 2 * i + 1) 0 → u ≡ putNew w x i k y z
+pub new-put : (w : List ℕ) (x : Tree) (i k y z : ℕ) → (v : List ℕ) → v ≡ putRow w (x .rows + 4 * i) k y z →
+    (t : List ℕ) → t ≡ putWord v (x .links + x .roots + 2 * i) 0 →
+    (u : List ℕ) → u ≡ putWord t (x .links + x .roots + 2 * i + 1) 0 → u ≡ putNew w x i k y z
 unfolding putNew
 new-put w x i k y z v ev t et u eu = rw (eu, et, ev)
 
-stored-agree : (w v u : List ℕ) (b n k y z r : ℕ) → Agree b (b + 4 * r) u v → Front (4 * b) u v → length u ≡ length v → Stored w b n k y z v r → Stored w b n k y z u r
+stored-agree : (w v u : List ℕ) (b n k y z r : ℕ) → Agree b (b + 4 * r) u v → Front (4 * b) u v → length u ≡ length v →
+    Stored w b n k y z v r → Stored w b n k y z u r
 stored-agree w v u b n k y z r a f l s = record {
   says = λ j. lookup-agree u v b r j a ∙ s .says j;
   sum = rw (sum-agree u v b r a) (s .sum);
@@ -253,37 +262,55 @@ module _ (w : List ℕ) (x : Tree) (n k y z : ℕ) (p : EnterPre w x n) where
   pub enter-fits : NewPre w x n
   enter-fits = record { rows = omega (arith, p .stands .rows); room = omega (arith, p .stands .room); few = omega (arith, p .stands .few) }
 
+  -- the row written, before its links are; where they are
+  abbrev rowed : List ℕ
+  rowed = putRow w (x .rows + 4 * n) k y z
+
+  abbrev first : ℕ
+  first = x .links + x .roots + 2 * n
+
   module _ (v : List ℕ) (ev : v ≡ putNew w x n k y z) where
     room : 4 * (x .rows + 4 * n) + 16 ≤ length w
     room = omega (arith, p .stands .rows, p .stands .room)
 
-    v-off : (j : ℕ) → (linksIn x + 2 * n ≡ j → ⊥) → (linksIn x + 2 * n + 1 ≡ j → ⊥) → word v j ≡ word (putRow w (x .rows + 4 * n) k y z) j
+    rowed-long : length rowed ≡ length w
+    rowed-long = length-row w (x .rows + 4 * n) k y z
+
+    v-off : (j : ℕ) → (first ≡ j → ⊥) → (first + 1 ≡ j → ⊥) → word v j ≡ word rowed j
     unfolding putNew
-    v-off j a b = rw ev (word-put-other (putWord (putRow w (x .rows + 4 * n) k y z) (linksIn x + 2 * n) 0) (linksIn x + 2 * n + 1) 0 j b ∙ word-put-other (putRow w (x .rows + 4 * n) k y z) (linksIn x + 2 * n) 0 j a)
+    v-off j a b = rw ev (word-put-other (putWord rowed first 0) (first + 1) 0 j b ∙ word-put-other rowed first 0 j a)
 
     v-long : length v ≡ length w
     unfolding putNew
-    v-long = rw ev (length-put (putWord (putRow w (x .rows + 4 * n) k y z) (linksIn x + 2 * n) 0) (linksIn x + 2 * n + 1) 0 ∙ length-put (putRow w (x .rows + 4 * n) k y z) (linksIn x + 2 * n) 0 ∙ length-row w (x .rows + 4 * n) k y z)
+    v-long = rw ev (length-put (putWord rowed first 0) (first + 1) 0 ∙ length-put rowed first 0 ∙ rowed-long)
 
-    v-front : Front (4 * x .rows) v (putRow w (x .rows + 4 * n) k y z)
+    v-front : Front (4 * x .rows) v rowed
     unfolding putNew
-    v-front = rw ev (front-then (4 * x .rows) _ _ _ (front-put (4 * x .rows) _ (linksIn x + 2 * n + 1) 0 (omega (arith, p .stands .rows))) (front-put (4 * x .rows) _ (linksIn x + 2 * n) 0 (omega (arith, p .stands .rows))))
+    v-front =
+        rw ev
+        (front-then (4 * x .rows) _ _ _
+        (front-put (4 * x .rows) _ (first + 1) 0 (omega (arith, p .stands .rows)))
+        (front-put (4 * x .rows) _ first 0 (omega (arith, p .stands .rows))))
 
-    v-left : word v (linksIn x + 2 * n) ≡ 0
+    v-left : word v first ≡ 0
     unfolding putNew
-    v-left = let h : linksIn x + 2 * n + 1 ≡ linksIn x + 2 * n → ⊥ = λ e. omega arith in
-        rw ev (word-put-other (putWord (putRow w (x .rows + 4 * n) k y z) (linksIn x + 2 * n) 0) (linksIn x + 2 * n + 1) 0 (linksIn x + 2 * n) h ∙ word-put-same (putRow w (x .rows + 4 * n) k y z) (linksIn x + 2 * n) 0 (rw (length-row w (x .rows + 4 * n) k y z) (omega (arith, p .stands .room))))
+    v-left = let h : first + 1 ≡ first → ⊥ = λ e. omega arith in
+        rw ev
+        (word-put-other (putWord rowed first 0) (first + 1) 0 first h
+        ∙ word-put-same rowed first 0 (rw rowed-long (omega (arith, p .stands .room))))
 
-    v-right : word v (linksIn x + 2 * n + 1) ≡ 0
+    v-right : word v (first + 1) ≡ 0
     unfolding putNew
-    v-right = rw ev (word-put-same (putWord (putRow w (x .rows + 4 * n) k y z) (linksIn x + 2 * n) 0) (linksIn x + 2 * n + 1) 0 (rw (length-put (putRow w (x .rows + 4 * n) k y z) (linksIn x + 2 * n) 0, length-row w (x .rows + 4 * n) k y z) (omega (arith, p .stands .room))))
+    v-right =
+        rw ev
+        (word-put-same (putWord rowed first 0) (first + 1) 0 (rw (length-put rowed first 0, rowed-long) (omega (arith, p .stands .room))))
 
     v-ends : (j : ℕ) → linksIn x + 2 * n ≤ j → j < linksIn x + 2 * (n + 1) → word v j ≡ 0
-    v-ends j a b = split≡ j (linksIn x + 2 * n)
+    v-ends j a b = split≡ j first
         (λ e. rw e v-left)
-        (λ e. let h : j ≡ linksIn x + 2 * n + 1 = last j e a b in rw h v-right) where
-          last : (j : ℕ) → (j ≡ linksIn x + 2 * n → ⊥) → linksIn x + 2 * n ≤ j → j < linksIn x + 2 * (n + 1) → j ≡ linksIn x + 2 * n + 1
-          last j e a b = split≤ j (linksIn x + 2 * n) (λ c. absurd (e (omega arith))) (λ c. omega arith)
+        (λ e. let h : j ≡ first + 1 = last j e a b in rw h v-right) where
+          last : (j : ℕ) → (j ≡ linksIn x + 2 * n → ⊥) → linksIn x + 2 * n ≤ j → j < linksIn x + 2 * (n + 1) → j ≡ first + 1
+          last j e a b = split≤ j first (λ c. absurd (e (omega arith))) (λ c. omega arith)
 
     pub enter-link : (at : ℕ) (r : Spot) → SpotIs w x n k r → r ≡ Free at → 4 * at + 4 ≤ length v
     enter-link at r es er = let c : Vacant w x n k at = es .free at er in omega (arith, c .high, p .stands .room, v-long)
@@ -291,10 +318,10 @@ module _ (w : List ℕ) (x : Tree) (n k y z : ℕ) (p : EnterPre w x n) where
     pub enter-new : (at : ℕ) (r : Spot) → SpotIs w x n k r → r ≡ Free at → (u : List ℕ) → u ≡ putWord v at (n + 1) → Added w x n k y z u
     enter-new at r es er u eu = record {
       entered = record {
-        stored = stored-agree w (putRow w (x .rows + 4 * n) k y z) u (x .rows) n k y z (n + 1) (λ j a b. low j (omega (arith, p .stands .rows)))
-            (front-then (4 * x .rows) u v (putRow w (x .rows + 4 * n) k y z) front v-front)
-            (size ∙ v-long ∙ sym (length-row w (x .rows + 4 * n) k y z))
-            (store-new w (x .rows) n k y z room Nothing (sym (c .none)) refl (putRow w (x .rows + 4 * n) k y z) refl);
+        stored = stored-agree w rowed u (x .rows) n k y z (n + 1) (λ j a b. low j (omega (arith, p .stands .rows)))
+            (front-then (4 * x .rows) u v rowed front v-front)
+            (size ∙ v-long ∙ sym rowed-long)
+            (store-new w (x .rows) n k y z room Nothing (sym (c .none)) refl rowed refl);
         indexed = record {
           some = s .some;
           many = s .many;
@@ -305,7 +332,9 @@ module _ (w : List ℕ) (x : Tree) (n k y z : ℕ) (p : EnterPre w x n) where
           own = own-row;
         };
         between = λ j a b. low j b ∙ row-outside w (x .rows + 4 * n) k y z j (inr (omega arith));
-        beyond = λ j a. other j (λ e. omega (arith, c .high)) ∙ v-off j (λ e. omega arith) (λ e. omega arith) ∙ row-outside w (x .rows + 4 * n) k y z j (inr (omega (arith, p .stands .rows)));
+        beyond = λ j a.
+            other j (λ e. omega (arith, c .high)) ∙ v-off j (λ e. omega arith) (λ e. omega arith)
+            ∙ row-outside w (x .rows + 4 * n) k y z j (inr (omega (arith, p .stands .rows)));
       };
       row = find-last u (x .rows) k n new-key;
       others = λ j q. find-more u (x .rows) j n (λ e. q (sym new-key ∙ e)) ∙ find-agree u w (x .rows) j n new-keys;
@@ -329,7 +358,7 @@ module _ (w : List ℕ) (x : Tree) (n k y z : ℕ) (p : EnterPre w x n) where
       front = rw eu (front-put (4 * x .rows) v at (n + 1) (omega (arith, c .low, p .stands .rows)))
 
       -- the words before the index, and those of it that there were
-      low : (j : ℕ) → j < x .links → word u j ≡ word (putRow w (x .rows + 4 * n) k y z) j
+      low : (j : ℕ) → j < x .links → word u j ≡ word rowed j
       low j h = other j (λ e. omega (arith, c .low)) ∙ v-off j (λ e. omega arith) (λ e. omega arith)
 
       old : (j : ℕ) → x .links ≤ j → j < linksIn x + 2 * n → word v j ≡ word w j
@@ -352,7 +381,11 @@ module _ (w : List ℕ) (x : Tree) (n k y z : ℕ) (p : EnterPre w x n) where
           (low (x .rows + 4 * i + 1) (omega (arith, p .stands .rows)) ∙ row-outside w (x .rows + 4 * n) k y z (x .rows + 4 * i + 1) (inl (omega arith)))
 
       new-key : keyAt u x n ≡ k
-      new-key = long-agree u (putRow w (x .rows + 4 * n) k y z) (x .rows + 4 * n) (low (x .rows + 4 * n) (omega (arith, p .stands .rows))) (low (x .rows + 4 * n + 1) (omega (arith, p .stands .rows))) ∙ row-key w (x .rows + 4 * n) k y z room
+      new-key =
+          long-agree u rowed (x .rows + 4 * n)
+          (low (x .rows + 4 * n) (omega (arith, p .stands .rows)))
+          (low (x .rows + 4 * n + 1) (omega (arith, p .stands .rows)))
+          ∙ row-key w (x .rows + 4 * n) k y z room
 
       differ : (i : ℕ) → i < n → k ≡ keyAt w x i → ⊥
       differ i l e = other-row i (sym (c .none) ∙ rw (← e) at (s .own i l))

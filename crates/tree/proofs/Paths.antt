@@ -36,7 +36,8 @@ module _ (w : List ℕ) (l s : ℕ) (r : ℕ → ℕ) where
     unfolding nodeAt nextOf
     node-kept u k zero j e = k .same s low (omega arith) (omega (arith, e)) ∙ e
     node-kept u k (suc d) j e = go (nodeAt w l s r d) refl (node-below d) e (node-kept u k d) where
-      go : (t : ℕ) → nodeAt w l s r d ≡ t → t ≤ i → nextOf w l t (r d % 2) ≡ suc j → ((p : ℕ) → nodeAt w l s r d ≡ suc p → nodeAt u l s r d ≡ suc p) → nextOf u l (nodeAt u l s r d) (r d % 2) ≡ suc j
+      go : (t : ℕ) → nodeAt w l s r d ≡ t → t ≤ i → nextOf w l t (r d % 2) ≡ suc j →
+          ((p : ℕ) → nodeAt w l s r d ≡ suc p → nodeAt u l s r d ≡ suc p) → nextOf u l (nodeAt u l s r d) (r d % 2) ≡ suc j
       go zero q g z ih = absurd (omega (arith, z))
       go (suc p) q g z ih = rw (ih p q) (k .same (l + 2 * p + r d % 2) (omega arith) (omega arith) (omega (arith, z)) ∙ z)
 
@@ -45,7 +46,8 @@ module _ (w : List ℕ) (l s : ℕ) (r : ℕ → ℕ) where
 module _ (w : List ℕ) (a l i : ℕ) (h : Slots w a l i) (o : Apart w a l i) (first : a ≤ l) where
   -- a way of no turns and one with a last turn do not meet
   ends-apart : (s p b j : ℕ) → a ≤ s → s < l → p < i → b < 2 → word w s ≡ suc j → word w (l + 2 * p + b) ≡ suc j → ⊥
-  ends-apart s p b j low high m c x y = omega (arith, o .one s (l + 2 * p + b) low (omega arith) (omega arith) (omega arith) (omega (arith, x)) (x ∙ sym y))
+  ends-apart s p b j low high m c x y =
+      omega (arith, o .one s (l + 2 * p + b) low (omega arith) (omega arith) (omega arith) (omega (arith, x)) (x ∙ sym y))
 
   module _ (s t : ℕ) (r q : ℕ → ℕ) (sl : a ≤ s) (sh : s < l) (tl : a ≤ t) (th : t < l) where
     pub one-way : (d e j : ℕ) → nodeAt w l s r d ≡ suc j → nodeAt w l t q e ≡ suc j → (d ≡ e) × ((s ≡ t) × ((c : ℕ) → c < d → r c % 2 ≡ q c % 2))
@@ -104,7 +106,8 @@ module _ (w : List ℕ) (a l i : ℕ) (h : Slots w a l i) (u : List ℕ) (g : Gr
   grew-slots = record { below = below; later = later }
 
   -- if it is one word only
-  pub grew-apart : (at : ℕ) → ((p : ℕ) → a ≤ p → p < l + 2 * i → (at ≡ p → ⊥) → word u p ≡ word w p) → word u at ≡ suc i → Apart w a l i → Apart u a l (i + 1)
+  pub grew-apart : (at : ℕ) → ((p : ℕ) → a ≤ p → p < l + 2 * i → (at ≡ p → ⊥) → word u p ≡ word w p) →
+      word u at ≡ suc i → Apart w a l i → Apart u a l (i + 1)
   grew-apart at off here o = record { one = one } where
     -- a word that leads to a row is the new one, or as it was
     old : (p : ℕ) → a ≤ p → p < l + 2 * (i + 1) → 0 < word u p → (at ≡ p → ⊥) → (p < l + 2 * i) × (word u p ≡ word w p)

@@ -14,9 +14,13 @@ mul-t3 c = search needs
 add-t4 : tie.Need-add-t4
 add-t4 c = search needs
 
+-- src/lib.rt:156:16
+add-t6 : tie.Need-add-t6
+add-t6 c = search needs
+
 -- src/lib.rt:149:1
 returns : tie.Need-returns
 returns c = search index-is
 
 pub index-of-spec : {M : Type 1} → statement M
-index-of-spec = tie.close (tie.spec mul-t3 add-t4 returns)
+index-of-spec = tie.close (tie.spec mul-t3 add-t4 add-t6 returns)
