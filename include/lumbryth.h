@@ -15,7 +15,7 @@
  * - The caller owns all memory. Nothing is allocated, freed or kept after the call
  *   returns, and there is no hidden state: any number of threads may call at once,
  *   each with its own buffers.
- * - What is lent to be written (`out`, `work`, `starts`, `values`) overlaps nothing
+ * - What is lent to be written (`out`, `work`, `stretches`, `starts`, `values`) overlaps nothing
  *   else that is lent to the same call. What is lent to be read may overlap.
  * - A call returns 0, or the number of its refusal (below). Only
  *   lumbryth_is_command_name returns a yes or no instead.
@@ -240,10 +240,10 @@ struct lumbryth_stretch {
 };
 
 /*
- * Imports as lumbryth_import does, and puts the stretches that hold bytes at the end,
- * as many as `unfinished` says, to the first places of `stretches`. The list needs
- * file_len / 24 places, rounded down, else the call refuses with 2. After refusals 1 and
- * 2 the list is as it was; what it holds otherwise is not part of what is proved.
+ * Imports as lumbryth_import does, and puts the stretches of the DLCI that hold bytes at
+ * the end, as many as `unfinished` says, to the first places of `stretches`, in the order
+ * of their first bytes; places past those stay as they were, and after a refusal all of
+ * them do. The list needs file_len / 24 places, rounded down, else the call refuses with 2.
  */
 uint32_t lumbryth_import_stretches(const uint8_t *file, size_t file_len,
     uint8_t *work, size_t work_len, struct lumbryth_stretch *stretches, size_t stretches_len,
