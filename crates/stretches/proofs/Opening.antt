@@ -3,19 +3,17 @@ use Prim.Native.Nat.{ℕ, suc, _+_}
 use mathlib.Core.Path.{_≡_, refl, sym, ap, _∙_}
 use mathlib.Core.Logic.{_≢_}
 use mathlib.Core.Bool.{Bool, true, false, cond, not, _&&_}
-use mathlib.Core.List.{List, [], _∷_, _++_, append-nil, append-assoc, map}
-use native.Mathlib.Omega.{arith}
+use mathlib.Core.List.{List, [], _∷_, _++_, map}
 use lib.ListN.{length}
 use lib.Dec.{ltb}
 use Rattle.laws.proofs.Choice.{splitB, no-way}
 use Rattle.laws.specs.Keys.{Key, eqK}
-use Rattle.laws.proofs.Keys.{splitK, eqK-true, eq-eqK, ne-eqK}
+use Rattle.laws.proofs.Keys.{splitK, eq-eqK, ne-eqK}
 use Rattle.laws.specs.Keyed.{keep}
 use Rattle.laws.specs.Count.{mem, nub, count}
 use Rattle.rfcomm.specs.Pieces.{Piece}
 use Rattle.spans.specs.Spans.{unfinished}
 use Rattle.stretches.specs.Open.{firsts, stretchOf, openOf, heldAfter, openStretches}
-use Rattle.stretches.specs.declared.Stretch.{Stretch}
 
 -- ---- a key at the end
 
