@@ -244,10 +244,10 @@ struct lumbryth_stretch {
 };
 
 /*
- * Imports as lumbryth_import does, and puts the stretches that hold bytes at the end,
- * as many as `unfinished` says, to the first places of `stretches`. The list needs
- * file_len / 24 places, rounded down, else the call refuses with 2. After refusals 1 and
- * 2 the list is as it was; what it holds otherwise is not part of what is proved.
+ * Imports as lumbryth_import does, and puts the stretches of the DLCI that hold bytes at
+ * the end, as many as `unfinished` says, to the first places of `stretches`, in the order
+ * of their first bytes; places past those stay as they were, and after a refusal all of
+ * them do. The list needs file_len / 24 places, rounded down, else the call refuses with 2.
  */
 uint32_t lumbryth_import_stretches(const uint8_t *file, size_t file_len,
     uint8_t *work, size_t work_len, struct lumbryth_stretch *stretches, size_t stretches_len,

@@ -2,8 +2,7 @@
 use Prim.Native.Nat.{ℕ, _≤_}
 use mathlib.Core.Path.{_≡_, ap, sym, _∙_}
 use mathlib.Core.Bool.{true}
-use mathlib.Core.List.{List, []}
-use native.Mathlib.Omega.{arith}
+use mathlib.Core.List.{List}
 use lib.ListN.{length}
 use Rattle.laws.specs.Answers.{Answer, accepted, refused, answer}
 use Rattle.laws.proofs.Choice.{splitB, no-way}

@@ -163,8 +163,9 @@ pub extern "C" fn lumbryth_records(file: &[u8], starts: &mut [u64], values: &mut
     tell(s, values)
 }
 
-// Imports a trace, and fills the first places of the list lent with the stretches that are open at the end. It wants as many
-// places as the file length divided by 24, rounded down, else 2. Values: as for lumbryth_import.
+// Imports a trace, and fills the first places of the list lent with the stretches that are open at the end, in the order of
+// their first pieces; the places past them stay, and all of them after a refusal. It wants as many places as the file length
+// divided by 24, rounded down, else 2. Values: as for lumbryth_import.
 #[no_mangle]
 pub extern "C" fn lumbryth_import_stretches(
     file: &[u8],

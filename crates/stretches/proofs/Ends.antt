@@ -1,8 +1,7 @@
 -- What the words of the pieces say of the buffers at the end.
 use Prim.Native.Nat.{ℕ, zero, suc, _+_, _-_, _*_, _<_, _≤_}
-use mathlib.Core.Path.{_≡_, refl, sym, ap, _∙_, fun-ext}
-use mathlib.Core.Bool.{cond}
-use mathlib.Core.List.{List, [], _∷_, _++_, append-nil, append-assoc, map}
+use mathlib.Core.Path.{_≡_, sym, ap, _∙_, fun-ext}
+use mathlib.Core.List.{List, _∷_, _++_, append-nil, append-assoc, map}
 use native.Mathlib.Omega.{arith}
 use native.Mathlib.Numerals.{add-one}
 use lib.ListN.{length}
@@ -11,13 +10,14 @@ use Rattle.laws.proofs.Choice.{split≡}
 use Rattle.laws.specs.Keys.{Key}
 use Rattle.laws.specs.Keyed.{step, after}
 use Rattle.words.proofs.Front.{front-refl}
-use Rattle.rfcomm.specs.Pieces.{Piece}
 use Rattle.spans.specs.Spans.{scanner, emptied}
-use Rattle.split.specs.Rows.{piece, dlciAt, tailAt, heldIn, heldOf, streamOf, streamTo, opened, Fits, ahead, all, keysTo, Laid}
+use Rattle.split.specs.Rows.{piece, dlciAt, heldIn, heldOf, streamOf, streamTo, opened, Fits, ahead, all, Laid}
+use Rattle.measuring.specs.Counting.{keysTo}
 use Rattle.split.specs.Walks.{AllTold, Moved}
 use Rattle.split.proofs.Lasts.{length-lastn}
 use Rattle.split.proofs.Steps.{own-fits, kept-own, moved-opens, moved-fits}
-use Rattle.split.proofs.Aheads.{opened-none, ahead-none, next-after, next-keys, ahead-skip, opened-skip, fits-skip, keys-skip}
+use Rattle.split.proofs.Aheads.{opened-none, ahead-none, next-after, next-keys, ahead-skip, opened-skip, fits-skip}
+use Rattle.measuring.proofs.Steps.{keys-skip}
 use Rattle.split.specs.declared.Plan.{Plan}
 use Rattle.stretches.specs.Open.{firsts, openOf, heldAfter, openStretches}
 

@@ -2,7 +2,7 @@
 use Prim.Native.Nat.{ℕ}
 use mathlib.Core.Path.{_≡_, refl}
 use mathlib.Core.List.{List, [], _∷_}
-use Rattle.laws.specs.Keys.{Key, eqK}
+use Rattle.laws.specs.Keys.{eqK}
 use Rattle.laws.specs.Keyed.{after, keep}
 use Rattle.rfcomm.specs.Pieces.{Piece}
 use Rattle.search.specs.Seek.{seek}

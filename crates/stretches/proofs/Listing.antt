@@ -1,6 +1,6 @@
 -- The walk that lists the open stretches in words, and that they are those of the definition.
 use Prim.Native.Nat.{ℕ, zero, suc, _+_, _-_, _*_, _/_, _%_, _<_, _≤_}
-use mathlib.Core.Path.{_≡_, refl, sym, ap, _∙_}
+use mathlib.Core.Path.{_≡_, refl, sym, _∙_}
 use mathlib.Core.Bool.{Bool, true, false, cond, not, _&&_}
 use mathlib.Core.List.{List, [], _∷_, _++_, append-nil}
 use native.Mathlib.Omega.{arith}
@@ -16,8 +16,8 @@ use Rattle.words.specs.Words.{word, putWord}
 use Rattle.words.specs.Rows.{putWords}
 use Rattle.words.proofs.Rows.{length-puts, puts-below, puts-above, word-puts}
 use Rattle.words.proofs.Front.{front-word}
-use Rattle.split.specs.Rows.{rowOf, dlciAt, tailAt, keyAt, heldIn, newestOf, keysTo, Laid}
-use Rattle.split.specs.Walks.{AllTold}
+use Rattle.split.specs.Rows.{dlciAt, tailAt, keyAt, heldIn, newestOf}
+use Rattle.measuring.specs.Counting.{keysTo}
 use Rattle.split.proofs.Steps.{own-key}
 use Rattle.split.specs.declared.Plan.{Plan}
 use Rattle.stretches.specs.Open.{firsts, stretchOf, openOf}

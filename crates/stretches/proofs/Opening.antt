@@ -1,21 +1,19 @@
 -- Laws of specs/Open: a key that comes at the end of a list, and how many stretches are open.
 use Prim.Native.Nat.{ℕ, suc, _+_}
-use mathlib.Core.Path.{_≡_, refl, sym, ap, _∙_}
+use mathlib.Core.Path.{_≡_, refl, sym, _∙_}
 use mathlib.Core.Logic.{_≢_}
 use mathlib.Core.Bool.{Bool, true, false, cond, not, _&&_}
-use mathlib.Core.List.{List, [], _∷_, _++_, append-nil, append-assoc, map}
-use native.Mathlib.Omega.{arith}
+use mathlib.Core.List.{List, [], _∷_, _++_, map, map-append}
 use lib.ListN.{length}
 use lib.Dec.{ltb}
 use Rattle.laws.proofs.Choice.{splitB, no-way}
 use Rattle.laws.specs.Keys.{Key, eqK}
-use Rattle.laws.proofs.Keys.{splitK, eqK-true, eq-eqK, ne-eqK}
+use Rattle.laws.proofs.Keys.{splitK, eq-eqK, ne-eqK}
 use Rattle.laws.specs.Keyed.{keep}
 use Rattle.laws.specs.Count.{mem, nub, count}
 use Rattle.rfcomm.specs.Pieces.{Piece}
 use Rattle.spans.specs.Spans.{unfinished}
 use Rattle.stretches.specs.Open.{firsts, stretchOf, openOf, heldAfter, openStretches}
-use Rattle.stretches.specs.declared.Stretch.{Stretch}
 
 -- ---- a key at the end
 
@@ -37,10 +35,6 @@ firsts-snoc (x ∷ ks) k =
     (splitB (eqK k x)
     (λ e. splitB (mem k ks) (λ m. rw (m, e)) (λ m. rw (m, e)))
     (λ e. splitB (mem k ks) (λ m. rw (m, e)) (λ m. rw (m, e))))
-
-map-append : {A B : Type 0} (f : A → B) (a b : List A) → map f (a ++ b) ≡ map f a ++ map f b
-map-append f [] b = refl
-map-append f (x ∷ a) b = ap (λ (l : List _). f x ∷ l) (map-append f a b)
 
 pub open-append : (d : ℕ) (held : Key → ℕ) (a b : List Key) → openOf d held (a ++ b) ≡ openOf d held a ++ openOf d held b
 unfolding openOf

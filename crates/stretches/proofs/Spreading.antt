@@ -1,6 +1,6 @@
 -- The walk from the last piece to the first, by which every piece is told what its key holds at the end.
 use Prim.Native.Nat.{ℕ, zero, suc, _+_, _-_, _*_, _<_, _≤_}
-use mathlib.Core.Path.{_≡_, refl, sym, ap, _∙_}
+use mathlib.Core.Path.{_≡_, refl, sym, _∙_}
 use mathlib.Core.List.{List}
 use native.Mathlib.Omega.{arith}
 use lib.ListN.{length}
@@ -8,11 +8,11 @@ use Rattle.laws.proofs.Choice.{splitB, split≡}
 use Rattle.laws.specs.Keys.{Key, eqK}
 use Rattle.laws.proofs.Keys.{splitK, eq-eqK, ne-eqK}
 use Rattle.words.specs.Words.{word, putWord}
-use Rattle.words.proofs.Words.{length-put, word-put-same, word-put-other}
+use Rattle.words.proofs.Words.{word-put-same, word-put-other}
 use Rattle.words.specs.Front.{Front}
 use Rattle.words.proofs.Front.{front-refl, front-then, front-put, front-word}
 use Rattle.split.specs.Rows.{keyAt, tailAt, heldIn, newestOf, Linked}
-use Rattle.split.specs.Walks.{Row, Chain, Earlier}
+use Rattle.split.specs.Walks.{Chain}
 use Rattle.split.proofs.Tables.{newest-less, newest-mine, earlier-is}
 use Rattle.split.specs.declared.Plan.{Plan}
 use Rattle.stretches.specs.Listing.{ListRoom, Handed, SpreadPre, Spread}

@@ -356,9 +356,9 @@ pub fn import_with(file: &[u8], options: &Options) -> Result<Imported, Refusal> 
     Ok(imported(list, &values))
 }
 
-/// Imports as [`import`] does, and tells the stretches that hold bytes at the end, as many as
-/// [`Imported::unfinished`] says. What is proved of the import is proved of this one too; which
-/// stretches are told is only tested.
+/// Imports as [`import`] does, and tells the stretches of the DLCI that hold bytes at the end, as many
+/// as [`Imported::unfinished`] says, in the order of their first bytes. What is proved of the import is
+/// proved of this one too, and that exactly these stretches are told.
 ///
 /// ```
 /// use lumbryth::{import_stretches, Refusal, TailRule};
