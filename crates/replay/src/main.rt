@@ -3,19 +3,16 @@
 //
 // data/GROUP.bin is what `compare sample GROUP FILE` writes: the answers of the source that was ported to the calls of a
 // group. compare/README.md says how to make it again, and how the file is laid out.
-ghost use mathlib.Core.Path.{_≡_};
-ghost use Prim.Native.Nat.{_≤_, _<_};
-ghost use lib.ListN.{length};
+ghost use Prim.Native.Nat.{_≤_};
 use libc::STDOUT_FILENO;
 
-// Room for a sample.
-fn room() -> [u8; 262144]
-    ensures { λ r. ⌜ 262144 ≡ length r ⌝ }
-{
-    [0u8; 262144]
-}
-
-fn is_same(s: &[u8], c: samples::Call, a: samples::Answer, work: &mut [u8], out: &mut [u8]) -> bool {
+fn is_same(
+    s: &[u8],
+    c: samples::Call,
+    a: samples::Answer,
+    work: &mut [u8],
+    out: &mut [u8],
+) -> bool {
     samples::fill(out);
     let mut values = [samples::UNTOUCHED; 8];
     if rerun::run(s, c, work, out, &mut values) != a.number {
@@ -50,17 +47,6 @@ fn replay_case(s: &[u8], at: usize, work: &mut [u8], space: &mut [u8]) -> Replay
     }
 }
 
-// Where the next case starts, or the end of the file if this one does not end in it.
-fn next(at: usize, end: usize, n: usize) -> usize
-    requires { ⌜ at < n ⌝ }
-    ensures { λ r. ⌜ (at < r) × (r ≤ n) ⌝ }
-{
-    if end <= at {
-        return n;
-    }
-    if n < end { n } else { end }
-}
-
 fn one_unless(same: bool) -> u64
     ensures { λ r. ⌜ r ≤ 1 ⌝ }
 {
@@ -81,30 +67,28 @@ fn replay(s: &[u8], work: &mut [u8], space: &mut [u8]) -> Totals {
         let r = replay_case(s, at, work, space);
         cases += 1;
         differences += one_unless(r.same);
-        at = next(at, r.end, s.len());
+        at = samples::next(at, r.end, s.len());
     }
     Totals { cases, differences }
 }
 
-// The length of a file's name up to its dot.
-fn stem(name: &[u8]) -> usize {
-    let mut i: usize = 0;
-    while i < name.len() {
-        if name[i] == b'.' {
-            return i;
-        }
-        i += 1;
-    }
-    i
-}
-
 fn print(name: &[u8], t: Totals) {
-    io::write_all(STDOUT_FILENO, samples::part(name, 0, stem(name)));
+    io::write_all(STDOUT_FILENO, samples::part(name, 0, samples::stem(name)));
     io::write_all(STDOUT_FILENO, b": ");
     io::print_decimal(STDOUT_FILENO, t.cases);
     io::write_all(STDOUT_FILENO, b" cases replayed, ");
     io::print_decimal(STDOUT_FILENO, t.differences);
     io::write_all(STDOUT_FILENO, b" differences\n");
+}
+
+// Replays an open file, and prints its line under a name.
+fn replay_open(name: &[u8], fd: i32) {
+    let mut file = samples::room();
+    let got = io::read_full(fd, &mut file);
+    libc::close(fd);
+    let mut work = io::large_buffer();
+    let mut space = io::large_buffer();
+    print(name, replay(&file[..got], &mut work, &mut space));
 }
 
 // Replays the file that an argument names. A file that is not there has no line.
@@ -116,12 +100,7 @@ fn replay_file(i: usize) {
         os::fail(&name[..n]);
         return;
     }
-    let mut file = room();
-    let got = io::read_full(fd, &mut file);
-    libc::close(fd);
-    let mut work = io::large_buffer();
-    let mut space = io::large_buffer();
-    print(&name[..n], replay(&file[..got], &mut work, &mut space));
+    replay_open(&name[..n], fd);
 }
 
 fn main() {

@@ -56,13 +56,7 @@ fn import(
 }
 
 // The work lent is 8 times the file's length, with what earlier cases left in it: no answer depends on that.
-fn run_import(
-    s: &[u8],
-    c: Call,
-    work: &mut [u8],
-    out: &mut [u8],
-    values: &mut [u64],
-) -> u32 {
+fn run_import(s: &[u8], c: Call, work: &mut [u8], out: &mut [u8], values: &mut [u64]) -> u32 {
     let file = part(s, c.first, c.first_size);
     let channel = word(s, c.numbers);
     let n = file.len();

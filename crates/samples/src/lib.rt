@@ -1,4 +1,26 @@
 // Reads the cases of a sample. What lies past the end of the file reads as 0. A case is whole if its end lies in the file.
+ghost use mathlib.Core.Path.{_≡_};
+ghost use Prim.Native.Nat.{_≤_, _<_};
+ghost use lib.ListN.{length};
+
+// Room for a sample.
+pub fn room() -> [u8; 262144]
+    ensures { λ r. ⌜ 262144 ≡ length r ⌝ }
+{
+    [0u8; 262144]
+}
+
+// The length of a file's name up to its dot.
+pub fn stem(name: &[u8]) -> usize {
+    let mut i: usize = 0;
+    while i < name.len() {
+        if name[i] == b'.' {
+            return i;
+        }
+        i += 1;
+    }
+    i
+}
 
 // The sum, or the largest number if the sum is larger.
 pub fn sum(a: usize, b: usize) -> usize {
@@ -147,6 +169,17 @@ pub fn read_answer(s: &[u8], at: usize) -> Answer {
         size: output.size,
         end: output.end,
     }
+}
+
+// Where the next case starts, or the end of the file if this one does not end in it.
+pub fn next(at: usize, end: usize, n: usize) -> usize
+    requires { ⌜ at < n ⌝ }
+    ensures { λ r. ⌜ (at < r) × (r ≤ n) ⌝ }
+{
+    if end <= at {
+        return n;
+    }
+    if n < end { n } else { end }
 }
 
 // What stands in the list of values, and at a place of the output, before a call.

@@ -103,9 +103,9 @@ imported-last f work o d n u t k w e =
 pub import-lies : (f work : List ℕ) (o : Options) (out : List ℕ) (r : Imported) (work′ out′ : List ℕ) → Imports f work o out r work′ out′ → Lies r out′
 import-lies f work o out r work′ out′ i = record {
   within = λ d n u t k e.
-    (let g = accepts (imported btsnoop f (length work) o) out (d ∷ n ∷ u ∷ t ∷ k ∷ []) out′ (rw e at (i .meets)) in
-    let q = imported-last f (length work) o d n u t k (g .bytes) (g .gift) in
-    omega (arith, g .room));
+      (let g = accepts (imported btsnoop f (length work) o) out (d ∷ n ∷ u ∷ t ∷ k ∷ []) out′ (rw e at (i .meets)) in
+      let q = imported-last f (length work) o d n u t k (g .bytes) (g .gift) in
+      omega (arith, g .room));
 }
 
 pub lies-within : (r : Imported) (out : List ℕ) → Lies r out → (d n u t k : ℕ) → r ≡ Spans d n u t k → k ≤ length out

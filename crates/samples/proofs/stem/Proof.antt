@@ -1,8 +1,8 @@
 use Prim.Native.Nat.{_≤_, _-_}
 use lib.ListN.{length}
 use borrow.Author.Needs.{needs}
-use Rattle.replay.proofs.stem.Statement.{statement}
-use Rattle.replay.proofs.stem.Tie as tie
+use Rattle.samples.proofs.stem.Statement.{statement}
+use Rattle.samples.proofs.stem.Tie as tie
 
 abbrev Inv-loop : tie.InvT-loop
 Inv-loop name i₀ i = i ≤ length name
