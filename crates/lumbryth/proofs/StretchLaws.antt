@@ -1,7 +1,7 @@
 -- What a caller gets of an import with a lent list of stretches.
 use Prim.Native.Nat.{ℕ, _≤_}
 use mathlib.Core.Path.{_≡_, ap, sym, _∙_}
-use mathlib.Core.Bool.{true}
+use mathlib.Core.Bool.{true, false}
 use mathlib.Core.List.{List}
 use lib.ListN.{length}
 use Rattle.laws.specs.Answers.{Answer, accepted, refused, answer}
@@ -35,6 +35,18 @@ stretch-calls f w s out o v r listed w′ out′ v′ m s′ e = record {
   places = e ∙ places-are (answer (importedIn btsnoop f (length w) (length s) o) (length out)) (fileStretches f o) s w′ listed (m .few) (m .list);
   cut = m .cut;
 }
+
+-- After 1 and 2 the places are as they were.
+pub places-spared :
+    (f w : List ℕ) (s : List Stretch) (out : List ℕ) (o : Options) (v : List ℕ) (r : ℕ) (w′ : List ℕ) (s′ : List Stretch) (out′ v′ : List ℕ) →
+    suffices f (length w) (length s) ≡ false → StretchCalls f w s out o v r w′ s′ out′ v′ → s′ ≡ s
+unfolding suffices importedIn imported answer placesAfter
+places-spared f w s out o v r w′ s′ out′ v′ h m =
+    m .places ∙ splitB (fits f)
+    (λ a. splitB (placesSuffice f (length s))
+    (λ b. splitB (workSuffices f (length w)) (λ c. no-way (rw (a, b, c)) h) (λ c. rw (a, b, c)))
+    (λ b. rw (a, b)))
+    (λ a. rw a)
 
 -- With enough places, on every input, it is what the call without a list promises.
 pub as-import :
