@@ -15,13 +15,8 @@ fn is_same(
 ) -> bool {
     samples::fill(out);
     let mut values = [samples::UNTOUCHED; 8];
-    if rerun::run(s, c, work, out, &mut values) != a.number {
-        return false;
-    }
-    if !samples::has_values(s, a.values, a.count, &values) {
-        return false;
-    }
-    samples::has_output(samples::part(s, a.output, a.size), out)
+    let number = rerun::run(s, c, work, out, &mut values);
+    samples::is_answer(s, a, number, &values, out)
 }
 
 // Whether a case's call answers what the case says, and the place after the case.
@@ -72,13 +67,17 @@ fn replay(s: &[u8], work: &mut [u8], space: &mut [u8]) -> Totals {
     Totals { cases, differences }
 }
 
+// A number, and the words after it.
+fn print_count(n: u64, words: &[u8]) {
+    io::print_decimal(STDOUT_FILENO, n);
+    io::write_all(STDOUT_FILENO, words);
+}
+
 fn print(name: &[u8], t: Totals) {
     io::write_all(STDOUT_FILENO, samples::part(name, 0, samples::stem(name)));
     io::write_all(STDOUT_FILENO, b": ");
-    io::print_decimal(STDOUT_FILENO, t.cases);
-    io::write_all(STDOUT_FILENO, b" cases replayed, ");
-    io::print_decimal(STDOUT_FILENO, t.differences);
-    io::write_all(STDOUT_FILENO, b" differences\n");
+    print_count(t.cases, b" cases replayed, ");
+    print_count(t.differences, b" differences\n");
 }
 
 // Replays an open file, and prints its line under a name.

@@ -205,7 +205,7 @@ fn value(s: &[u8], at: usize, is_given: bool) -> u64 {
 }
 
 // Whether the values are those of the file, and the rest of the list is untouched.
-pub fn has_values(s: &[u8], at: usize, count: usize, values: &[u64]) -> bool {
+fn has_values(s: &[u8], at: usize, count: usize, values: &[u64]) -> bool {
     if values.len() < count {
         return false;
     }
@@ -229,7 +229,7 @@ fn output_byte(written: &[u8], i: usize) -> u8 {
 }
 
 // Whether the output starts with the bytes written, and the rest of it is untouched.
-pub fn has_output(written: &[u8], out: &[u8]) -> bool {
+fn has_output(written: &[u8], out: &[u8]) -> bool {
     if out.len() < written.len() {
         return false;
     }
@@ -241,4 +241,15 @@ pub fn has_output(written: &[u8], out: &[u8]) -> bool {
         i += 1;
     }
     true
+}
+
+// Whether a call's number, values and output are those of an answer, and the rest of both lists is untouched.
+pub fn is_answer(s: &[u8], a: Answer, number: u32, values: &[u64], out: &[u8]) -> bool {
+    if number != a.number {
+        return false;
+    }
+    if !has_values(s, a.values, a.count, values) {
+        return false;
+    }
+    has_output(part(s, a.output, a.size), out)
 }
