@@ -31,7 +31,7 @@ module _ {X Y : Type 0} (M : Machine X Y) where
 
 -- ---- some keys alone
 
-keep-append : {A : Type 0} (p : A → Bool) (xs ys : List A) → keep p (xs ++ ys) ≡ keep p xs ++ keep p ys
+pub keep-append : {A : Type 0} (p : A → Bool) (xs ys : List A) → keep p (xs ++ ys) ≡ keep p xs ++ keep p ys
 unfolding keep
 keep-append p [] ys = refl
 keep-append p (x ∷ xs) ys = splitB (p x) (λ e. rw (e, keep-append p xs ys)) (λ e. rw (e, keep-append p xs ys))

@@ -10,17 +10,13 @@ use Rattle.laws.proofs.Choice.{splitB, no-way}
 use Rattle.laws.specs.Keys.{Key, eqK}
 use Rattle.laws.proofs.Keys.{splitK, eq-eqK, ne-eqK}
 use Rattle.laws.specs.Keyed.{keep}
+use Rattle.laws.proofs.Keyed.{keep-append}
 use Rattle.laws.specs.Count.{mem, nub, count}
 use Rattle.rfcomm.specs.Pieces.{Piece}
 use Rattle.spans.specs.Spans.{unfinished}
 use Rattle.stretches.specs.Open.{firsts, stretchOf, openOf, heldAfter, openStretches}
 
 -- ---- a key at the end
-
-keep-append : {A : Type 0} (p : A → Bool) (a b : List A) → keep p (a ++ b) ≡ keep p a ++ keep p b
-unfolding keep
-keep-append p [] b = refl
-keep-append p (x ∷ a) b = rw (keep-append p a b) (splitB (p x) (λ e. rw e) (λ e. rw e))
 
 pub mem-snoc : (k : Key) (xs : List Key) (x : Key) → mem k (xs ++ (x ∷ [])) ≡ cond (mem k xs) true (eqK k x)
 unfolding mem
