@@ -1,4 +1,4 @@
-// Runs the call of a sample's case by the proved calls.
+// Runs the call of a sample's case: the calls on frames, names and lists.
 use samples::Call;
 use samples::byte;
 use samples::long;
@@ -7,7 +7,7 @@ use samples::sum;
 use samples::word;
 
 // The number where no call is run: no answer has it.
-const NO_CALL: u32 = 4294967295;
+pub const NO_CALL: u32 = 4294967295;
 
 fn run_codec(s: &[u8], c: Call, out: &mut [u8], values: &mut [u64]) -> u32 {
     let input = part(s, c.first, c.first_size);
@@ -41,39 +41,13 @@ fn run_order(s: &[u8], c: Call, out: &mut [u8], values: &mut [u64]) -> u32 {
     lumbryth::lumbryth_capture_order(names, out, values)
 }
 
-fn import(
-    tolerant: bool,
-    file: &[u8],
-    work: &mut [u8],
-    out: &mut [u8],
-    channel: u32,
-    values: &mut [u64],
-) -> u32 {
-    if tolerant {
-        return lumbryth::lumbryth_import(file, work, out, channel, 1, values);
-    }
-    lumbryth::lumbryth_import_strict(file, work, out, channel, values)
-}
-
-// The work lent is 8 times the file's length, with what earlier cases left in it: no answer depends on that.
-fn run_import(s: &[u8], c: Call, work: &mut [u8], out: &mut [u8], values: &mut [u64]) -> u32 {
-    let file = part(s, c.first, c.first_size);
-    let channel = word(s, c.numbers);
-    let n = file.len();
-    if work.len() / 8 < n {
-        return NO_CALL;
-    }
-    import(c.op == 8, file, &mut work[..8 * n], out, channel, values)
-}
-
-pub fn run(s: &[u8], c: Call, work: &mut [u8], out: &mut [u8], values: &mut [u64]) -> u32 {
+pub fn run_plain(s: &[u8], c: Call, out: &mut [u8], values: &mut [u64]) -> u32 {
     let op = c.op;
     match op {
         1 | 2 => run_codec(s, c, out, values),
         3 | 4 => run_names(s, c, out, values),
         5 => run_plan(s, c, out, values),
         6 => run_order(s, c, out, values),
-        7 | 8 => run_import(s, c, work, out, values),
         _ => NO_CALL,
     }
 }

@@ -1,25 +1,15 @@
-// Reads the cases of a sample. What lies past the end of the file reads as 0. A case is whole if its end lies in the file.
+// A sample: its cases read, an answer compared, and the line that says how many differ. What lies past the end of the file reads as 0. A
+// case is whole if its end lies in the file.
 ghost use mathlib.Core.Path.{_≡_};
 ghost use Prim.Native.Nat.{_≤_, _<_};
 ghost use lib.ListN.{length};
+use libc::STDOUT_FILENO;
 
 // Room for a sample.
 pub fn room() -> [u8; 262144]
     ensures { λ r. ⌜ 262144 ≡ length r ⌝ }
 {
     [0u8; 262144]
-}
-
-// The length of a file's name up to its dot.
-pub fn stem(name: &[u8]) -> usize {
-    let mut i: usize = 0;
-    while i < name.len() {
-        if name[i] == b'.' {
-            return i;
-        }
-        i += 1;
-    }
-    i
 }
 
 // The sum, or the largest number if the sum is larger.
@@ -182,6 +172,13 @@ pub fn next(at: usize, end: usize, n: usize) -> usize
     if n < end { n } else { end }
 }
 
+// What a case adds to the count of differences.
+pub fn one_unless(same: bool) -> u64
+    ensures { λ r. ⌜ r ≤ 1 ⌝ }
+{
+    if same { 0 } else { 1 }
+}
+
 // What stands in the list of values, and at a place of the output, before a call.
 pub const UNTOUCHED: u64 = 0xD15EA5ED0DDBA115;
 
@@ -252,4 +249,30 @@ pub fn is_answer(s: &[u8], a: Answer, number: u32, values: &[u64], out: &[u8]) -
         return false;
     }
     has_output(part(s, a.output, a.size), out)
+}
+
+// The length of a file's name up to its dot.
+fn stem(name: &[u8]) -> usize {
+    let mut i: usize = 0;
+    while i < name.len() {
+        if name[i] == b'.' {
+            return i;
+        }
+        i += 1;
+    }
+    i
+}
+
+// A number, and the words after it.
+fn print_count(n: u64, words: &[u8]) {
+    io::print_decimal(STDOUT_FILENO, n);
+    io::write_all(STDOUT_FILENO, words);
+}
+
+// The line of a sample: its name up to the dot, how many cases were replayed, and how many differ.
+pub fn print(name: &[u8], cases: u64, differences: u64) {
+    io::write_all(STDOUT_FILENO, part(name, 0, stem(name)));
+    io::write_all(STDOUT_FILENO, b": ");
+    print_count(cases, b" cases replayed, ");
+    print_count(differences, b" differences\n");
 }

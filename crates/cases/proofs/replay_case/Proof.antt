@@ -2,8 +2,8 @@ use mathlib.Core.Path.{sym}
 use lib.Seq.{length-take-le}
 use native.Mathlib.Omega.{arith}
 use borrow.Author.Needs.{needs}
-use Rattle.replay.proofs.replay_case.Statement.{statement}
-use Rattle.replay.proofs.replay_case.Tie as tie
+use Rattle.cases.proofs.replay_case.Statement.{statement}
+use Rattle.cases.proofs.replay_case.Tie as tie
 
 read-call-requires : tie.Need-read-call-requires
 read-call-requires c κs = search needs
