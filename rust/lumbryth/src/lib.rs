@@ -43,6 +43,9 @@ pub const PAYLOAD_MAX: usize = 32_760;
 /// The longest list of spans or of names, in bytes: 14 and its wire for a span, 6 and its bytes for a name.
 pub const LIST_MAX: usize = 16_777_216;
 
+/// The longest packet that a record can hold: 65,535 bytes of data, 4 before them, and one for the packet's type.
+pub const PACKET_MAX: u32 = 65_540;
+
 /// A channel number that stands for any.
 const ANY_CHANNEL: u32 = 256;
 /// The most values that a call stores.
@@ -199,6 +202,30 @@ pub struct Cut {
     pub missing: Option<u64>,
 }
 
+/// How a trace ends, as far as that can be seen.
+#[derive(Debug, Clone, Copy, PartialEq, Eq, Hash)]
+#[non_exhaustive]
+pub enum Ending {
+    /// At the end of a record, or of the header if there is no record. Whether more was recorded cannot be seen.
+    AtRecord,
+    /// Inside a record: the file was cut.
+    Inside(Cut),
+    /// At a record that gives its packet more bytes than any packet has, over [`PACKET_MAX`]: the file is damaged there.
+    Length {
+        /// Where the record starts.
+        offset: usize,
+        /// The length that it gives.
+        length: u32,
+    },
+    /// With zeros only, from the start of a record on: the file is damaged there.
+    Zeros {
+        /// Where they start.
+        offset: usize,
+        /// How many they are.
+        count: usize,
+    },
+}
+
 /// Runs a call with an output of `first` bytes and, if that is too short, once more with what it
 /// says it needs. Gives the output and the values.
 fn with_output(
@@ -351,8 +378,7 @@ pub fn import_with(file: &[u8], options: &Options) -> Result<Imported, Refusal> 
     let options = [u64::from(channel), u64::from(tolerant)];
     let size = lent(file);
     let mut work = vec![0; 8 * size];
-    let (list, values) =
-        with_output(2 * size, |out, values| ffi::import_with(file, &mut work, out, &options, values))?;
+    let (list, values) = with_output(2 * size, |out, values| ffi::import_with(file, &mut work, out, &options, values))?;
     Ok(imported(list, &values))
 }
 
@@ -445,7 +471,43 @@ pub fn records(file: &[u8]) -> Result<Records, Refusal> {
 /// ```
 pub fn cut(file: &[u8], tail: usize) -> Option<Cut> {
     let record = file.get(tail..).filter(|record| !record.is_empty())?;
-    let included = record.get(4..8).map(|b| u32::from_be_bytes([b[0], b[1], b[2], b[3]]));
-    let missing = included.map(|n| (24 + u64::from(n)).saturating_sub(record.len() as u64));
+    let missing = included(record).map(|n| (24 + u64::from(n)).saturating_sub(record.len() as u64));
     Some(Cut { offset: tail, present: record.len(), missing })
+}
+
+/// How a trace ends. Refuses as [`records`] does.
+///
+/// ```
+/// use lumbryth::{ending, Cut, Ending};
+///
+/// let mut file = b"btsnoop\0\0\0\0\x01\0\0\x03\xEA".to_vec();
+/// assert_eq!(ending(&file), Ok(Ending::AtRecord));
+/// file.extend([0, 0, 0, 9, 0, 0, 0, 9]);
+/// assert_eq!(ending(&file), Ok(Ending::Inside(Cut { offset: 16, present: 8, missing: Some(25) })));
+/// file[20..24].fill(0xFF);
+/// assert_eq!(ending(&file), Ok(Ending::Length { offset: 16, length: u32::MAX }));
+/// file[16..24].fill(0);
+/// assert_eq!(ending(&file), Ok(Ending::Zeros { offset: 16, count: 8 }));
+/// ```
+pub fn ending(file: &[u8]) -> Result<Ending, Refusal> {
+    let records = records(file)?;
+    let zeros = file.len() - file.iter().rev().take_while(|byte| **byte == 0).count();
+    let starts = records.starts.iter().chain([&records.tail]);
+    let offset = starts.copied().find(|start| *start >= zeros).unwrap_or(file.len());
+    // Of a record in which both lengths are there and 0; fewer zeros may be the beginning of any record.
+    if file.len() - offset >= 8 {
+        return Ok(Ending::Zeros { offset, count: file.len() - offset });
+    }
+    let Some(cut) = cut(file, records.tail) else {
+        return Ok(Ending::AtRecord);
+    };
+    match included(&file[cut.offset..]) {
+        Some(length) if length > PACKET_MAX => Ok(Ending::Length { offset: cut.offset, length }),
+        _ => Ok(Ending::Inside(cut)),
+    }
+}
+
+/// The length that a record gives its packet, if so much of it is there.
+fn included(record: &[u8]) -> Option<u32> {
+    record.get(4..8).map(|b| u32::from_be_bytes([b[0], b[1], b[2], b[3]]))
 }
