@@ -3,13 +3,10 @@
 use std::fmt::Write;
 use std::path::Path;
 
-use crate::set::command_in;
 use crate::time::utc;
 use crate::words::{count, hex, object, shown, string};
 use crate::write::Done;
-use lumbryth::{
-    ending, fixture_name, unpack, Cut, Direction, Ending, Imported, Records, Refusal, Span, Stretch, PACKET_MAX,
-};
+use lumbryth::{ending, unpack, Cut, Direction, Ending, Imported, Records, Stretch, PACKET_MAX};
 
 /// How many spans do not unpack.
 pub fn broken(imported: &Imported) -> usize {
@@ -71,14 +68,16 @@ fn way(direction: Direction) -> &'static str {
 /// The open stretches, a sentence each, by handle and direction.
 fn unfinished(open: &[Stretch]) -> Vec<String> {
     let mut open = open.to_vec();
-    open.sort_by_key(|stretch| (stretch.way, stretch.cid, stretch.sessions, stretch.links));
+    open.sort_by_key(|stretch| {
+        (stretch.handle, stretch.direction == Direction::Rx, stretch.cid, stretch.sessions, stretch.links)
+    });
     let sentence = |stretch: &Stretch| {
         format!(
             "Unfinished on handle {}, {}, DLCI {}: {} held without an end marker.",
-            stretch.handle(),
-            if stretch.direction() == Direction::Rx { "received" } else { "sent" },
+            stretch.handle,
+            if stretch.direction == Direction::Rx { "received" } else { "sent" },
             stretch.dlci,
-            count(stretch.held as usize, "byte is", "bytes are"),
+            count(stretch.held, "byte is", "bytes are"),
         )
     };
     open.iter().map(sentence).collect()
@@ -121,33 +120,19 @@ pub fn written(done: &Done, dir: &Path) -> String {
     format!("{text}: {}\n", shown(dir))
 }
 
-/// The parts of a fixture's name that say what the frame is: type, sequence number, command.
-fn parts(name: &str) -> [&str; 3] {
-    let mut parts = name.trim_end_matches(".bin").split('.').skip(1);
-    ["type-", "seq-", "cmd-"].map(|before| parts.next().and_then(|part| part.strip_prefix(before)).unwrap_or(""))
-}
-
-/// A name and the number behind it.
-fn named(part: &str) -> (&str, &str) {
-    part.rsplit_once('-').unwrap_or((part, ""))
-}
-
-fn name_of(counter: u32, span: &Span) -> Result<String, Refusal> {
-    fixture_name(span.ms, counter, span.direction, &span.wire)
-}
-
 /// The list of frames, a line each.
 pub fn frames(imported: &Imported) -> String {
     let mut text = String::new();
     for (counter, span) in (1..).zip(&imported.spans) {
+        let counter: usize = counter;
         let (way, bytes, time) = (way(span.direction), count(span.wire.len(), "byte", "bytes"), utc(span.ms));
-        let _ = match name_of(counter, span) {
-            Ok(name) => {
-                let [kind, seq, command] = parts(&name);
-                let ((command, number), (kind, byte)) = (named(command), named(kind));
+        let _ = match unpack(&span.wire) {
+            Ok(frame) => {
+                let (command, number) = (frame.command_name(), frame.command().unwrap_or(0));
+                let (kind, byte, seq) = (frame.kind.name(), frame.kind.byte(), frame.seq);
                 writeln!(
                     text,
-                    "{command} {way} {counter}, {kind}, seq {seq}, {bytes}, command {number}, type {byte}, {time}"
+                    "{command} {way} {counter}, {kind}, seq {seq:02x}, {bytes}, command {number:02x}, type {byte:02x}, {time}"
                 )
             }
             Err(refusal) => {
@@ -193,8 +178,8 @@ pub fn frame_objects(file: &[u8], imported: &Imported, open: &[Stretch]) -> Stri
     for stretch in open {
         text += &object(&[
             ("kind", string("unfinished")),
-            ("handle", stretch.handle().to_string()),
-            ("direction", string(way(stretch.direction()))),
+            ("handle", stretch.handle.to_string()),
+            ("direction", string(way(stretch.direction))),
             ("dlci", stretch.dlci.to_string()),
             ("held", stretch.held.to_string()),
         ]);
@@ -207,16 +192,16 @@ pub fn frame_objects(file: &[u8], imported: &Imported, open: &[Stretch]) -> Stri
             ("ms", span.ms.to_string()),
             ("wire", string(&hex(&span.wire))),
         ];
-        match (name_of(counter, span), unpack(&span.wire)) {
-            (Ok(name), Ok(frame)) => fields.extend([
-                ("type", frame.kind.to_string()),
-                ("type_name", string(named(parts(&name)[0]).0)),
+        match unpack(&span.wire) {
+            Ok(frame) => fields.extend([
+                ("type", frame.kind.byte().to_string()),
+                ("type_name", string(frame.kind.name())),
                 ("seq", frame.seq.to_string()),
-                ("command", frame.payload.first().map_or("null".to_string(), |byte| byte.to_string())),
-                ("command_name", string(command_in(&name))),
+                ("command", frame.command().map_or("null".to_string(), |byte| byte.to_string())),
+                ("command_name", string(&frame.command_name())),
                 ("payload", string(&hex(&frame.payload))),
             ]),
-            (Err(refusal), _) | (_, Err(refusal)) => {
+            Err(refusal) => {
                 fields.extend([("refusal", refusal.number().to_string()), ("reason", string(&refusal.to_string()))]);
             }
         }
