@@ -398,6 +398,24 @@ fn an_interrupt_is_told() {
     panic!("no signal came in time");
 }
 
+/// At a terminal, where one can be had, it says what it does; without one nothing.
+#[test]
+fn progress_is_told_at_a_terminal() {
+    let place = Place::new();
+    let trace = many(&place, 2_000);
+    let output = words(&[&"import", &trace, &"--out", &place.join("quiet")]);
+    assert_eq!((status(&output), err(&output)), (0, String::new()));
+    let mut terminal = Command::new("script");
+    terminal.args(["--quiet", "--return", "--command", "\"$PROGRAM\" import \"$TRACE\" --out \"$DIR\"", "/dev/null"]);
+    terminal.env("PROGRAM", PROGRAM).env("TRACE", &trace).env("DIR", place.join("told")).env("SHELL", "/bin/sh");
+    let Ok(output) = terminal.stdin(Stdio::null()).output() else {
+        println!("skipped: no terminal can be had");
+        return;
+    };
+    assert!(out(&output).contains("lumbryth: 2000 fixtures written, waiting for the disk\r\n"), "{}", out(&output));
+    assert_eq!(status(&words(&[&"check", &place.join("told")])), 0);
+}
+
 /// A small file system that fills up, where one can be mounted.
 #[test]
 fn a_full_disk() {
