@@ -154,7 +154,7 @@ fn run_import(options: &Import) -> Result<(), Failure> {
     let found = found(&options.look)?;
     let (fixtures, set) = planned(&options.look, &options.exclude, &found)?;
     let Found { file, imported, open } = &found;
-    let mut findings = report::findings(file, imported, open, "among the fixtures");
+    let mut findings = report::findings(file, imported, open, options.look.channel.is_some(), "among the fixtures");
     let excluded = imported.frames - report::broken(imported) - fixtures.len();
     if !options.exclude.is_empty() {
         findings += &format!("{} left out by --exclude.\n", count(excluded, "frame", "frames"));
@@ -174,7 +174,7 @@ fn run_frames(look: &Look, json: bool) -> Result<(), Failure> {
     if json {
         return print(&report::frame_objects(&file, &imported, &open));
     }
-    let findings = report::findings(&file, &imported, &open, "listed");
+    let findings = report::findings(&file, &imported, &open, look.channel.is_some(), "listed");
     print(&(findings + &report::frames(&imported)))
 }
 

@@ -83,13 +83,14 @@ fn unfinished(open: &[Stretch]) -> Vec<String> {
     open.iter().map(sentence).collect()
 }
 
-/// What an import found. `open` are the stretches that hold bytes at the end, and `place` is
-/// where the frames are: among the fixtures, or listed.
-pub fn findings(file: &[u8], imported: &Imported, open: &[Stretch], place: &str) -> String {
+/// What an import found. `open` are the stretches that hold bytes at the end, `asked` is whether it was asked for a channel, and
+/// `place` is where the frames are: among the fixtures, or listed.
+pub fn findings(file: &[u8], imported: &Imported, open: &[Stretch], asked: bool, place: &str) -> String {
     let mut text = format!(
         "{}, {}: DLCI {}, channel {}.\n",
         count(imported.frames, "frame", "frames"),
         match broken(imported) {
+            0 if imported.frames == 1 => "which unpacks".to_string(),
             0 => "all of which unpack".to_string(),
             n => count(n, "of which does not unpack", "of which do not unpack"),
         },
@@ -107,6 +108,11 @@ pub fn findings(file: &[u8], imported: &Imported, open: &[Stretch], place: &str)
         let _ = writeln!(text, "Kept: {}, complete before that.", count(imported.frames, "frame", "frames"));
         let _ = writeln!(text, "Missing: whatever was not complete before that, or came later.");
         let _ = writeln!(text, "A reply that is not {place} may have been sent all the same.");
+        if !asked {
+            let channel = imported.dlci / 2;
+            let _ =
+                writeln!(text, "What is proved of a cut is for a channel that is asked for, here --channel {channel}.");
+        }
     }
     text
 }

@@ -181,9 +181,10 @@ fn same_set(dir: &Path, set: &Set) -> Result<bool, String> {
         }
     }
     let names = fs::read_dir(dir).map_err(|error| format!("the directory cannot be read: {error}: {}", shown(dir)))?;
-    for name in names.filter_map(|entry| entry.ok()?.file_name().into_string().ok()) {
-        if set::is_fixture_name(&name) && !set.fixtures.contains_key(&name) {
-            let path = dir.join(name);
+    for name in names.filter_map(|entry| Some(entry.ok()?.file_name())) {
+        let path = dir.join(&name);
+        let name = name.to_string_lossy();
+        if set::is_fixture_name(&name) && !set.fixtures.contains_key(&*name) {
             return Err(format!("nothing was written: the directory has a fixture of another set: {}", shown(&path)));
         }
     }

@@ -247,10 +247,13 @@ fn a_cut_file() {
         "Kept: 29 frames, complete before that.",
         "Missing: whatever was not complete before that, or came later.",
         "A reply that is not among the fixtures may have been sent all the same.",
+        "What is proved of a cut is for a channel that is asked for, here --channel 9.",
         &format!("28 fixtures written: {}", dir.display()),
     ];
     assert_eq!(out(&output).lines().collect::<Vec<_>>(), lines);
     holds(&dir, &fixtures(&fs::read(&trace).unwrap()));
+    let output = words(&[&"import", &trace, &"--dry-run", &"--tolerant", &"--channel=9"]);
+    assert!(err(&output).ends_with("may have been sent all the same.\n"), "{}", err(&output));
 }
 
 #[test]

@@ -318,7 +318,7 @@ fn fifteen_thousand() {
     let started = Instant::now();
     assert_eq!(status(&words(&[&"import", &trace, &"--out", &dir])), 0);
     let took = started.elapsed();
-    assert!(took < Duration::from_secs(30), "{took:?}");
+    assert!(took < Duration::from_secs(60), "{took:?}");
     assert_eq!(listing(&dir).len(), 15_001);
     assert_eq!(status(&words(&[&"check", &dir, &trace])), 0);
     // Into a directory that is there, half of it missing.
@@ -347,7 +347,7 @@ fn an_interrupt_leaves_nothing() {
         program.arg("import").arg(&trace).arg("--out").arg(&dir).stdout(Stdio::null()).stderr(Stdio::piped());
         let mut child = program.spawn().unwrap();
         sleep(Duration::from_millis(20 + 40 * i as u64));
-        let sent = Command::new("kill").args(["-s", signal, &child.id().to_string()]).status().unwrap();
+        let sent = Command::new("sh").args(["-c", "kill -s $0 $1", signal, &child.id().to_string()]).status().unwrap();
         assert!(sent.success());
         let mut told = String::new();
         child.stderr.take().unwrap().read_to_string(&mut told).unwrap();
@@ -382,8 +382,11 @@ fn an_interrupt_is_told() {
         program.arg("import").arg(&trace).arg("--out").arg(&dir).stdout(Stdio::null()).stderr(Stdio::piped());
         let mut child = program.spawn().unwrap();
         while child.try_wait().unwrap().is_none() && listing(&place.0) == ["many"] {}
-        let _ =
-            Command::new("kill").args(["-s", "INT", &child.id().to_string()]).stderr(Stdio::null()).status().unwrap();
+        let _ = Command::new("sh")
+            .args(["-c", "kill -s INT $0", &child.id().to_string()])
+            .stderr(Stdio::null())
+            .status()
+            .unwrap();
         let mut told = String::new();
         child.stderr.take().unwrap().read_to_string(&mut told).unwrap();
         let status = child.wait().unwrap();
