@@ -2,7 +2,7 @@
 
 use std::collections::{BTreeMap, BTreeSet};
 use std::fs::{self, File};
-use std::io::Read;
+use std::io::{self, Read};
 use std::path::Path;
 
 use crate::set::{self, Set};
@@ -12,9 +12,9 @@ use lumbryth::FILE_MAX;
 
 /// What is wrong with a set, or with a name of it.
 pub struct Fault {
-    /// One word: missing, changed, extra, list or trace.
+    /// One word: missing, changed, unreadable or extra, of a fixture; or list or trace.
     pub kind: &'static str,
-    /// A name, or what the list or the trace says.
+    /// The fixture's name, or what is wrong with the list or the trace.
     pub what: String,
 }
 
@@ -30,17 +30,22 @@ impl Fault {
     pub fn trace(what: impl Into<String>) -> Fault {
         fault("trace", what)
     }
+
+    /// Whether it says the name of a fixture.
+    fn of_a_name(&self) -> bool {
+        !matches!(self.kind, "list" | "trace")
+    }
 }
 
 /// What became of the fixtures that a list names, and what a reader would take that it does not name.
 pub fn fixtures(dir: &Path, set: &Set) -> Result<Vec<Fault>, String> {
     let mut faults = Vec::new();
     for (name, sum) in &set.fixtures {
-        let path = dir.join(name);
-        if fs::symlink_metadata(&path).is_err() {
-            faults.push(fault("missing", name));
-        } else if sum_of(&path).as_ref() != Some(sum) {
-            faults.push(fault("changed", name));
+        match sum_of(&dir.join(name)) {
+            Ok(Some(found)) if found == *sum => {}
+            Ok(_) => faults.push(fault("changed", name)),
+            Err(error) if error.kind() == io::ErrorKind::NotFound => faults.push(fault("missing", name)),
+            Err(_) => faults.push(fault("unreadable", name)),
         }
     }
     let names = fs::read_dir(dir).map_err(|error| format!("the directory cannot be read: {error}: {}", shown(dir)))?;
@@ -50,7 +55,7 @@ pub fn fixtures(dir: &Path, set: &Set) -> Result<Vec<Fault>, String> {
         if set::is_fixture_name(&name.to_string_lossy())
             && !name.to_str().is_some_and(|name| set.fixtures.contains_key(name))
         {
-            extra.push(fault("extra", shown(name)));
+            extra.push(fault("extra", name.to_string_lossy()));
         }
     }
     extra.sort_by(|a, b| a.what.cmp(&b.what));
@@ -58,14 +63,14 @@ pub fn fixtures(dir: &Path, set: &Set) -> Result<Vec<Fault>, String> {
     Ok(faults)
 }
 
-/// The sum of a file, if it is one that can be read and is not longer than any fixture.
-fn sum_of(path: &Path) -> Option<String> {
-    if !fs::metadata(path).ok()?.is_file() {
-        return None;
+/// The sum of a file, if it is one that is not longer than any fixture.
+fn sum_of(path: &Path) -> io::Result<Option<String>> {
+    if !fs::metadata(path)?.is_file() {
+        return Ok(None);
     }
     let mut bytes = Vec::new();
-    File::open(path).ok()?.take(FILE_MAX as u64 + 1).read_to_end(&mut bytes).ok()?;
-    (bytes.len() <= FILE_MAX).then(|| sum(&bytes))
+    File::open(path)?.take(FILE_MAX as u64 + 1).read_to_end(&mut bytes)?;
+    Ok((bytes.len() <= FILE_MAX).then(|| sum(&bytes)))
 }
 
 /// Where a list contradicts itself: each counter is that of one fixture, or of one span that is none.
@@ -110,12 +115,13 @@ pub fn trace(found: &Set, again: &Set) -> Vec<Fault> {
 
 /// A line for each fault.
 pub fn lines(faults: &[Fault]) -> String {
-    faults.iter().map(|fault| format!("{}: {}\n", fault.kind, fault.what)).collect()
+    let what = |fault: &Fault| if fault.of_a_name() { shown(&fault.what) } else { fault.what.clone() };
+    faults.iter().map(|fault| format!("{}: {}\n", fault.kind, what(fault))).collect()
 }
 
 /// How many faults of each kind there are.
 pub fn summary(faults: &[Fault]) -> String {
-    let kinds = ["missing", "changed", "extra", "list", "trace"];
+    let kinds = ["missing", "changed", "unreadable", "extra", "list", "trace"];
     let numbers = kinds.map(|kind| (faults.iter().filter(|fault| fault.kind == kind).count(), kind));
     let parts: Vec<String> = numbers.iter().filter(|(n, _)| *n > 0).map(|(n, kind)| format!("{n} {kind}")).collect();
     parts.join(", ")
@@ -132,12 +138,10 @@ pub fn told(set: &Set) -> String {
 pub fn objects(set: &Set, faults: &[Fault]) -> String {
     let wrong: BTreeSet<&str> = faults.iter().map(|fault| &*fault.what).collect();
     let right = set.fixtures.keys().filter(|name| !wrong.contains(&***name));
-    let mut text: String = right.map(|name| of("ok", name)).collect();
-    text.extend(faults.iter().map(|fault| of(fault.kind, &fault.what)));
+    let of = |kind: &str, field: &str, what: &str| object(&[("kind", string(kind)), (field, string(what))]);
+    let mut text: String = right.map(|name| of("ok", "name", name)).collect();
+    text.extend(
+        faults.iter().map(|fault| of(fault.kind, if fault.of_a_name() { "name" } else { "reason" }, &fault.what)),
+    );
     text
-}
-
-fn of(kind: &str, what: &str) -> String {
-    let field = if matches!(kind, "list" | "trace") { "reason" } else { "name" };
-    object(&[("kind", string(kind)), (field, string(what))])
 }

@@ -83,12 +83,12 @@ pub const CHECK: &str = "\
 usage: lumbryth check DIR [TRACE] [options]
 
 Checks a set of fixtures that import wrote to DIR, by its list, fixtures.sha256: names each
-fixture that is missing or changed, and each that is extra. With TRACE, imports that again
+fixture that is missing, changed or unreadable, and each that is extra. With TRACE, imports that again
 as the set was asked for, and names in what it differs. Files that are no fixtures are
 passed over.
 
-  --json           an object a line: each fixture, ok, missing, changed or extra; and
-                   what is wrong with the list, or differs from the trace
+  --json           an object a line: each fixture, ok, missing, changed, unreadable or
+                   extra; and what is wrong with the list, or differs from the trace
   --               what follows is no option
 
 Exit status: 0 if nothing is wrong; 1 if something is, or cannot be read; 2 if the command

@@ -3,7 +3,7 @@
 //! Its first line says what it is; then come facts, a line each, sorted, which begin with `#`; then a line for each fixture, sorted
 //! by name, in the form that `sha256sum -c` takes, which passes over lines with `#`; then the sum of all lines above.
 
-use std::collections::BTreeMap;
+use std::collections::{BTreeMap, BTreeSet};
 
 use crate::args::{is_name, Look};
 use crate::sha256::sum;
@@ -162,9 +162,10 @@ impl Set {
     }
 
     /// Facts that only this set has, and those that only the other has. The name of the trace is free.
-    pub fn differences<'a>(&'a self, other: &'a Set) -> (Vec<String>, Vec<String>) {
+    pub fn differences(&self, other: &Set) -> (Vec<String>, Vec<String>) {
         let only = |one: &Set, two: &Set| {
-            let facts = one.facts.iter().filter(|fact| fact.0 != "trace name" && !two.facts.contains(fact));
+            let two: BTreeSet<_> = two.facts.iter().collect();
+            let facts = one.facts.iter().filter(|fact| fact.0 != "trace name" && !two.contains(fact));
             facts.map(|(name, value)| format!("{name}: {value}")).collect()
         };
         (only(self, other), only(other, self))

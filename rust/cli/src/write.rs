@@ -234,6 +234,8 @@ fn other(found: &Set, set: &Set) -> Option<String> {
 
 /// Writes files to a directory of their own, and waits once until they are on the disk.
 fn fill(stage: &Path, set: Option<&Set>, fixtures: &[&Fixture]) -> Result<(), Stopped> {
+    // Opened first, so that what goes wrong on the way to the disk is told at the end.
+    let open = File::open(stage).map_err(failed(stage))?;
     let mut progress = Progress::of(fixtures.len());
     for (n, fixture) in fixtures.iter().enumerate() {
         let path = stage.join(&fixture.name);
@@ -246,7 +248,7 @@ fn fill(stage: &Path, set: Option<&Set>, fixtures: &[&Fixture]) -> Result<(), St
         write_new(&path, set.text().as_bytes()).map_err(failed(&path))?;
     }
     progress.waits();
-    File::open(stage).and_then(|stage| os::sync(&stage)).map_err(failed(stage))?;
+    os::sync(&open).map_err(failed(stage))?;
     go_on()
 }
 

@@ -137,23 +137,27 @@ fn a_set_is_checked() {
     fs::remove_file(dir.join(&names[7])).unwrap();
     fs::create_dir(dir.join(&names[7])).unwrap();
     fs::write(dir.join("more-rx.\u{1B}.bin"), b"mine").unwrap();
+    let loop_to_itself = &names[11];
+    fs::remove_file(dir.join(loop_to_itself)).unwrap();
+    symlink(loop_to_itself, dir.join(loop_to_itself)).unwrap();
     let lines = [
         format!("changed: {}", names[3]),
         format!("missing: {}", names[5]),
         format!("changed: {}", names[7]),
+        format!("unreadable: {loop_to_itself}"),
         "extra: more-rx.\\x1b.bin".to_string(),
     ];
     let lines: Vec<&str> = lines.iter().map(|line| &**line).collect();
-    finds(&words(&[&"check", &dir]), &lines, "1 missing, 2 changed, 1 extra");
-    finds(&words(&[&"check", &dir, &trace]), &lines, "1 missing, 2 changed, 1 extra");
+    finds(&words(&[&"check", &dir]), &lines, "1 missing, 2 changed, 1 unreadable, 1 extra");
+    finds(&words(&[&"check", &dir, &trace]), &lines, "1 missing, 2 changed, 1 unreadable, 1 extra");
 
     let json = words(&[&"check", &"--json", &dir]);
     assert_eq!(status(&json), 1);
     let text = out(&json);
     assert_eq!(text.lines().count(), 31);
-    assert_eq!(text.lines().filter(|line| line.starts_with("{\"kind\":\"ok\",\"name\":\"mdr-packet-")).count(), 27);
+    assert_eq!(text.lines().filter(|line| line.starts_with("{\"kind\":\"ok\",\"name\":\"mdr-packet-")).count(), 26);
     assert!(text.contains(&format!("{{\"kind\":\"missing\",\"name\":\"{}\"}}\n", names[5])));
-    assert!(text.ends_with("{\"kind\":\"extra\",\"name\":\"more-rx.\\\\x1b.bin\"}\n"), "{text}");
+    assert!(text.ends_with("{\"kind\":\"extra\",\"name\":\"more-rx.\\u001b.bin\"}\n"), "{text}");
 }
 
 /// Each byte of each fixture matters, and each fixture.

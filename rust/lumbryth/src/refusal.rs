@@ -145,7 +145,7 @@ impl fmt::Display for Refusal {
                 write!(f, "the trace has datalink {n}, and only 1001, 1002 and 2001 can be read")
             }
             Refusal::Truncated { offset } => {
-                write!(f, "the file ends inside the record that starts at byte {offset}")
+                write!(f, "the record that starts at byte {offset} passes the end of the file")
             }
             Refusal::NoStream => write!(f, "no channel that was asked for carries a frame that unpacks"),
             Refusal::OutShort { needed } => write!(f, "the output buffer is too short: {needed} bytes are needed"),
