@@ -204,14 +204,32 @@ fn a_set_is_held_against_a_trace() {
     let dry = place.join("commands");
     assert_eq!(status(&words(&[&"import", &cut, &"--out", &dry, &"--tolerant", &"--exclude=NO_COMMAND"])), 0);
     assert_eq!(status(&words(&[&"check", &dry, &cut])), 0);
-    // A list of a trace that says what the trace does not, with a right sum.
+    // A list that says what the trace does not, with a right sum.
     let text = fs::read_to_string(dir.join(LIST)).unwrap();
-    let body = text[..text.rfind("# lines above").unwrap()].replace("# unfinished: 0", "# unfinished: 1");
-    let sum = Command::new("sha256sum").arg(place.file("body", body.as_bytes())).output().unwrap();
-    fs::write(dir.join(LIST), format!("{body}# lines above sha256: {}\n", &out(&sum)[..64])).unwrap();
+    relist(&place, &dir, &text.replace("# unfinished: 0", "# unfinished: 1"));
     assert_eq!(status(&words(&[&"check", &dir])), 0);
     let lines = ["trace: only the list has unfinished: 1", "trace: only the trace has unfinished: 0"];
     finds(&words(&[&"check", &dir, &example("headset.btsnoop")]), &lines, "2 trace");
+    // A fixture that was changed together with its list.
+    let name = &listing(&dir)[4];
+    let before = sum(&dir.join(name));
+    fs::write(dir.join(name), b"other").unwrap();
+    relist(&place, &dir, &text.replace(&format!("{before}  {name}"), &format!("{}  {name}", sum(&dir.join(name)))));
+    assert_eq!(status(&words(&[&"check", &dir])), 0);
+    let line = format!("trace: other bytes than in the list has {name}");
+    finds(&words(&[&"check", &dir, &example("headset.btsnoop")]), &[&line], "1 trace");
+}
+
+/// The sum of a file, by another program.
+fn sum(path: &Path) -> String {
+    out(&Command::new("sha256sum").arg("--").arg(path).output().unwrap()).trim_start_matches('\\')[..64].to_string()
+}
+
+/// Puts a changed text in the place of a list, with a right last line.
+fn relist(place: &Place, dir: &Path, text: &str) {
+    let body = &text[..text.rfind("# lines above").unwrap()];
+    let last = sum(&place.file("body", body.as_bytes()));
+    fs::write(dir.join(LIST), format!("{body}# lines above sha256: {last}\n")).unwrap();
 }
 
 #[test]
@@ -234,9 +252,7 @@ fn what_is_no_set() {
     for (from, to) in
         [("  mdr-packet-", "  ../mdr-packet-"), ("-000031-tx", "-000030-tx"), ("fixtures: 30", "fixtures: 29")]
     {
-        let body = text[..text.rfind("# lines above").unwrap()].replace(from, to);
-        let sum = Command::new("sha256sum").arg(place.file("body", body.as_bytes())).output().unwrap();
-        fs::write(dir.join(LIST), format!("{body}# lines above sha256: {}\n", &out(&sum)[..64])).unwrap();
+        relist(&place, &dir, &text.replace(from, to));
         let output = words(&[&"check", &dir]);
         assert_eq!(status(&output), 1);
         assert!(format!("{}{}", out(&output), err(&output)).contains("list"), "{}", err(&output));
@@ -375,34 +391,51 @@ fn an_interrupt_leaves_nothing() {
     assert!(ended > 0, "no signal came in time");
 }
 
-#[test]
-fn an_interrupt_is_told() {
-    let place = Place::new();
-    let trace = many(&place, 15_000);
-    let dir = place.join("out");
-    // The signal may come too late: then once more.
+/// Starts an import of many, interrupts it once something of it is seen, and holds it to leaving a directory as it was. The signal
+/// may come too late: then once more.
+#[track_caller]
+fn interrupted(place: &Place, trace: &Path, out: &Path, seen: impl Fn() -> bool) {
     for _ in 0..20 {
         let mut program = Command::new(PROGRAM);
-        program.arg("import").arg(&trace).arg("--out").arg(&dir).stdout(Stdio::null()).stderr(Stdio::piped());
+        program.arg("import").arg(trace).arg("--out").arg(out).stdout(Stdio::null()).stderr(Stdio::piped());
+        let before = listing(&place.0);
         let mut child = program.spawn().unwrap();
-        while child.try_wait().unwrap().is_none() && listing(&place.0) == ["many"] {}
-        let _ = Command::new("sh")
-            .args(["-c", "kill -s INT $0", &child.id().to_string()])
-            .stderr(Stdio::null())
-            .status()
-            .unwrap();
+        while child.try_wait().unwrap().is_none() && !seen() {}
+        let kill = ["-c", "kill -s INT $0", &child.id().to_string()];
+        let _ = Command::new("sh").args(kill).stderr(Stdio::null()).status().unwrap();
         let mut told = String::new();
         child.stderr.take().unwrap().read_to_string(&mut told).unwrap();
         let status = child.wait().unwrap();
         if status.success() {
-            fs::remove_dir_all(&dir).unwrap();
+            for name in listing(out).iter().filter(|name| *name != "notes.txt") {
+                fs::remove_file(out.join(name)).unwrap();
+            }
+            let _ = fs::remove_dir(out);
             continue;
         }
         assert_eq!((status.signal(), &*told), (Some(2), "lumbryth: interrupted: nothing was written\n"));
-        assert_eq!(listing(&place.0), ["many"]);
+        assert_eq!(listing(&place.0), before);
         return;
     }
     panic!("no signal came in time");
+}
+
+#[test]
+fn an_interrupt_is_told() {
+    let place = Place::new();
+    let trace = many(&place, 15_000);
+    interrupted(&place, &trace, &place.join("out"), || listing(&place.0) != ["many"]);
+}
+
+/// In a directory that is there the names appear one by one: those that did go again.
+#[test]
+fn an_interrupt_while_names_appear() {
+    let place = Place::new();
+    let (trace, dir) = (many(&place, 15_000), place.join("out"));
+    fs::create_dir(&dir).unwrap();
+    fs::write(dir.join("notes.txt"), b"mine").unwrap();
+    interrupted(&place, &trace, &dir, || listing(&dir).len() > 2);
+    assert_eq!(listing(&dir), ["notes.txt"]);
 }
 
 /// At a terminal, where one can be had, it says what it does; without one nothing.
