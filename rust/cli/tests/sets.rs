@@ -391,6 +391,17 @@ fn an_interrupt_leaves_nothing() {
     assert!(ended > 0, "no signal came in time");
 }
 
+/// A signal that asks to end: the terminal's, unless this process was started so that it is ignored.
+fn signal() -> (&'static str, i32) {
+    let status = fs::read_to_string("/proc/self/status").unwrap();
+    let ignored = status.lines().find_map(|line| line.strip_prefix("SigIgn:")).unwrap();
+    if u64::from_str_radix(ignored.trim(), 16).unwrap() & 2 == 0 {
+        ("INT", 2)
+    } else {
+        ("TERM", 15)
+    }
+}
+
 /// Starts an import of many, interrupts it once something of it is seen, and holds it to leaving a directory as it was. The signal
 /// may come too late: then once more.
 #[track_caller]
@@ -401,7 +412,8 @@ fn interrupted(place: &Place, trace: &Path, out: &Path, seen: impl Fn() -> bool)
         let before = listing(&place.0);
         let mut child = program.spawn().unwrap();
         while child.try_wait().unwrap().is_none() && !seen() {}
-        let kill = ["-c", "kill -s INT $0", &child.id().to_string()];
+        let (name, number) = signal();
+        let kill = ["-c", "kill -s $0 $1", name, &child.id().to_string()];
         let _ = Command::new("sh").args(kill).stderr(Stdio::null()).status().unwrap();
         let mut told = String::new();
         child.stderr.take().unwrap().read_to_string(&mut told).unwrap();
@@ -413,7 +425,7 @@ fn interrupted(place: &Place, trace: &Path, out: &Path, seen: impl Fn() -> bool)
             let _ = fs::remove_dir(out);
             continue;
         }
-        assert_eq!((status.signal(), &*told), (Some(2), "lumbryth: interrupted: nothing was written\n"));
+        assert_eq!((status.signal(), &*told), (Some(number), "lumbryth: interrupted: nothing was written\n"));
         assert_eq!(listing(&place.0), before);
         return;
     }
