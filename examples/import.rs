@@ -13,30 +13,16 @@ fn main() -> Result<(), Box<dyn Error>> {
     let path = env::args_os().nth(1).ok_or("say which trace to read")?;
     let file = fs::read(&path)?;
     let imported = import(&file, None, TailRule::Tolerant)?;
-    println!(
-        "DLCI {}, frames {}, unfinished {}",
-        imported.dlci, imported.frames, imported.unfinished
-    );
+    println!("DLCI {}, frames {}, unfinished {}", imported.dlci, imported.frames, imported.unfinished);
     if let Some(cut) = cut(&file, imported.tail) {
-        println!(
-            "the file ends inside the record that starts at byte {}",
-            cut.offset
-        );
+        println!("the file ends inside the record that starts at byte {}", cut.offset);
     }
     for (counter, span) in (1..).zip(&imported.spans) {
         match fixture_name(span.ms, counter, span.direction, &span.wire) {
             Ok(name) => println!("{name}"),
             Err(refusal) => {
-                let way = if span.direction == Direction::Rx {
-                    "rx"
-                } else {
-                    "tx"
-                };
-                println!(
-                    "frame {counter}, {way}, {} bytes: refused ({})",
-                    span.wire.len(),
-                    refusal.number()
-                );
+                let way = if span.direction == Direction::Rx { "rx" } else { "tx" };
+                println!("frame {counter}, {way}, {} bytes: refused ({})", span.wire.len(), refusal.number());
             }
         }
     }

@@ -48,8 +48,7 @@ impl Recording {
         let mut from = 0;
         for &end in ends.iter().chain([&pdu.len()]) {
             let us = self.tick();
-            self.trace
-                .fragment(direction, us, HANDLE, from == 0, &pdu[from..end]);
+            self.trace.fragment(direction, us, HANDLE, from == 0, &pdu[from..end]);
             from = end;
         }
     }
@@ -63,23 +62,12 @@ impl Recording {
     /// Information on the channel, in one piece. The phone began the session, so that the
     /// frames it sends have the bit of a command.
     fn data(&mut self, direction: Direction, information: &[u8]) {
-        self.rfcomm(
-            direction,
-            &uih(DLCI, direction == Tx, None, information),
-            &[],
-        );
+        self.rfcomm(direction, &uih(DLCI, direction == Tx, None, information), &[]);
     }
 
     /// A request from the phone, the headset's ACK and reply, and the phone's ACK. The reply
     /// may come in two pieces, the first of so many bytes.
-    fn ask(
-        &mut self,
-        kind: u8,
-        seq: u8,
-        request: &[u8],
-        reply: &[u8],
-        split: Option<usize>,
-    ) -> Result<(), Refusal> {
+    fn ask(&mut self, kind: u8, seq: u8, request: &[u8], reply: &[u8], split: Option<usize>) -> Result<(), Refusal> {
         self.data(Tx, &pack(kind, seq, request)?);
         self.data(Rx, &pack(ACK, 1 - seq, &[])?);
         let wire = pack(kind, seq, reply)?;
@@ -111,66 +99,25 @@ fn open(r: &mut Recording) {
     // The multiplexer, then the channel; parameters, modem status and credits.
     r.rfcomm(Tx, &control(0, true, 0x3F), &[]);
     r.rfcomm(Rx, &control(0, true, 0x73), &[]);
-    r.rfcomm(
-        Tx,
-        &uih(
-            0,
-            true,
-            None,
-            &[0x83, 0x11, DLCI, 0xF0, 7, 0, 0x7A, 0x03, 0, 7],
-        ),
-        &[],
-    );
-    r.rfcomm(
-        Rx,
-        &uih(
-            0,
-            false,
-            None,
-            &[0x81, 0x11, DLCI, 0xE0, 7, 0, 0x7A, 0x03, 0, 7],
-        ),
-        &[],
-    );
+    r.rfcomm(Tx, &uih(0, true, None, &[0x83, 0x11, DLCI, 0xF0, 7, 0, 0x7A, 0x03, 0, 7]), &[]);
+    r.rfcomm(Rx, &uih(0, false, None, &[0x81, 0x11, DLCI, 0xE0, 7, 0, 0x7A, 0x03, 0, 7]), &[]);
     r.rfcomm(Tx, &control(DLCI, true, 0x3F), &[]);
     r.rfcomm(Rx, &control(DLCI, true, 0x73), &[]);
-    r.rfcomm(
-        Tx,
-        &uih(0, true, None, &[0xE3, 0x05, DLCI << 2 | 3, 0x8D]),
-        &[],
-    );
-    r.rfcomm(
-        Rx,
-        &uih(0, false, None, &[0xE1, 0x05, DLCI << 2 | 3, 0x8D]),
-        &[],
-    );
+    r.rfcomm(Tx, &uih(0, true, None, &[0xE3, 0x05, DLCI << 2 | 3, 0x8D]), &[]);
+    r.rfcomm(Rx, &uih(0, false, None, &[0xE1, 0x05, DLCI << 2 | 3, 0x8D]), &[]);
     r.rfcomm(Rx, &uih(DLCI, false, Some(20), &[]), &[]);
 }
 
 fn headset() -> Result<Trace, Refusal> {
-    let mut r = Recording {
-        trace: Trace::new(1002),
-        us: START,
-    };
+    let mut r = Recording { trace: Trace::new(1002), us: START };
     open(&mut r);
-    r.ask(
-        MDR,
-        0,
-        &[0x00, 0x00],
-        &[0x01, 0x00, 0x70, 0x00, 0x20, 0x01],
-        None,
-    )?;
+    r.ask(MDR, 0, &[0x00, 0x00], &[0x01, 0x00, 0x70, 0x00, 0x20, 0x01], None)?;
     let device = [&[0x05, 0x01, 0x0A], &b"LUMBRYTH-1"[..]].concat();
     r.ask(MDR, 1, &[0x04, 0x01], &device, None)?;
     // 60 per cent is 3C, which is escaped on the wire.
     r.ask(MDR, 0, &[0x22, 0x00], &[0x23, 0x00, 0x3C, 0x00], None)?;
     // A reply in two pieces.
-    r.ask(
-        MDR,
-        1,
-        &[0x66, 0x17],
-        &[0x67, 0x17, 0x01, 0x01, 0x00, 0x00, 0x0E],
-        Some(6),
-    )?;
+    r.ask(MDR, 1, &[0x66, 0x17], &[0x67, 0x17, 0x01, 0x01, 0x00, 0x00, 0x0E], Some(6))?;
     // A notice that is damaged on its way: its checksum no longer fits. No ACK follows, and
     // the headset sends it again.
     let notice = pack(MDR, 0, &[0x25, 0x00, 0x3B, 0x00])?;
@@ -182,18 +129,13 @@ fn headset() -> Result<Trace, Refusal> {
     // A long reply, with a credit byte and in four fragments; an event comes between them.
     r.data(Tx, &pack(MDR, 0, &[0x56, 0x00])?);
     let bands: Vec<u8> = (0..150).map(|i| i * 5 % 61).collect();
-    let reply = [
-        pack(ACK, 1, &[])?,
-        pack(MDR, 1, &[&[0x57, 0x00], &bands[..]].concat())?,
-    ]
-    .concat();
+    let reply = [pack(ACK, 1, &[])?, pack(MDR, 1, &[&[0x57, 0x00], &bands[..]].concat())?].concat();
     let frame = pdu(PHONE, &uih(DLCI, false, Some(5), &reply));
     for (i, part) in frame.chunks(54).enumerate() {
         let us = r.tick();
         r.trace.fragment(Rx, us, HANDLE, i == 0, part);
         if i == 1 {
-            r.trace
-                .hci_event(us + 500, &[0x13, 0x05, 0x01, 0x06, 0x00, 0x02, 0x00]);
+            r.trace.hci_event(us + 500, &[0x13, 0x05, 0x01, 0x06, 0x00, 0x02, 0x00]);
         }
     }
     r.data(Tx, &pack(ACK, 0, &[])?);
@@ -204,21 +146,11 @@ fn headset() -> Result<Trace, Refusal> {
 }
 
 fn main() -> Result<(), Box<dyn Error>> {
-    let dir = env::args_os()
-        .nth(1)
-        .ok_or("say which directory to write the traces to")?;
+    let dir = env::args_os().nth(1).ok_or("say which directory to write the traces to")?;
     let trace = headset()?;
     let last_but_one = trace.starts[trace.starts.len() - 2];
     fs::write(Path::new(&dir).join("headset.btsnoop"), &trace.file)?;
-    fs::write(
-        Path::new(&dir).join("cut.btsnoop"),
-        &trace.file[..last_but_one + 30],
-    )?;
-    println!(
-        "{} records, {} bytes; the other is cut at {}",
-        trace.starts.len(),
-        trace.file.len(),
-        last_but_one + 30
-    );
+    fs::write(Path::new(&dir).join("cut.btsnoop"), &trace.file[..last_but_one + 30])?;
+    println!("{} records, {} bytes; the other is cut at {}", trace.starts.len(), trace.file.len(), last_but_one + 30);
     Ok(())
 }

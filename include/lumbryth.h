@@ -75,6 +75,7 @@ extern "C" {
 #define LUMBRYTH_PAYLOAD_MAX 32760   /* the longest payload that is packed */
 #define LUMBRYTH_LIST_MAX 16777216   /* the longest list that is read */
 #define LUMBRYTH_NAME_MAX 118        /* the longest name that is given */
+#define LUMBRYTH_PACKET_MAX 65540    /* the longest packet that there is; a record that says more is damaged */
 #define LUMBRYTH_VALUES 5            /* the most values that a call stores */
 
 /* A channel that stands for: any. So does every other number over 255. */
@@ -180,9 +181,12 @@ uint32_t lumbryth_capture_order(const uint8_t *names, size_t names_len,
  *
  * Values: DLCI, frames (every span in the list, also those that do not unpack),
  * unfinished (how many stretches and directions of the DLCI hold bytes without an end
- * marker, 3C), tail offset, bytes written.
+ * marker, 3C; a PDU of which only a part was recorded is not counted), tail offset,
+ * bytes written.
  * The tail offset is where reading stopped: the file's length, or where the record
- * starts inside which the file ends. If it is less than `file_len`, the file was cut.
+ * starts that passes the file's end. If it is less than `file_len`, the file was cut, or
+ * is damaged there: no packet has over LUMBRYTH_PACKET_MAX bytes. If it is `file_len`,
+ * the file ends at a record's end, and whether more was recorded cannot be seen.
  *
  * Refusals: 1 to 7, in this order.
  */

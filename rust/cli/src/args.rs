@@ -5,6 +5,7 @@ use std::os::unix::ffi::OsStrExt;
 use std::path::PathBuf;
 
 use crate::help;
+use crate::words::shown;
 use lumbryth::is_command_name;
 
 /// A trace, and how to import it.
@@ -24,10 +25,20 @@ pub struct Import {
 }
 
 #[derive(Debug, PartialEq)]
+pub struct Check {
+    pub dir: PathBuf,
+    /// The trace to import again.
+    pub trace: Option<PathBuf>,
+    pub json: bool,
+}
+
+#[derive(Debug, PartialEq)]
 pub enum Command {
     Import(Import),
-    Frames(Look),
-    Records(PathBuf),
+    /// With `true`, an object a line.
+    Frames(Look, bool),
+    Records(PathBuf, bool),
+    Check(Check),
     /// Print this and nothing else.
     Say(String),
 }
@@ -41,8 +52,9 @@ struct Takes {
 
 const IMPORT: Takes =
     Takes { command: "import", values: &["--out", "--channel", "--exclude"], flags: &["--tolerant", "--dry-run"] };
-const RECORDS: Takes = Takes { command: "records", values: &[], flags: &[] };
-const FRAMES: Takes = Takes { command: "frames", values: &["--channel"], flags: &["--tolerant"] };
+const RECORDS: Takes = Takes { command: "records", values: &[], flags: &["--json"] };
+const FRAMES: Takes = Takes { command: "frames", values: &["--channel"], flags: &["--tolerant", "--json"] };
+const CHECK: Takes = Takes { command: "check", values: &[], flags: &["--json"] };
 
 /// What was given: the trace, and options with their values.
 #[derive(Default)]
@@ -76,9 +88,7 @@ impl Given {
             [] => return Err("no trace is named".to_string()),
             [trace] if trace.is_empty() => return Err("the trace's name is empty".to_string()),
             [trace] => trace.into(),
-            [_, second, ..] => {
-                return Err(format!("one trace at a time: '{}' is one too many", second.to_string_lossy()))
-            }
+            [_, second, ..] => return Err(format!("one trace at a time: '{}' is one too many", shown(second))),
         };
         let channel = self.once("--channel")?.map(|value| channel(value)).transpose()?;
         Ok(Look { trace, channel, tolerant: self.has("--tolerant") })
@@ -91,15 +101,18 @@ pub fn parse(args: &[OsString]) -> Result<Command, String> {
     };
     match first.to_str() {
         Some("import") => command(&IMPORT, help::IMPORT, rest, import),
-        Some("frames") => command(&FRAMES, help::FRAMES, rest, |given| given.look().map(Command::Frames)),
-        Some("records") => {
-            command(&RECORDS, help::RECORDS, rest, |given| given.look().map(|look| Command::Records(look.trace)))
-        }
+        Some("frames") => command(&FRAMES, help::FRAMES, rest, |given| {
+            given.look().map(|look| Command::Frames(Look { tolerant: true, ..look }, given.has("--json")))
+        }),
+        Some("records") => command(&RECORDS, help::RECORDS, rest, |given| {
+            given.look().map(|look| Command::Records(look.trace, given.has("--json")))
+        }),
+        Some("check") => command(&CHECK, help::CHECK, rest, check),
         Some("--help" | "-h") => Ok(Command::Say(help::ALL.to_string())),
         Some("--version" | "-V") => Ok(Command::Say(concat!("lumbryth ", env!("CARGO_PKG_VERSION"), "\n").to_string())),
         _ => {
             let kind = if first.as_bytes().starts_with(b"-") { "option" } else { "command" };
-            Err(format!("there is no {kind} '{}'; see lumbryth --help", first.to_string_lossy()))
+            Err(format!("there is no {kind} '{}'; see lumbryth --help", shown(first)))
         }
     }
 }
@@ -145,7 +158,7 @@ fn read(takes: &Takes, args: &[OsString]) -> Result<Given, String> {
             None => (bytes, None),
         };
         let Some(option) = takes.values.iter().find(|option| option.as_bytes() == name) else {
-            let name = String::from_utf8_lossy(name);
+            let name = shown(OsStr::from_bytes(name));
             if attached.is_some() && takes.flags.contains(&&*name) {
                 return Err(format!("{name} takes no value"));
             }
@@ -164,25 +177,54 @@ fn channel(value: &OsStr) -> Result<u8, String> {
     let number = value.to_str().filter(|text| text.bytes().all(|b| b.is_ascii_digit()));
     match number.and_then(|text| text.parse().ok()) {
         Some(channel @ 0..=31) => Ok(channel),
-        _ => Err(format!("--channel takes a number from 0 to 31, not '{}'", value.to_string_lossy())),
+        _ => Err(format!("--channel takes a number from 0 to 31, not '{}'", shown(value))),
     }
 }
 
-/// A name to leave out. One that no frame can have would leave in what was meant to be left
-/// out, so it is refused.
+/// Whether a frame can have a command of this name; those without one, such as acknowledgements, have NO_COMMAND.
+pub fn is_name(name: &str) -> bool {
+    name == "NO_COMMAND" || is_command_name(name)
+}
+
+/// A name to leave out, alone or as a part of a file name, such as `cmd-POWER_GET_STATUS-22`. One that no frame can have would leave
+/// in what was meant to be left out, so it is refused.
 fn excluded(value: &OsStr) -> Result<String, String> {
-    match value.to_str() {
-        Some(name) if is_command_name(name) => Ok(name.to_string()),
+    let text = value.to_str().unwrap_or("");
+    let inside = text.strip_prefix("cmd-").and_then(|part| part.rsplit_once('-'));
+    let name = match inside {
+        Some((name, number)) if number.len() == 2 && number.bytes().all(|b| b.is_ascii_hexdigit()) => name,
+        _ => text,
+    };
+    match name {
+        name if is_name(name) => Ok(name.to_string()),
         _ => Err(format!(
             "--exclude takes the name of a command, as lumbryth frames shows it, and '{}' is none",
-            value.to_string_lossy()
+            shown(value)
         )),
     }
 }
 
+fn check(given: &Given) -> Result<Command, String> {
+    let (dir, trace) = match &given.traces[..] {
+        [] => return Err("no directory is named".to_string()),
+        [dir] => (dir, None),
+        [dir, trace] => (dir, Some(trace)),
+        [_, _, third, ..] => return Err(format!("a directory and a trace: '{}' is one too many", shown(third))),
+    };
+    if dir.is_empty() {
+        return Err("the name of the directory is empty".to_string());
+    }
+    if trace.is_some_and(|trace| trace.is_empty()) {
+        return Err("the trace's name is empty".to_string());
+    }
+    Ok(Command::Check(Check { dir: dir.into(), trace: trace.map(PathBuf::from), json: given.has("--json") }))
+}
+
 fn import(given: &Given) -> Result<Command, String> {
     let look = given.look()?;
-    let exclude = given.all("--exclude").into_iter().map(|name| excluded(name)).collect::<Result<_, _>>()?;
+    let mut exclude = given.all("--exclude").into_iter().map(|name| excluded(name)).collect::<Result<Vec<_>, _>>()?;
+    exclude.sort();
+    exclude.dedup();
     let out = given.once("--out")?.map(PathBuf::from);
     match &out {
         Some(dir) if dir.as_os_str().is_empty() => return Err("the name of the directory is empty".to_string()),

@@ -3,7 +3,8 @@
 pub const USAGE: &str = "\
 usage: lumbryth import TRACE --out DIR [options]
        lumbryth frames TRACE [options]
-       lumbryth records TRACE
+       lumbryth records TRACE [options]
+       lumbryth check DIR [TRACE] [options]
        lumbryth COMMAND --help
 ";
 
@@ -13,7 +14,8 @@ Bluetooth trace (a btsnoop file of at most 1048576 bytes)
 
 usage: lumbryth import TRACE --out DIR [options]   write each frame to a file
        lumbryth frames TRACE [options]             list the frames
-       lumbryth records TRACE                      list the records that carry them
+       lumbryth records TRACE [options]            list the records that carry them
+       lumbryth check DIR [TRACE] [options]        check what import wrote
        lumbryth COMMAND --help                     more about a command
        lumbryth --version
 
@@ -25,45 +27,70 @@ pub const IMPORT: &str = "\
 usage: lumbryth import TRACE --out DIR [options]
 
 Writes each frame of TRACE to a file of its own in DIR, named by time, counter, direction,
-type, sequence number and command, and says what was found.
+type, sequence number and command, and says what was found. One more file,
+fixtures.sha256, says where the set came from, what is in it and what is not, and why.
+lumbryth check DIR checks the set by it; so does, in DIR, sha256sum -c fixtures.sha256.
 
   --out DIR        where the files go; made if it is not there
   --channel N      only RFCOMM channel N, 0 to 31; else the first that carries frames
-  --tolerant       read a file that was cut off, up to the record in which it ends, and say
-                   what was kept and what is missing; else such a file is refused
-  --exclude NAME   leave out the frames of a command, such as POWER_GET_STATUS; may be
-                   given again for more
+  --tolerant       read a file that ends inside a record up to there, and say what was
+                   kept and what is missing; else such a file is refused
+  --exclude NAME   leave out the frames of a command, such as POWER_GET_STATUS, or of
+                   none, NO_COMMAND; may be given again for more
   --dry-run        write nothing: print the names of the files, and on standard error
                    what was found
   --               what follows is no option
 
 A frame that does not unpack, or is left out, still counts, so that a gap in the counters
 tells of it. No file is ever overwritten: if one is there that holds something else,
-nothing is written. Files appear whole or not at all.
+nothing is written. Nor is a set mixed with another: a directory with the set of another
+trace, or of this one asked for otherwise, is refused. A set appears whole or not at all,
+also where the program is interrupted.
+
+Whether a file that ends at a record's end was longer once cannot be seen in it.
 
 Unfinished are bytes at the end that have no end marker: told by handle, direction
-(received is from the headset), DLCI and how many are held. They make no file.
+(received is from the headset), DLCI and how many are held. They make no file. Packets
+that were not complete are not counted there.
 ";
 
 pub const FRAMES: &str = "\
 usage: lumbryth frames TRACE [options]
 
-Lists the frames of TRACE: counter, time (UTC), direction (rx is from the headset), length
-on the wire, type, sequence number and command, or why the frame does not unpack. Before
-them stands what is unfinished, bytes at the end that have no end marker: handle, direction
-(received is from the headset), DLCI and how many are held.
+Lists the frames of TRACE: command, direction (rx is from the headset), counter, type,
+sequence number, length on the wire, command and type as numbers, time (UTC); or why the
+frame does not unpack. Before them stands what is unfinished, bytes at the end that have
+no end marker: handle, direction (received is from the headset), DLCI and how many are
+held. A file that ends inside a record is listed up to there.
 
   --channel N      only RFCOMM channel N, 0 to 31; else the first that carries frames
-  --tolerant       read a file that was cut off, up to the record in which it ends
+  --json           an object a line: import, unfinished, then frame
   --               what follows is no option
 ";
 
 pub const RECORDS: &str = "\
-usage: lumbryth records TRACE
+usage: lumbryth records TRACE [options]
 
-Lists the records of TRACE: number, the byte it starts at, time (UTC), direction (rx is from
-the headset or the controller), length of its packet, and what the packet is. A file that was
-cut off is listed up to the record in which it ends.
+Lists the records of TRACE: what the packet is, direction (rx is from the headset or the
+controller), number, length of the packet, the byte that the record starts at, time (UTC).
+A file that ends inside a record is listed up to there.
 
+  --json           an object a line: file, then record
   --               what follows is no option
+";
+
+pub const CHECK: &str = "\
+usage: lumbryth check DIR [TRACE] [options]
+
+Checks a set of fixtures that import wrote to DIR, by its list, fixtures.sha256: names each
+fixture that is missing, changed or unreadable, and each that is extra. With TRACE, imports that again
+as the set was asked for, and names in what it differs. Files that are no fixtures are
+passed over.
+
+  --json           an object a line: each fixture, ok, missing, changed, unreadable or
+                   extra; and what is wrong with the list, or differs from the trace
+  --               what follows is no option
+
+Exit status: 0 if nothing is wrong; 1 if something is, or cannot be read; 2 if the command
+line is wrong.
 ";

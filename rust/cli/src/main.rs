@@ -1,13 +1,19 @@
 //! `lumbryth`: fixtures from recorded Bluetooth traces, and a look inside them. A thin program over the proved library; what it
 //! adds is reading and writing files, and words.
 
-#![forbid(unsafe_code)]
+#![deny(unsafe_code)]
 
 mod args;
+mod check;
 mod help;
+#[allow(unsafe_code)]
+mod os;
 mod report;
+mod set;
+mod sha256;
 mod source;
 mod time;
+mod words;
 mod write;
 
 use std::env;
@@ -16,8 +22,12 @@ use std::io::{self, Write};
 use std::path::Path;
 use std::process::ExitCode;
 
-use args::{Command, Import, Look};
-use lumbryth::{cut, import_stretches, plan, records, Imported, Refusal, Stretch, TailRule};
+use args::{Check, Command, Import, Look};
+use check::Fault;
+use lumbryth::{import_stretches, plan, records, Fixture, Imported, Refusal, Stretch, TailRule};
+use set::Set;
+use words::{count, shown};
+use write::Stopped;
 
 /// Why the program ends without doing what was asked.
 enum Failure {
@@ -27,6 +37,8 @@ enum Failure {
     Usage(String),
     /// Nobody reads what is printed: nothing to say.
     Closed,
+    /// Ended by a signal.
+    Asked,
 }
 
 /// What can go wrong with printing.
@@ -40,15 +52,28 @@ impl From<io::Error> for Failure {
     }
 }
 
+impl From<Stopped> for Failure {
+    fn from(stopped: Stopped) -> Failure {
+        match stopped {
+            Stopped::Failed(words) => Failure::Refused(words),
+            Stopped::Asked => Failure::Asked,
+        }
+    }
+}
+
 fn main() -> ExitCode {
     let args: Vec<OsString> = env::args_os().skip(1).collect();
     let (status, words) = match run(&args) {
         Ok(()) | Err(Failure::Closed) => return ExitCode::SUCCESS,
         Err(Failure::Refused(words)) => (1, words),
         Err(Failure::Usage(words)) => (2, words),
+        Err(Failure::Asked) => (1, "interrupted: nothing was written".to_string()),
     };
     // If this cannot be printed either, the status still tells.
     let _ = writeln!(io::stderr(), "lumbryth: {words}");
+    if os::asked_to_end() {
+        os::end();
+    }
     ExitCode::from(status)
 }
 
@@ -56,8 +81,9 @@ fn run(args: &[OsString]) -> Result<(), Failure> {
     match args::parse(args).map_err(Failure::Usage)? {
         Command::Say(text) => print(&text),
         Command::Import(options) => run_import(&options),
-        Command::Frames(options) => run_frames(&options),
-        Command::Records(trace) => run_records(&trace),
+        Command::Frames(look, json) => run_frames(&look, json),
+        Command::Records(trace, json) => run_records(&trace, json),
+        Command::Check(options) => run_check(&options),
     }
 }
 
@@ -79,7 +105,10 @@ struct Found {
 
 /// Reads and imports a trace; what is refused is told in words.
 fn found(look: &Look) -> Result<Found, Failure> {
-    let file = source::read(&look.trace).map_err(Failure::Refused)?;
+    imported(look, source::read(&look.trace).map_err(Failure::Refused)?)
+}
+
+fn imported(look: &Look, file: Vec<u8>) -> Result<Found, Failure> {
     let rule = if look.tolerant { TailRule::Tolerant } else { TailRule::Strict };
     match import_stretches(&file, look.channel, rule) {
         Ok((imported, open)) => Ok(Found { file, imported, open }),
@@ -89,62 +118,114 @@ fn found(look: &Look) -> Result<Found, Failure> {
 
 /// A refusal of a trace, with its number, in words that fit what was asked.
 fn refused(trace: &Path, channel: Option<u8>, file: &[u8], refusal: Refusal) -> String {
-    let mut words = match refusal {
-        Refusal::NotBtsnoop if file.is_empty() => "the file is empty".to_string(),
-        Refusal::NotBtsnoop if file.len() < 16 => {
-            format!("the file has only {} bytes, and a btsnoop header has 16", file.len())
+    let end = report::end_of(file);
+    let words = match (refusal, end) {
+        (Refusal::NotBtsnoop, _) if file.is_empty() => "the file is empty".to_string(),
+        (Refusal::NotBtsnoop, _) if file.len() < 16 => {
+            format!("the file has only {}, and a btsnoop header has 16", count(file.len(), "byte", "bytes"))
         }
-        Refusal::NoStream => match channel {
-            Some(channel) => format!("nothing on channel {channel} unpacks as a frame"),
-            None => "nothing in the trace unpacks as a frame".to_string(),
-        },
-        other => other.to_string(),
+        (Refusal::Truncated { .. }, Some((words, _))) => words,
+        (Refusal::NoStream, Some((words, _))) => {
+            let place = channel.map_or("in the trace".to_string(), |channel| format!("on channel {channel}"));
+            format!("nothing {place} unpacks as a frame; {words}")
+        }
+        (other, _) => other.to_string(),
     };
-    let cut = records(file).ok().and_then(|records| cut(file, records.tail));
-    if let Some(cut) = cut {
-        if refusal == Refusal::NoStream {
-            words += &format!("; the file ends inside the record that starts at byte {}", cut.offset);
-        }
-        words += &format!(": {}", report::bytes_of(cut));
-    }
     let hint = match refusal {
-        Refusal::Truncated { .. } => "\nlumbryth: --tolerant keeps what was complete before that record",
-        Refusal::NoStream if cut.is_some() => {
-            "\nlumbryth: what that record held, and whatever came after it, is not in the file"
+        Refusal::FileLong => {
+            "\nlumbryth: record a shorter log; a file that is trimmed by hand loses frames and does not tell"
         }
+        Refusal::Truncated { .. } => "\nlumbryth: --tolerant keeps what was complete before that",
         _ => "",
     };
-    format!("{}: refused ({}): {words}{hint}", trace.display(), refusal.number())
+    format!("refused ({}): {words}: {}{hint}", refusal.number(), shown(trace))
+}
+
+/// The fixtures of an import, and the list of their set.
+fn planned(look: &Look, exclude: &[String], found: &Found) -> Result<(Vec<Fixture>, Set), Failure> {
+    let fixtures = plan(&found.imported.spans, exclude).map_err(|refusal| {
+        Failure::Refused(format!("refused ({}): {refusal}: {}", refusal.number(), shown(&look.trace)))
+    })?;
+    let set = Set::of(&found.file, look, exclude, &found.imported, &fixtures);
+    Ok((fixtures, set))
 }
 
 fn run_import(options: &Import) -> Result<(), Failure> {
-    let Found { file, imported, open } = found(&options.look)?;
-    let fixtures = plan(&imported.spans, &options.exclude).map_err(|refusal| {
-        Failure::Refused(format!("{}: refused ({}): {refusal}", options.look.trace.display(), refusal.number()))
-    })?;
-    let mut findings = report::findings(&file, &imported, &open, "among the fixtures");
-    let excluded = imported.frames - report::broken(&imported) - fixtures.len();
+    let found = found(&options.look)?;
+    let (fixtures, set) = planned(&options.look, &options.exclude, &found)?;
+    let Found { file, imported, open } = &found;
+    let mut findings = report::findings(file, imported, open, options.look.channel.is_some(), "among the fixtures");
+    let excluded = imported.frames - report::broken(imported) - fixtures.len();
     if !options.exclude.is_empty() {
-        findings += &format!("{} left out by --exclude\n", report::count(excluded, "frame", "frames"));
+        findings += &format!("{} left out by --exclude.\n", count(excluded, "frame", "frames"));
     }
     let Some(dir) = &options.out else {
         let _ = io::stderr().write_all(findings.as_bytes());
         let names: Vec<&str> = fixtures.iter().flat_map(|fixture| [&fixture.name, "\n"]).collect();
         return print(&names.concat());
     };
-    let done = write::fixtures(Path::new(dir), &fixtures).map_err(Failure::Refused)?;
+    let done = write::set(dir, &set, &fixtures)?;
     findings += &report::written(&done, dir);
     print(&findings)
 }
 
-fn run_frames(look: &Look) -> Result<(), Failure> {
+fn run_frames(look: &Look, json: bool) -> Result<(), Failure> {
     let Found { file, imported, open } = found(look)?;
-    let findings = report::findings(&file, &imported, &open, "listed");
+    if json {
+        return print(&report::frame_objects(&file, &imported, &open));
+    }
+    let findings = report::findings(&file, &imported, &open, look.channel.is_some(), "listed");
     print(&(findings + &report::frames(&imported)))
 }
 
-fn run_records(trace: &Path) -> Result<(), Failure> {
+fn run_records(trace: &Path, json: bool) -> Result<(), Failure> {
     let file = source::read(trace).map_err(Failure::Refused)?;
     let found = records(&file).map_err(|refusal| Failure::Refused(refused(trace, None, &file, refusal)))?;
-    print(&report::records(&file, &found))
+    print(&if json { report::record_objects(&file, &found) } else { report::records(&file, &found) })
+}
+
+fn run_check(options: &Check) -> Result<(), Failure> {
+    let dir = &options.dir;
+    if !dir.is_dir() {
+        let words = if dir.exists() { "this is not a directory" } else { "there is no such directory" };
+        return Err(Failure::Refused(format!("{words}: {}", shown(dir))));
+    }
+    let list = dir.join(set::NAME);
+    if !list.exists() {
+        return Err(Failure::Refused(format!("no list of a fixture set is there: {}", shown(&list))));
+    }
+    let there = write::read_list(&list).map_err(|words| Failure::Refused(format!("{words}: {}", shown(&list))))?;
+    let mut faults = check::list(&there);
+    faults.extend(check::fixtures(dir, &there).map_err(Failure::Refused)?);
+    if let Some(trace) = &options.trace {
+        faults.extend(imported_again(trace, &there)?);
+    }
+    let text = if options.json { check::objects(&there, &faults) } else { check::lines(&faults) };
+    if faults.is_empty() {
+        let by = if options.trace.is_some() { "as the list and the trace have them" } else { "as the list has them" };
+        let words = format!("{}, all {by}: {}\n", count(there.fixtures.len(), "fixture", "fixtures"), shown(dir));
+        return print(&if options.json { text } else { check::told(&there) + &words });
+    }
+    print(&text)?;
+    Err(Failure::Refused(format!("the set is not as it was made, {}: {}", check::summary(&faults), shown(dir))))
+}
+
+/// In what a trace, imported as the set was asked for, differs from the set.
+fn imported_again(trace: &Path, there: &Set) -> Result<Vec<Fault>, Failure> {
+    let Some(asked) = there.asked() else {
+        return Ok(vec![Fault::list("it does not say how the set was asked for")]);
+    };
+    let tolerant = asked.tail == TailRule::Tolerant;
+    let look = Look { trace: trace.to_path_buf(), channel: asked.channel, tolerant };
+    let file = source::read(trace).map_err(Failure::Refused)?;
+    let mut faults = Vec::new();
+    if Some(&*sha256::sum(&file)) != there.fact("trace sha256") {
+        faults.push(Fault::trace("it is not the one that the set was made from"));
+    }
+    match imported(&look, file).and_then(|found| planned(&look, &asked.exclude, &found)) {
+        Ok((_, again)) => faults.extend(check::trace(there, &again)),
+        Err(Failure::Refused(words)) => faults.push(Fault::trace(words)),
+        Err(other) => return Err(other),
+    }
+    Ok(faults)
 }

@@ -1,16 +1,12 @@
-//! What was found, in words.
+//! What was found, in words, and as objects for other programs.
 
 use std::fmt::Write;
 use std::path::Path;
 
 use crate::time::utc;
+use crate::words::{count, hex, object, shown, string};
 use crate::write::Done;
-use lumbryth::{cut, fixture_name, unpack, Cut, Direction, Imported, Records, Stretch};
-
-/// A number and what it counts.
-pub fn count(n: usize, one: &str, more: &str) -> String {
-    format!("{n} {}", if n == 1 { one } else { more })
-}
+use lumbryth::{ending, unpack, Cut, Direction, Ending, Imported, Records, Stretch, PACKET_MAX};
 
 /// How many spans do not unpack.
 pub fn broken(imported: &Imported) -> usize {
@@ -18,7 +14,7 @@ pub fn broken(imported: &Imported) -> usize {
 }
 
 /// How much of the record in which a file ends is there.
-pub fn bytes_of(cut: Cut) -> String {
+fn bytes_of(cut: Cut) -> String {
     let present = count(cut.present, "byte of it is there", "bytes of it are there");
     match cut.missing {
         Some(1) => format!("{present} and 1 is missing"),
@@ -27,76 +23,195 @@ pub fn bytes_of(cut: Cut) -> String {
     }
 }
 
+/// What is seen of a file's end, without a full stop; and whether it is more than that the end is at a record's end.
+pub fn end(file: &[u8], ending: Ending) -> (String, bool) {
+    match ending {
+        Ending::Inside(cut) => {
+            (format!("the file ends inside the record that starts at byte {}: {}", cut.offset, bytes_of(cut)), true)
+        }
+        Ending::Length { offset, length } => (
+            format!(
+                "the file is damaged: the record that starts at byte {offset} gives its packet {length} bytes, \
+                 and no packet has over {PACKET_MAX}"
+            ),
+            true,
+        ),
+        Ending::Zeros { offset, count: n } => {
+            (format!("the file is damaged: from byte {offset} to its end there are zeros only, {n} of them"), true)
+        }
+        _ => {
+            let place = if file.len() == 16 { "after its header" } else { "at a record's end" };
+            (format!("the file ends {place}, so whether more was recorded cannot be seen"), false)
+        }
+    }
+}
+
+/// How a file ends, in words; a file that has no records to look at says nothing.
+pub fn end_of(file: &[u8]) -> Option<(String, bool)> {
+    ending(file).ok().map(|ending| end(file, ending))
+}
+
+/// A text with a capital and a full stop.
+fn sentence(words: &str) -> String {
+    let mut chars = words.chars();
+    chars.next().map_or(String::new(), |first| format!("{}{}.", first.to_ascii_uppercase(), chars.as_str()))
+}
+
+fn way(direction: Direction) -> &'static str {
+    if direction == Direction::Rx {
+        "rx"
+    } else {
+        "tx"
+    }
+}
+
 /// The open stretches, a sentence each, by handle and direction.
 fn unfinished(open: &[Stretch]) -> Vec<String> {
     let mut open = open.to_vec();
-    open.sort_by_key(|stretch| (stretch.way, stretch.cid, stretch.sessions, stretch.links));
+    open.sort_by_key(|stretch| {
+        (stretch.handle, stretch.direction == Direction::Rx, stretch.cid, stretch.sessions, stretch.links)
+    });
     let sentence = |stretch: &Stretch| {
         format!(
             "Unfinished on handle {}, {}, DLCI {}: {} held without an end marker.",
-            stretch.handle(),
-            if stretch.direction() == Direction::Rx { "received" } else { "sent" },
+            stretch.handle,
+            if stretch.direction == Direction::Rx { "received" } else { "sent" },
             stretch.dlci,
-            count(stretch.held as usize, "byte is", "bytes are"),
+            count(stretch.held, "byte is", "bytes are"),
         )
     };
     open.iter().map(sentence).collect()
 }
 
-/// What an import found. `open` are the stretches that hold bytes at the end, and `place` is
-/// where the frames are: among the fixtures, or listed.
-pub fn findings(file: &[u8], imported: &Imported, open: &[Stretch], place: &str) -> String {
+/// What an import found. `open` are the stretches that hold bytes at the end, `asked` is whether it was asked for a channel, and
+/// `place` is where the frames are: among the fixtures, or listed.
+pub fn findings(file: &[u8], imported: &Imported, open: &[Stretch], asked: bool, place: &str) -> String {
     let mut text = format!(
-        "DLCI {} (channel {}): {}, {}\n",
-        imported.dlci,
-        imported.dlci / 2,
+        "{}, {}: DLCI {}, channel {}.\n",
         count(imported.frames, "frame", "frames"),
         match broken(imported) {
+            0 if imported.frames == 1 => "which unpacks".to_string(),
             0 => "all of which unpack".to_string(),
             n => count(n, "of which does not unpack", "of which do not unpack"),
         },
+        imported.dlci,
+        imported.dlci / 2,
     );
     let unfinished = unfinished(open);
-    let Some(cut) = cut(file, imported.tail) else {
-        if unfinished.is_empty() {
-            let _ = writeln!(text, "Unfinished on DLCI {}: nothing is held without an end marker.", imported.dlci);
+    if unfinished.is_empty() {
+        let _ = writeln!(text, "Unfinished on DLCI {}: nothing is held without an end marker.", imported.dlci);
+    }
+    unfinished.iter().for_each(|sentence| text += &format!("{sentence}\n"));
+    let (words, seen) = end_of(file).unwrap_or_default();
+    let _ = writeln!(text, "{}", sentence(&words));
+    if seen {
+        let _ = writeln!(text, "Kept: {}, complete before that.", count(imported.frames, "frame", "frames"));
+        let _ = writeln!(text, "Missing: whatever was not complete before that, or came later.");
+        let _ = writeln!(text, "A reply that is not {place} may have been sent all the same.");
+        if !asked {
+            let channel = imported.dlci / 2;
+            let _ =
+                writeln!(text, "What is proved of a cut is for a channel that is asked for, here --channel {channel}.");
         }
-        unfinished.iter().for_each(|sentence| text += &format!("{sentence}\n"));
-        return text;
-    };
-    let _ = writeln!(text, "The file was cut: it ends inside a record that starts at byte {}.", cut.offset);
-    let _ = writeln!(text, "  {}.", bytes_of(cut));
-    let _ = writeln!(text, "  Kept: {}, complete before that record.", count(imported.frames, "frame", "frames"));
-    let _ = writeln!(text, "  Missing: whatever was not complete before it, or came later.");
-    unfinished.iter().for_each(|sentence| text += &format!("  {sentence}\n"));
-    let _ = writeln!(text, "  A reply that is not {place} may have been sent all the same.");
+    }
     text
 }
 
 /// What was done with the fixtures.
 pub fn written(done: &Done, dir: &Path) -> String {
-    let dir = dir.display();
-    let mut text = format!("{} written to {dir}", count(done.written, "fixture", "fixtures"));
+    let mut text = format!("{} written", count(done.written, "fixture", "fixtures"));
     if done.there > 0 {
-        text += &format!("; {} there already, with the same bytes", count(done.there, "was", "were"));
+        text += &format!(", {} there already with the same bytes", count(done.there, "was", "were"));
     }
-    text + "\n"
+    format!("{text}: {}\n", shown(dir))
 }
 
 /// The list of frames, a line each.
 pub fn frames(imported: &Imported) -> String {
     let mut text = String::new();
     for (counter, span) in (1..).zip(&imported.spans) {
-        let way = if span.direction == Direction::Rx { "rx" } else { "tx" };
-        let what = match fixture_name(span.ms, counter, span.direction, &span.wire) {
-            // The part of the name that is not said already.
-            Ok(name) => {
-                let part = name.split_once('.').map_or("", |(_, part)| part);
-                part.trim_end_matches(".bin").replace('.', " ")
+        let counter: usize = counter;
+        let (way, bytes, time) = (way(span.direction), count(span.wire.len(), "byte", "bytes"), utc(span.ms));
+        let _ = match unpack(&span.wire) {
+            Ok(frame) => {
+                let (command, number) = (frame.command_name(), frame.command().unwrap_or(0));
+                let (kind, byte, seq) = (frame.kind.name(), frame.kind.byte(), frame.seq);
+                writeln!(
+                    text,
+                    "{command} {way} {counter}, {kind}, seq {seq:02x}, {bytes}, command {number:02x}, type {byte:02x}, {time}"
+                )
             }
-            Err(refusal) => format!("does not unpack ({}): {refusal}", refusal.number()),
+            Err(refusal) => {
+                let number = refusal.number();
+                writeln!(text, "does not unpack {way} {counter}, refusal {number}, {refusal}, {bytes}, {time}")
+            }
         };
-        let _ = writeln!(text, "{counter:>6}  {}  {way} {:>5}  {what}", utc(span.ms), span.wire.len());
+    }
+    text
+}
+
+/// How the file ends, as fields of an object.
+fn end_fields(file: &[u8]) -> Vec<(&'static str, String)> {
+    let (name, mut fields) = match ending(file) {
+        Ok(Ending::Inside(cut)) => {
+            let missing = cut.missing.map_or("null".to_string(), |n| n.to_string());
+            (
+                "cut",
+                vec![("offset", cut.offset.to_string()), ("present", cut.present.to_string()), ("missing", missing)],
+            )
+        }
+        Ok(Ending::Length { offset, length }) => {
+            ("length", vec![("offset", offset.to_string()), ("length", length.to_string())])
+        }
+        Ok(Ending::Zeros { offset, count }) => {
+            ("zeros", vec![("offset", offset.to_string()), ("zeros", count.to_string())])
+        }
+        _ => ("record", Vec::new()),
+    };
+    fields.insert(0, ("end", string(name)));
+    fields
+}
+
+/// What `findings` and `frames` say, an object a line.
+pub fn frame_objects(file: &[u8], imported: &Imported, open: &[Stretch]) -> String {
+    let numbers =
+        [("dlci", imported.dlci as usize), ("channel", imported.dlci as usize / 2), ("frames", imported.frames)];
+    let mut fields = vec![("kind", string("import"))];
+    fields.extend(numbers.map(|(name, number)| (name, number.to_string())));
+    fields.push(("unfinished", imported.unfinished.to_string()));
+    fields.extend(end_fields(file));
+    let mut text = object(&fields);
+    for stretch in open {
+        text += &object(&[
+            ("kind", string("unfinished")),
+            ("handle", stretch.handle.to_string()),
+            ("direction", string(way(stretch.direction))),
+            ("dlci", stretch.dlci.to_string()),
+            ("held", stretch.held.to_string()),
+        ]);
+    }
+    for (counter, span) in (1..).zip(&imported.spans) {
+        let mut fields = vec![
+            ("kind", string("frame")),
+            ("counter", counter.to_string()),
+            ("direction", string(way(span.direction))),
+            ("ms", span.ms.to_string()),
+            ("wire", string(&hex(&span.wire))),
+        ];
+        match unpack(&span.wire) {
+            Ok(frame) => fields.extend([
+                ("type", frame.kind.byte().to_string()),
+                ("type_name", string(frame.kind.name())),
+                ("seq", frame.seq.to_string()),
+                ("command", frame.command().map_or("null".to_string(), |byte| byte.to_string())),
+                ("command_name", string(&frame.command_name())),
+                ("payload", string(&hex(&frame.payload))),
+            ]),
+            Err(refusal) => {
+                fields.extend([("refusal", refusal.number().to_string()), ("reason", string(&refusal.to_string()))]);
+            }
+        }
+        text += &object(&fields);
     }
     text
 }
@@ -108,15 +223,15 @@ fn number(bytes: &[u8]) -> u64 {
     bytes.iter().fold(0, |n, &byte| n << 8 | u64::from(byte))
 }
 
-/// Which way a record's packet went, and what it is, as the import reads it.
-fn kind(datalink: u64, flags: u64, packet: &[u8]) -> (&'static str, String) {
+/// Which way a record's packet went, if that is told, and what it is, as the import reads it.
+fn kind(datalink: u64, flags: u64, packet: &[u8]) -> (Option<&'static str>, String) {
     let (way, name) = if datalink == 2001 {
         match flags & 0xFFFF {
-            2 => ("tx", "command"),
-            3 => ("rx", "event"),
-            4 => ("tx", "ACL data"),
-            5 => ("rx", "ACL data"),
-            _ => ("--", "other"),
+            2 => (Some("tx"), "command"),
+            3 => (Some("rx"), "event"),
+            4 => (Some("tx"), "ACL data"),
+            5 => (Some("rx"), "ACL data"),
+            _ => (None, "other"),
         }
     } else {
         let way = if flags & 1 == 0 { "tx" } else { "rx" };
@@ -126,7 +241,7 @@ fn kind(datalink: u64, flags: u64, packet: &[u8]) -> (&'static str, String) {
             _ if way == "tx" => "command",
             _ => "event",
         };
-        (way, name)
+        (Some(way), name)
     };
     let acl = if datalink == 1002 { packet.get(1..) } else { Some(packet) };
     match acl.and_then(|acl| acl.get(..2)) {
@@ -139,20 +254,62 @@ fn kind(datalink: u64, flags: u64, packet: &[u8]) -> (&'static str, String) {
     }
 }
 
-/// The list of records, a line each.
-pub fn records(file: &[u8], found: &Records) -> String {
+/// A record: where it starts, which way its packet went, what that is, its length, milliseconds since 1970.
+struct Record {
+    start: usize,
+    way: Option<&'static str>,
+    what: String,
+    length: usize,
+    ms: u64,
+}
+
+fn each_record<'a>(file: &'a [u8], found: &'a Records) -> impl Iterator<Item = Record> + 'a {
     let datalink = number(&file[12..16]);
-    let mut text = format!("datalink {datalink}: {}\n", count(found.starts.len(), "record", "records"));
-    if let Some(cut) = cut(file, found.tail) {
-        let _ = writeln!(text, "The file was cut: it ends inside a record that starts at byte {}.", cut.offset);
-        let _ = writeln!(text, "  {}. Whatever came later is missing.", bytes_of(cut));
-    }
-    for (i, &start) in found.starts.iter().enumerate() {
+    found.starts.iter().map(move |&start| {
         let (head, rest) = file[start..].split_at(24);
         let packet = &rest[..number(&head[4..8]) as usize];
         let (way, what) = kind(datalink, number(&head[8..12]), packet);
-        let time = utc(number(&head[16..24]).saturating_sub(EPOCH) / 1000);
-        let _ = writeln!(text, "{:>6}  {start:>7}  {time}  {way} {:>5}  {what}", i + 1, packet.len());
+        let ms = number(&head[16..24]).saturating_sub(EPOCH) / 1000;
+        Record { start, way, what, length: packet.len(), ms }
+    })
+}
+
+/// The list of records, a line each.
+pub fn records(file: &[u8], found: &Records) -> String {
+    let records = count(found.starts.len(), "record", "records");
+    let mut text = format!("{records}: datalink {}.\n", number(&file[12..16]));
+    let (words, seen) = end_of(file).unwrap_or_default();
+    let _ = writeln!(text, "{}", sentence(&words));
+    if seen {
+        text += "Whatever came later is missing.\n";
+    }
+    for (n, record) in (1..).zip(each_record(file, found)) {
+        let (way, bytes) = (record.way.unwrap_or("no direction"), count(record.length, "byte", "bytes"));
+        let _ = writeln!(text, "{}, {way} {n}, {bytes} at {}, {}", record.what, record.start, utc(record.ms));
+    }
+    text
+}
+
+/// What `records` says, an object a line.
+pub fn record_objects(file: &[u8], found: &Records) -> String {
+    let mut fields = vec![
+        ("kind", string("file")),
+        ("datalink", number(&file[12..16]).to_string()),
+        ("records", found.starts.len().to_string()),
+    ];
+    fields.extend(end_fields(file));
+    let mut text = object(&fields);
+    for (n, record) in (1..).zip(each_record(file, found)) {
+        let n: usize = n;
+        text += &object(&[
+            ("kind", string("record")),
+            ("number", n.to_string()),
+            ("offset", record.start.to_string()),
+            ("direction", record.way.map_or("null".to_string(), string)),
+            ("ms", record.ms.to_string()),
+            ("length", record.length.to_string()),
+            ("what", string(&record.what)),
+        ]);
     }
     text
 }

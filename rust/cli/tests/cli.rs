@@ -1,100 +1,17 @@
 //! The program as people call it: what it prints, its exit status, and what it leaves in a directory.
 
+mod common;
+
 use std::ffi::OsStr;
 use std::fs;
 use std::io::pipe;
 use std::os::unix::ffi::OsStrExt;
 use std::os::unix::fs::PermissionsExt;
-use std::path::{Path, PathBuf};
+use std::path::Path;
 use std::process::{Command, Output, Stdio};
-use std::sync::atomic::{AtomicUsize, Ordering};
 
-use lumbryth::{import, pack, plan, Fixture, TailRule};
-
-const PROGRAM: &str = env!("CARGO_BIN_EXE_lumbryth");
-
-fn example(name: &str) -> PathBuf {
-    Path::new(env!("CARGO_MANIFEST_DIR")).join("../../examples").join(name)
-}
-
-/// A directory of a test's own, removed after it. Its name is one that scripts stumble over.
-struct Place(PathBuf);
-
-impl Place {
-    fn new() -> Place {
-        static COUNT: AtomicUsize = AtomicUsize::new(0);
-        let n = COUNT.fetch_add(1, Ordering::Relaxed);
-        let dir = std::env::temp_dir().join(format!("lumbryth cli '{}' $n {n}", std::process::id()));
-        fs::create_dir(&dir).unwrap();
-        fs::set_permissions(&dir, fs::Permissions::from_mode(0o777)).unwrap();
-        Place(dir)
-    }
-
-    fn join(&self, name: impl AsRef<Path>) -> PathBuf {
-        self.0.join(name)
-    }
-
-    fn file(&self, name: &str, bytes: &[u8]) -> PathBuf {
-        fs::write(self.join(name), bytes).unwrap();
-        self.join(name)
-    }
-}
-
-impl Drop for Place {
-    fn drop(&mut self) {
-        let _ = fs::remove_dir_all(&self.0);
-    }
-}
-
-fn run<A: AsRef<OsStr>>(args: &[A]) -> Output {
-    Command::new(PROGRAM).args(args).stdin(Stdio::null()).output().unwrap()
-}
-
-fn words(args: &[&dyn AsRef<OsStr>]) -> Output {
-    run(&args.iter().map(|arg| arg.as_ref()).collect::<Vec<_>>())
-}
-
-fn status(output: &Output) -> i32 {
-    output.status.code().expect("the program ends by itself")
-}
-
-fn out(output: &Output) -> String {
-    String::from_utf8(output.stdout.clone()).unwrap()
-}
-
-fn err(output: &Output) -> String {
-    String::from_utf8(output.stderr.clone()).unwrap()
-}
-
-/// The program ended with this status, nothing on standard output, and these words on standard error.
-#[track_caller]
-fn fails(output: &Output, with: i32, told: &[&str]) {
-    assert_eq!(status(output), with, "{}", err(output));
-    assert_eq!(out(output), "");
-    for part in told {
-        assert!(err(output).contains(part), "{part:?} is not in {:?}", err(output));
-    }
-    assert!(err(output).starts_with("lumbryth: "));
-}
-
-/// What a directory has, sorted.
-fn listing(dir: &Path) -> Vec<String> {
-    let mut names: Vec<_> = fs::read_dir(dir).unwrap().map(|e| e.unwrap().file_name().into_string().unwrap()).collect();
-    names.sort();
-    names
-}
-
-fn fixtures(file: &[u8]) -> Vec<Fixture> {
-    plan(&import(file, None, TailRule::Tolerant).unwrap().spans, &[] as &[&str]).unwrap()
-}
-
-#[track_caller]
-fn holds(dir: &Path, fixtures: &[Fixture]) {
-    assert_eq!(listing(dir), fixtures.iter().map(|f| f.name.clone()).collect::<Vec<_>>());
-    for fixture in fixtures {
-        assert_eq!(fs::read(dir.join(&fixture.name)).unwrap(), fixture.wire);
-    }
-}
+use common::*;
+use lumbryth::pack;
 
 #[test]
 fn help_and_version() {
@@ -104,6 +21,7 @@ fn help_and_version() {
         &["import", "--help"],
         &["frames", "--help"],
         &["records", "--help"],
+        &["check", "--help"],
         &["import", "x", "-h"],
     ] {
         let output = run(args);
@@ -139,7 +57,14 @@ fn usage() {
         let told = format!("--channel takes a number from 0 to 31, not '{channel}'");
         fails(&run(&["frames", "a", "--channel", channel]), 2, &[&told]);
     }
-    for name in ["power_get_status", "NO_COMMAND", "", "POWER_GET_STATUS ", "POWER"] {
+    fails(&run(&["check"]), 2, &["no directory is named; see lumbryth check --help"]);
+    fails(&run(&["check", ""]), 2, &["the name of the directory is empty"]);
+    fails(&run(&["check", "a", ""]), 2, &["the trace's name is empty"]);
+    fails(&run(&["check", "a", "b", "c\n"]), 2, &["a directory and a trace: 'c\\n' is one too many"]);
+    fails(&run(&["check", "a", "--tolerant"]), 2, &["check has no option '--tolerant'"]);
+    for name in
+        ["power_get_status", "", "POWER_GET_STATUS ", "POWER", "cmd-POWER-22", "cmd-POWER_GET_STATUS-222", "ACK"]
+    {
         let told = format!("--exclude takes the name of a command, as lumbryth frames shows it, and '{name}' is none");
         fails(&run(&["import", "a", "--dry-run", "--exclude", name]), 2, &[&told]);
     }
@@ -151,21 +76,23 @@ fn import_writes_the_fixtures() {
     let (trace, dir) = (example("headset.btsnoop"), place.join("made/on the way"));
     let output = words(&[&"import", &trace, &"--out", &dir]);
     assert_eq!((status(&output), err(&output)), (0, String::new()));
-    let found = "DLCI 18 (channel 9): 31 frames, 1 of which does not unpack\n\
-        Unfinished on DLCI 18: nothing is held without an end marker.\n";
-    assert_eq!(out(&output), format!("{found}30 fixtures written to {}\n", dir.display()));
+    let found = "31 frames, 1 of which does not unpack: DLCI 18, channel 9.\n\
+        Unfinished on DLCI 18: nothing is held without an end marker.\n\
+        The file ends at a record's end, so whether more was recorded cannot be seen.\n";
+    assert_eq!(out(&output), format!("{found}30 fixtures written: {}\n", dir.display()));
     let whole = fixtures(&fs::read(&trace).unwrap());
     assert_eq!(whole.len(), 30);
     holds(&dir, &whole);
 
     // Once more: nothing to do. With one missing, that one is made.
     let again = out(&words(&[&"import", &trace, &"--out", &dir]));
-    let line = format!("0 fixtures written to {}; 30 were there already, with the same bytes\n", dir.display());
+    let line = format!("0 fixtures written, 30 were there already with the same bytes: {}\n", dir.display());
     assert_eq!(again, format!("{found}{line}"));
     fs::remove_file(dir.join(&whole[7].name)).unwrap();
     let again = out(&words(&[&"import", &trace, &"--out", &dir]));
-    assert!(again
-        .ends_with(&format!("1 fixture written to {}; 29 were there already, with the same bytes\n", dir.display())));
+    assert!(
+        again.ends_with(&format!("1 fixture written, 29 were there already with the same bytes: {}\n", dir.display()))
+    );
     holds(&dir, &whole);
 }
 
@@ -177,7 +104,7 @@ fn a_dry_run_prints_names() {
     for output in [words(&[&"import", &trace, &"--dry-run"]), words(&[&"import", &"--dry-run", &trace, &"--out", &dir])]
     {
         assert_eq!((status(&output), out(&output)), (0, names.clone()));
-        assert!(err(&output).starts_with("DLCI 18 (channel 9): 31 frames, 1 of which does not unpack\n"));
+        assert!(err(&output).starts_with("31 frames, 1 of which does not unpack: DLCI 18, channel 9.\n"));
     }
     assert!(!dir.exists());
 }
@@ -191,7 +118,20 @@ fn excluded_commands_are_left_out() {
     assert_eq!(out(&output).lines().count(), 28);
     assert!(!out(&output).contains("POWER_GET_STATUS") && !out(&output).contains("NCASM_RET_PARAM"));
     assert!(out(&output).contains("-000016-"), "counters are spent");
-    assert!(err(&output).ends_with("2 frames left out by --exclude\n"));
+    assert!(err(&output).ends_with("2 frames left out by --exclude.\n"));
+    // As a part of a file name, which is how other programs show it; and frames that have no command.
+    let again = words(&[
+        &"import",
+        &trace,
+        &"--dry-run",
+        &"--exclude",
+        &"cmd-NCASM_RET_PARAM-67",
+        &"--exclude=POWER_GET_STATUS",
+    ]);
+    assert_eq!(out(&again), out(&output));
+    let output = words(&[&"import", &trace, &"--dry-run", &"--exclude", &"NO_COMMAND"]);
+    assert_eq!((status(&output), out(&output).lines().count()), (0, 15));
+    assert!(!out(&output).contains("NO_COMMAND"));
 }
 
 #[test]
@@ -199,9 +139,11 @@ fn the_channel_is_asked_for() {
     let trace = example("headset.btsnoop");
     let output = words(&[&"frames", &trace, &"--channel", &"9"]);
     assert_eq!(status(&output), 0);
-    assert_eq!(out(&output).lines().count(), 33);
+    assert_eq!(out(&output).lines().count(), 34);
     let output = words(&[&"frames", &trace, &"--channel=8"]);
-    fails(&output, 1, &["headset.btsnoop: refused (6): nothing on channel 8 unpacks as a frame\n"]);
+    let told = "refused (6): nothing on channel 8 unpacks as a frame; the file ends at a record's end, \
+        so whether more was recorded cannot be seen: ";
+    fails(&output, 1, &[told, "headset.btsnoop\n"]);
 }
 
 #[test]
@@ -210,12 +152,12 @@ fn frames_are_listed() {
     let text = out(&output);
     let lines: Vec<&str> = text.lines().collect();
     assert_eq!(
-        lines[2],
-        "     1  2024-05-14 09:30:00.133  tx    11  type-DATA_MDR-0c seq-00 cmd-CONNECT_GET_PROTOCOL_INFO-00"
+        lines[3],
+        "CONNECT_GET_PROTOCOL_INFO tx 1, DATA_MDR, seq 00, 11 bytes, command 00, type 0c, 2024-05-14 09:30:00.133"
     );
     assert_eq!(
-        lines[18],
-        "    17  2024-05-14 09:30:00.261  rx    13  does not unpack (17): the frame's checksum is 70 where its bytes give B0"
+        lines[19],
+        "does not unpack rx 17, refusal 17, the frame's checksum is 70 where its bytes give B0, 13 bytes, 2024-05-14 09:30:00.261"
     );
 }
 
@@ -225,19 +167,21 @@ fn records_are_listed() {
     assert_eq!((status(&output), err(&output)), (0, String::new()));
     let text = out(&output);
     let lines: Vec<&str> = text.lines().collect();
-    assert_eq!(lines.len(), 55);
-    assert_eq!(lines[0], "datalink 1002: 54 records");
-    assert_eq!(lines[1], "     1       16  2024-05-14 09:30:00.003  tx     4  command");
-    assert_eq!(lines[2], "     2       44  2024-05-14 09:30:00.007  rx     7  event");
-    assert_eq!(lines[3], "     3       75  2024-05-14 09:30:00.013  tx    17  ACL data, handle 6, begins a PDU");
-    assert_eq!(lines[41], "    41     1833  2024-05-14 09:30:00.298  rx    59  ACL data, handle 6, continues a PDU");
+    assert_eq!(lines.len(), 56);
+    assert_eq!(lines[0], "54 records: datalink 1002.");
+    assert_eq!(lines[1], "The file ends at a record's end, so whether more was recorded cannot be seen.");
+    assert_eq!(lines[2], "command, tx 1, 4 bytes at 16, 2024-05-14 09:30:00.003");
+    assert_eq!(lines[3], "event, rx 2, 7 bytes at 44, 2024-05-14 09:30:00.007");
+    assert_eq!(lines[4], "ACL data, handle 6, begins a PDU, tx 3, 17 bytes at 75, 2024-05-14 09:30:00.013");
+    assert_eq!(lines[42], "ACL data, handle 6, continues a PDU, rx 41, 59 bytes at 1833, 2024-05-14 09:30:00.298");
     let output = words(&[&"records", &example("cut.btsnoop")]);
     assert_eq!(status(&output), 0);
     let text = out(&output);
     let lines: Vec<&str> = text.lines().collect();
-    assert_eq!(lines[0], "datalink 1002: 52 records");
-    assert_eq!(lines[1], "The file was cut: it ends inside a record that starts at byte 2453.");
-    assert_eq!(lines[2], "  30 bytes of it are there and 13 are missing. Whatever came later is missing.");
+    assert_eq!(lines[0], "52 records: datalink 1002.");
+    let end = "The file ends inside the record that starts at byte 2453: 30 bytes of it are there and 13 are missing.";
+    assert_eq!(lines[1], end);
+    assert_eq!(lines[2], "Whatever came later is missing.");
     assert_eq!(lines.len(), 55);
 }
 
@@ -254,7 +198,7 @@ fn records_of_each_datalink() {
         let output = words(&[&"records", &place.file("trace", &file)]);
         assert_eq!(status(&output), 0);
         let text = out(&output);
-        text.lines().skip(1).map(|line| line.split("00:00:00.000  ").nth(1).unwrap().to_string()).collect::<Vec<_>>()
+        text.lines().skip(2).map(|line| line.split(" at ").next().unwrap().to_string()).collect::<Vec<_>>()
     };
     assert_eq!(listed(1001, &[]), [""; 0]);
     let acl = [0x40, 0x10, 0, 0];
@@ -262,21 +206,28 @@ fn records_of_each_datalink() {
     assert_eq!(
         found,
         [
-            "tx     4  ACL data, handle 64, continues a PDU",
-            "rx     1  ACL data",
-            "tx     4  command",
-            "rx     0  event"
+            "ACL data, handle 64, continues a PDU, tx 1, 4 bytes",
+            "ACL data, rx 2, 1 byte",
+            "command, tx 3, 4 bytes",
+            "event, rx 4, 0 bytes"
         ]
     );
     let found = listed(1002, &[record(0, &[2, 0x40, 0x2F]), record(1, &[3, 0, 0]), record(0, &[]), record(3, &[4, 0])]);
     assert_eq!(
         found,
-        ["tx     3  ACL data, handle 3904, begins a PDU", "rx     3  other", "tx     0  other", "rx     2  event"]
+        [
+            "ACL data, handle 3904, begins a PDU, tx 1, 3 bytes",
+            "other, rx 2, 3 bytes",
+            "other, tx 3, 0 bytes",
+            "event, rx 4, 2 bytes"
+        ]
     );
     let found =
         listed(2001, &[record(4, &acl), record(0x1_0005, &[]), record(2, &acl), record(3, &[]), record(0, &acl)]);
-    let acl = "tx     4  ACL data, handle 64, continues a PDU";
-    assert_eq!(found, [acl, "rx     0  ACL data", "tx     4  command", "rx     0  event", "--     4  other"]);
+    let acl = "ACL data, handle 64, continues a PDU, tx 1, 4 bytes";
+    let rest =
+        ["ACL data, rx 2, 0 bytes", "command, tx 3, 4 bytes", "event, rx 4, 0 bytes", "other, no direction 5, 4 bytes"];
+    assert_eq!((&*found[0], &found[1..]), (acl, &rest.map(String::from)[..]));
 }
 
 #[test]
@@ -284,33 +235,25 @@ fn a_cut_file() {
     let place = Place::new();
     let (trace, dir) = (example("cut.btsnoop"), place.join("out"));
     let strict = words(&[&"import", &trace, &"--out", &dir]);
-    let told = "refused (5): the file ends inside the record that starts at byte 2453: 30 bytes of it are there and 13 are missing\n";
-    fails(&strict, 1, &[told, "--tolerant keeps what was complete before that record"]);
+    let told = "refused (5): the file ends inside the record that starts at byte 2453: 30 bytes of it are there and 13 are missing: ";
+    fails(&strict, 1, &[told, "cut.btsnoop\nlumbryth: --tolerant keeps what was complete before that\n"]);
     assert!(!dir.exists());
     let output = words(&[&"import", &trace, &"--out", &dir, &"--tolerant"]);
     assert_eq!(status(&output), 0);
     let lines = [
-        "DLCI 18 (channel 9): 29 frames, 1 of which does not unpack",
-        "The file was cut: it ends inside a record that starts at byte 2453.",
-        "  30 bytes of it are there and 13 are missing.",
-        "  Kept: 29 frames, complete before that record.",
-        "  Missing: whatever was not complete before it, or came later.",
-        "  Unfinished on handle 6, received, DLCI 18: 8 bytes are held without an end marker.",
-        "  A reply that is not among the fixtures may have been sent all the same.",
-        &format!("28 fixtures written to {}", dir.display()),
+        "29 frames, 1 of which does not unpack: DLCI 18, channel 9.",
+        "Unfinished on handle 6, received, DLCI 18: 8 bytes are held without an end marker.",
+        "The file ends inside the record that starts at byte 2453: 30 bytes of it are there and 13 are missing.",
+        "Kept: 29 frames, complete before that.",
+        "Missing: whatever was not complete before that, or came later.",
+        "A reply that is not among the fixtures may have been sent all the same.",
+        "What is proved of a cut is for a channel that is asked for, here --channel 9.",
+        &format!("28 fixtures written: {}", dir.display()),
     ];
     assert_eq!(out(&output).lines().collect::<Vec<_>>(), lines);
     holds(&dir, &fixtures(&fs::read(&trace).unwrap()));
-}
-
-/// Where each record starts, and where the last ends.
-fn bounds(file: &[u8]) -> Vec<usize> {
-    let mut bounds = vec![16];
-    while bounds[bounds.len() - 1] < file.len() {
-        let at = bounds[bounds.len() - 1];
-        bounds.push(at + 24 + u32::from_be_bytes(file[at + 4..at + 8].try_into().unwrap()) as usize);
-    }
-    bounds
+    let output = words(&[&"import", &trace, &"--dry-run", &"--tolerant", &"--channel=9"]);
+    assert!(err(&output).ends_with("may have been sent all the same.\n"), "{}", err(&output));
 }
 
 #[test]
@@ -333,35 +276,37 @@ fn every_cut() {
         most = names.len();
         assert_eq!(status(&output), i32::from(names.is_empty()), "cut at {n}: {told}");
         assert_eq!(told.contains("refused (6)"), names.is_empty());
-        // It says where the file ends, if that can be seen.
-        let said = told.contains(&format!(
-            "ends inside {} record that starts at byte {start}",
-            if names.is_empty() { "the" } else { "a" }
-        ));
-        assert_eq!(said, inside, "cut at {n}: {told}");
-        if inside {
-            let present = n - start;
-            let missing = bounds[record + 1] - n;
-            let there =
-                if present == 1 { "1 byte of it is there".into() } else { format!("{present} bytes of it are there") };
-            let gone = if missing == 1 { " and 1 is missing".into() } else { format!(" and {missing} are missing") };
-            let gone = if present < 8 { ", too few to say how many are missing".into() } else { gone };
-            assert!(told.contains(&format!("{there}{gone}")), "cut at {n}: {told}");
-            let strict = words(&[&"frames", &trace]);
-            fails(
-                &strict,
-                1,
-                &[&format!(
-                    "refused (5): the file ends inside the record that starts at byte {start}: {there}{gone}\n"
-                )],
-            );
+        // It says where the file ends, and if that is at a record's end, that more cannot be seen.
+        let (there, gone) = (n - start, if inside { bounds[record + 1] - n } else { 0 });
+        let gone = match gone {
+            _ if there < 8 => ", too few to say how many are missing".into(),
+            1 => " and 1 is missing".into(),
+            gone => format!(" and {gone} are missing"),
+        };
+        let there = if there == 1 { "1 byte of it is".into() } else { format!("{there} bytes of it are") };
+        let end = if inside {
+            format!("he file ends inside the record that starts at byte {start}: {there} there{gone}")
         } else {
-            assert!(!told.contains("cut"), "cut at {n}: {told}");
+            let place = if n == 16 { "after its header" } else { "at a record's end" };
+            format!("he file ends {place}, so whether more was recorded cannot be seen")
+        };
+        assert!(told.contains(&end), "cut at {n}: {told}");
+        assert_eq!(told.matches("he file ").count(), 1, "cut at {n}: {told}");
+        let strict = words(&[&"import", &trace, &"--dry-run"]);
+        if inside {
+            fails(&strict, 1, &[&format!("refused (5): t{end}: ")]);
+        } else {
+            assert_eq!((out(&strict), err(&strict)), (out(&output), told.clone()), "cut at {n}");
         }
         if n % 5 == 0 {
             let listed = out(&words(&[&"records", &trace]));
-            assert!(listed.starts_with(&format!("datalink 1002: {record} record")), "cut at {n}: {listed}");
-            assert_eq!(listed.contains(&format!("ends inside a record that starts at byte {start}.")), inside);
+            assert!(listed.starts_with(&format!("{record} record")), "cut at {n}: {listed}");
+            assert!(listed.contains(&end), "cut at {n}: {listed}");
+            // Frames are listed of a cut file too.
+            let listed = words(&[&"frames", &trace]);
+            let found = if status(&listed) == 0 { out(&listed) } else { err(&listed) };
+            assert_eq!(status(&listed), status(&output), "cut at {n}: {found}");
+            assert!(found.contains(&end), "cut at {n}: {found}");
         }
         // Between the two pieces of a reply its first eight bytes are held, wherever the cut is.
         let held = "Unfinished on handle 6, received, DLCI 18: 8 bytes are held without an end marker.\n";
@@ -371,46 +316,130 @@ fn every_cut() {
     assert_eq!(most, all.len());
 }
 
+/// What is no cut is not called one: lengths that no packet has, and zeros where a record would be.
+#[test]
+fn damage_is_told() {
+    let place = Place::new();
+    let whole = fs::read(example("headset.btsnoop")).unwrap();
+    let bounds = bounds(&whole);
+    let look = |file: &[u8], damage: &str, strict: bool| {
+        let trace = place.file("trace", file);
+        for command in ["frames", "records"] {
+            let output = words(&[&command, &trace]);
+            let text = if status(&output) == 0 { out(&output) } else { err(&output) };
+            assert!(text.contains(&format!("he file is damaged: {damage}")), "{text}");
+            assert!(!text.contains("ends inside") && !text.contains("more was recorded"), "{text}");
+        }
+        let output = words(&[&"import", &trace, &"--dry-run"]);
+        assert_eq!(
+            err(&output).contains(&format!("refused (5): the file is damaged: {damage}")),
+            strict,
+            "{}",
+            err(&output)
+        );
+        let output = words(&[&"import", &trace, &"--dry-run", &"--tolerant"]);
+        assert!(err(&output).contains(damage), "{}", err(&output));
+        assert_eq!(err(&output).contains("Missing: whatever was not complete"), status(&output) == 0);
+    };
+    for (n, &start) in bounds.iter().enumerate().take(54) {
+        // The included length, too long for any packet.
+        let mut file = whole.clone();
+        for length in [u32::MAX, 65_541] {
+            file[start + 4..start + 8].copy_from_slice(&length.to_be_bytes());
+            let words = format!(
+                "the record that starts at byte {start} gives its packet {length} bytes, and no packet has over 65540"
+            );
+            if start + 24 + length as usize > file.len() {
+                look(&file, &words, true);
+            }
+        }
+        // Zeros from here on, to any length.
+        for zeros in [8, 23, 24, 25, 48, 500 + n] {
+            let file = [&whole[..start], &vec![0; zeros]].concat();
+            let words = format!("from byte {start} to its end there are zeros only, {zeros} of them");
+            look(&file, &words, zeros % 24 != 0);
+        }
+    }
+    // Fewer zeros may be the beginning of a record.
+    let trace = place.file("trace", &[&whole[..], &[0; 7]].concat());
+    let told = "The file ends inside the record that starts at byte 2542: 7 bytes of it are there, too few to say how many are missing.";
+    assert!(out(&words(&[&"frames", &trace])).contains(told));
+    // Zeros in the packet of a record are its own.
+    let mut file = whole.clone();
+    file[bounds[53] + 24..].fill(0);
+    let output = words(&[&"records", &place.file("trace", &file)]);
+    assert!(out(&output).contains("The file ends at a record's end, "), "{}", out(&output));
+}
+
+#[test]
+fn objects_a_line() {
+    let output = words(&[&"frames", &"--json", &example("cut.btsnoop")]);
+    assert_eq!((status(&output), err(&output)), (0, String::new()));
+    let text = out(&output);
+    let lines: Vec<&str> = text.lines().collect();
+    assert_eq!(lines.len(), 31);
+    let first = r#"{"kind":"import","dlci":18,"channel":9,"frames":29,"unfinished":1,"end":"cut","offset":2453,"present":30,"missing":13}"#;
+    assert_eq!(lines[0], first);
+    assert_eq!(lines[1], r#"{"kind":"unfinished","handle":6,"direction":"rx","dlci":18,"held":8}"#);
+    let frame = r#"{"kind":"frame","counter":9,"direction":"tx","ms":1715679000195,"wire":"3e0c000000000222003"#;
+    assert!(lines[10].starts_with(frame), "{}", lines[10]);
+    let rest =
+        r#","type":12,"type_name":"DATA_MDR","seq":0,"command":34,"command_name":"POWER_GET_STATUS","payload":"2200"}"#;
+    assert!(lines[10].ends_with(rest), "{}", lines[10]);
+    assert!(lines[18].ends_with(r#""refusal":17,"reason":"the frame's checksum is 70 where its bytes give B0"}"#));
+    let output = words(&[&"records", &"--json", &example("headset.btsnoop")]);
+    let text = out(&output);
+    let lines: Vec<&str> = text.lines().collect();
+    assert_eq!(lines.len(), 55);
+    assert_eq!(lines[0], r#"{"kind":"file","datalink":1002,"records":54,"end":"record"}"#);
+    let third = r#"{"kind":"record","number":3,"offset":75,"direction":"tx","ms":1715679000013,"length":17,"what":"ACL data, handle 6, begins a PDU"}"#;
+    assert_eq!(lines[3], third);
+}
+
 #[test]
 fn files_that_cannot_be_read() {
     let place = Place::new();
     let look = |path: &Path| words(&[&"frames", &path]);
-    fails(&look(&place.join("none")), 1, &["none: there is no such file\n"]);
+    fails(&look(&place.join("none")), 1, &["lumbryth: there is no such file: ", "none\n"]);
     for path in [place.join("none"), place.0.clone()] {
         assert_eq!(err(&look(&path)), err(&words(&[&"records", &path])));
     }
-    fails(&look(&place.0), 1, &[": this is a directory, not a file\n"]);
+    fails(&look(&place.0), 1, &["lumbryth: this is a directory, not a file: "]);
     fails(
         &look(Path::new("/dev/zero")),
         1,
-        &["/dev/zero: this is a device, not a file; save the trace to a file first\n"],
+        &["this is a device, not a file; save the trace to a file first: /dev/zero\n"],
     );
     let fifo = place.join("fifo");
     assert!(Command::new("mkfifo").arg(&fifo).status().unwrap().success());
-    fails(&look(&fifo), 1, &["fifo: this is a pipe, not a file; save the trace to a file first\n"]);
-    fails(&look(&place.file("empty", b"")), 1, &["empty: refused (3): the file is empty\n"]);
+    fails(&look(&fifo), 1, &["this is a pipe, not a file; save the trace to a file first: ", "fifo\n"]);
+    fails(&look(&place.file("empty", b"")), 1, &["lumbryth: refused (3): the file is empty: ", "empty\n"]);
     let short = place.file("short", b"btsnoop\0");
-    fails(&look(&short), 1, &["short: refused (3): the file has only 8 bytes, and a btsnoop header has 16\n"]);
+    fails(&look(&short), 1, &["refused (3): the file has only 8 bytes, and a btsnoop header has 16: "]);
     let text = place.file("text", b"This is a letter and not a trace.");
     fails(
         &look(&text),
         1,
-        &["refused (3): this is not a btsnoop file: its first 16 bytes are not a btsnoop header of version 1\n"],
+        &["refused (3): this is not a btsnoop file: its first 16 bytes are not a btsnoop header of version 1: "],
     );
     let other = place.file("other", b"btsnoop\0\0\0\0\x01\0\0\x03\xEB");
     fails(&words(&[&"records", &other]), 1, &["refused (4): the trace has datalink 1003"]);
-    fails(&look(&other), 1, &["refused (4): the trace has datalink 1003, and only 1001, 1002 and 2001 can be read\n"]);
+    fails(&look(&other), 1, &["refused (4): the trace has datalink 1003, and only 1001, 1002 and 2001 can be read: "]);
     let bare = place.file("bare", b"btsnoop\0\0\0\0\x01\0\0\x03\xEA");
-    assert_eq!(out(&words(&[&"records", &bare])), "datalink 1002: 0 records\n");
-    fails(&look(&bare), 1, &["refused (6): nothing in the trace unpacks as a frame\n"]);
+    assert_eq!(
+        out(&words(&[&"records", &bare])),
+        "0 records: datalink 1002.\nThe file ends after its header, so whether more was recorded cannot be seen.\n"
+    );
+    fails(&look(&bare), 1, &["refused (6): nothing in the trace unpacks as a frame; the file ends after its header"]);
     let long = place.join("long");
     fs::File::create(&long).unwrap().set_len(1_048_577).unwrap();
-    fails(&look(&long), 1, &["long: refused (1): the file is longer than 1048576 bytes\n"]);
+    let told = ["refused (1): the file is longer than 1048576 bytes: ", "long\nlumbryth: record a shorter log; "];
+    fails(&look(&long), 1, &told);
     fs::File::create(&long).unwrap().set_len(1 << 40).unwrap();
-    fails(&look(&long), 1, &["long: refused (1)"]);
-    fails(&words(&[&"records", &long]), 1, &["long: refused (1): the file is longer than 1048576 bytes\n"]);
+    fails(&look(&long), 1, &["lumbryth: refused (1)"]);
+    fails(&words(&[&"records", &long]), 1, &told);
     fs::File::create(&long).unwrap().set_len(1_048_576).unwrap();
-    fails(&look(&long), 1, &["long: refused (3)"]);
+    fails(&look(&long), 1, &["lumbryth: refused (3)"]);
 }
 
 /// The program as a user without rights, where that can be had.
@@ -435,13 +464,13 @@ fn without_the_right_to() {
         println!("skipped: no other user can be had");
         return;
     };
-    fails(&output, 1, &["read-only/", "cannot be written: Permission denied"]);
+    fails(&output, 1, &["cannot be written: Permission denied", "/read-only"]);
     assert!(listing(&dir).is_empty());
     let output = as_nobody(&[&"import", &trace, &"--out", &dir.join("inside/it")]).unwrap();
-    fails(&output, 1, &["read-only/inside/it: cannot be written: Permission denied"]);
+    fails(&output, 1, &["cannot be written: Permission denied", "/read-only/inside/it\n"]);
     assert!(listing(&dir).is_empty());
     fs::set_permissions(&trace, fs::Permissions::from_mode(0o000)).unwrap();
-    fails(&as_nobody(&[&"frames", &trace]).unwrap(), 1, &["trace: the file may not be read\n"]);
+    fails(&as_nobody(&[&"frames", &trace]).unwrap(), 1, &["lumbryth: the file may not be read: "]);
 }
 
 #[test]
@@ -452,7 +481,7 @@ fn what_is_there_stays() {
     let taken = dir.join(&whole[20].name);
     fs::create_dir(&dir).unwrap();
     fs::write(&taken, b"mine").unwrap();
-    let told = ["this exists and holds something else; nothing was written\n"];
+    let told = ["lumbryth: nothing was written: this exists and holds something else: "];
     fails(&words(&[&"import", &trace, &"--out", &dir]), 1, &told);
     assert_eq!((listing(&dir).len(), fs::read(&taken).unwrap()), (1, b"mine".to_vec()));
     // Nor a directory, a link that leads nowhere, or a pipe.
@@ -468,43 +497,10 @@ fn what_is_there_stays() {
     assert_eq!(listing(&dir).len(), 1);
 
     let file = place.file("file", b"mine");
-    let told = ["file: this is not a directory; nothing was written\n"];
+    let told = ["lumbryth: nothing was written: this is not a directory: ", "file\n"];
     fails(&words(&[&"import", &trace, &"--out", &file]), 1, &told);
     fails(&words(&[&"import", &trace, &"--out", &file.join("below/it")]), 1, &told);
     assert_eq!(fs::read(&file).unwrap(), b"mine");
-}
-
-/// A trace with frames of these payloads, one to a record.
-fn trace_of(payloads: &[Vec<u8>]) -> Vec<u8> {
-    let mut file = b"btsnoop\0\0\0\0\x01\0\0\x03\xE9".to_vec();
-    for payload in payloads {
-        let wire = pack(0x0C, 0, payload).unwrap();
-        let n = wire.len() as u16;
-        let lengths = [n + 9, n + 5].map(u16::to_le_bytes);
-        let length = (n << 1).to_le_bytes();
-        let packet =
-            [&[0x40, 0x20], &lengths[0][..], &lengths[1], &[0x41, 0, 0x49, 0xEF], &length, &wire, &[0]].concat();
-        let included = (packet.len() as u32).to_be_bytes();
-        file.extend(
-            [&included, &included, &[0, 0, 0, 1], &[0; 4][..], &[0x00, 0xDD, 0, 0, 0, 0, 0, 0], &packet].concat(),
-        );
-    }
-    file
-}
-
-/// A trace of pieces, one to a record: handle, whether it was received, DLCI, information.
-fn trace_of_pieces(pieces: &[(u16, bool, u8, &[u8])]) -> Vec<u8> {
-    let mut file = b"btsnoop\0\0\0\0\x01\0\0\x03\xE9".to_vec();
-    for (handle, received, dlci, information) in pieces {
-        let n = information.len() as u16;
-        let numbers = [0x2000 | handle, n + 9, n + 5].map(u16::to_le_bytes).concat();
-        let length = (n << 1).to_le_bytes();
-        let packet = [&numbers[..], &[0x41, 0, dlci << 2 | 1, 0xEF], &length, information, &[0]].concat();
-        let included = (packet.len() as u32).to_be_bytes();
-        let flags = [0, 0, 0, u8::from(*received)];
-        file.extend([&included, &included, &flags, &[0; 4][..], &[0x00, 0xDD, 0, 0, 0, 0, 0, 0], &packet].concat());
-    }
-    file
 }
 
 /// The lines of a text that tell what is unfinished.
@@ -544,25 +540,24 @@ fn unfinished_bytes_are_told_by_handle_and_direction() {
     let written = words(&[&"import", &trace, &"--out", &place.join("out")]);
     assert_eq!((status(&written), err(&written)), (0, String::new()));
     assert_eq!(unfinished(&out(&written)), told);
-    assert_eq!(listing(&place.join("out")).len(), 2);
+    assert_eq!(listing(&place.join("out")).len(), 3);
 
     // Only the DLCI that is chosen is told of: of channel 20 that is 41, which holds nothing.
     let other = out(&words(&[&"frames", &trace, &"--channel", &"20"]));
     assert_eq!(unfinished(&other), ["Unfinished on DLCI 41: nothing is held without an end marker."]);
 
     // Cut inside its last record, the file tells the same; inside the one before, more is held.
-    let indented = |lines: &[&str]| lines.iter().map(|line| format!("  {line}")).collect::<Vec<_>>();
     let cut = place.file("cut", &file[..file.len() - 1]);
-    assert_eq!(unfinished(&out(&words(&[&"frames", &cut, &"--tolerant"]))), indented(&told));
+    assert_eq!(unfinished(&out(&words(&[&"frames", &cut, &"--tolerant"]))), told);
     let starts = bounds(&file);
     let cut = place.file("cut", &file[..starts[8] - 1]);
     let more = "Unfinished on handle 7, received, DLCI 18: 5 bytes are held without an end marker.";
     let all = [told[0], told[1], more, told[2]];
-    assert_eq!(unfinished(&out(&words(&[&"frames", &cut, &"--tolerant"]))), indented(&all));
-    // Cut inside the second, nothing is: then nothing is said of it.
+    assert_eq!(unfinished(&out(&words(&[&"frames", &cut, &"--tolerant"]))), all);
+    // Cut inside the second, nothing is held.
     let cut = place.file("cut", &file[..starts[1] + 30]);
     let said = words(&[&"frames", &cut, &"--tolerant"]);
-    assert_eq!((status(&said), unfinished(&out(&said)).len()), (0, 0));
+    assert_eq!(unfinished(&out(&said)), ["Unfinished on DLCI 18: nothing is held without an end marker."]);
 }
 
 #[test]
@@ -593,7 +588,7 @@ fn a_failure_midway_leaves_nothing() {
     fs::write(kept.join("note"), b"mine").unwrap();
     // No file may grow past 4 blocks, so the second fixture cannot be written.
     let limited = |dir: &Path| {
-        let script = "trap '' XFSZ; ulimit -f 4; exec \"$0\" \"$@\"";
+        let script = "ulimit -f 4; exec \"$0\" \"$@\"";
         let mut command = Command::new("sh");
         command.args(["-c", script, PROGRAM, "import"]).arg(&trace).arg("--out").arg(dir);
         command.stdin(Stdio::null()).output().unwrap()
@@ -604,7 +599,7 @@ fn a_failure_midway_leaves_nothing() {
     assert_eq!(listing(&kept), ["note"]);
     // Without the limit it works.
     assert_eq!(status(&words(&[&"import", &trace, &"--out", &dir])), 0);
-    assert_eq!(listing(&dir).len(), 3);
+    assert_eq!(listing(&dir).len(), 4);
 }
 
 #[test]

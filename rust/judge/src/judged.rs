@@ -49,7 +49,7 @@ pub fn spans(pieces: &[Piece], dlci: u8) -> (Vec<Span>, usize) {
             }
             buffer.push(byte);
             if byte == 0x3C {
-                spans.push(Span { direction: piece.direction, ms: piece.ms, wire: std::mem::take(buffer) });
+                spans.push(Span::new(piece.direction, piece.ms, std::mem::take(buffer)));
             }
         }
     }

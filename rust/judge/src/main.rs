@@ -23,7 +23,7 @@ use std::{env, fs, process};
 
 use generate::Generated;
 use judged::{spans, Piece, Seen};
-use lumbryth::{import, records, unpack, Records, Refusal, TailRule};
+use lumbryth::{import, records, unpack, Refusal, TailRule};
 use rng::Rng;
 
 /// How many cuts of each trace are judged.
@@ -106,7 +106,7 @@ fn judge_spans(pieces: &[Piece], file: &[u8], tail: usize, dlcis: &[u8], tally: 
 /// The library's records are those that were made, and as many as tshark shows.
 fn judge_records(shown: usize, starts: &[usize], file: &[u8], tail: usize) -> Result<(), String> {
     let found = records(file);
-    if shown != starts.len() || found != Ok(Records { starts: starts.to_vec(), tail }) {
+    if shown != starts.len() || found.as_ref().map(|found| (&found.starts[..], found.tail)) != Ok((starts, tail)) {
         return Err(format!("{shown} records there, {} made, here {found:?}", starts.len()));
     }
     Ok(())

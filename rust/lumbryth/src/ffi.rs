@@ -3,7 +3,17 @@
 //!
 //! `include/lumbryth.h` has the same declarations, with what each call does.
 
-use crate::Stretch;
+/// A stretch as the library writes it: twice the handle and one more if the bytes were received, then numbers as in `crate::Stretch`.
+#[derive(Debug, Clone, Copy, Default)]
+#[repr(C)]
+pub struct Stretch {
+    pub way: u32,
+    pub cid: u32,
+    pub dlci: u32,
+    pub sessions: u32,
+    pub links: u32,
+    pub held: u32,
+}
 
 extern "C" {
     fn lumbryth_unpack(

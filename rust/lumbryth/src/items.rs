@@ -68,7 +68,8 @@ pub fn fixtures(list: &[u8]) -> Vec<Fixture> {
         match kind {
             NAME => name = String::from_utf8_lossy(body).into_owned(),
             WIRE => fixtures.push(Fixture { name: std::mem::take(&mut name), wire: body.to_vec() }),
-            _ => unreachable!("a plan has names and wires only"),
+            // A plan has names and wires only.
+            _ => {}
         }
     }
     fixtures

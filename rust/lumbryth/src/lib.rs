@@ -32,8 +32,10 @@
 #[allow(unsafe_code)]
 mod ffi;
 mod items;
+mod kind;
 mod refusal;
 
+pub use kind::FrameType;
 pub use refusal::Refusal;
 
 /// The longest trace that is taken, in bytes.
@@ -43,12 +45,15 @@ pub const PAYLOAD_MAX: usize = 32_760;
 /// The longest list of spans or of names, in bytes: 14 and its wire for a span, 6 and its bytes for a name.
 pub const LIST_MAX: usize = 16_777_216;
 
+/// The longest packet that a record can hold: 65,535 bytes of data, 4 before them, and one for the packet's type.
+pub const PACKET_MAX: u32 = 65_540;
+
 /// A channel number that stands for any.
 const ANY_CHANNEL: u32 = 256;
 /// The most values that a call stores.
 const VALUES: usize = 5;
 
-/// Which way a frame went.
+/// Which way a frame went. There is no third.
 #[derive(Debug, Clone, Copy, PartialEq, Eq, PartialOrd, Ord, Hash)]
 pub enum Direction {
     /// From the headset.
@@ -67,16 +72,26 @@ impl Direction {
 }
 
 /// What an import does with a file that ends inside a record.
-#[derive(Debug, Clone, Copy, PartialEq, Eq, Hash)]
+#[derive(Debug, Clone, Copy, PartialEq, Eq, Hash, Default)]
+#[non_exhaustive]
 pub enum TailRule {
     /// It refuses, with [`Refusal::Truncated`].
+    #[default]
     Strict,
     /// It reads what comes before that record; [`Imported::tail`] says where it starts.
     Tolerant,
 }
 
 /// What a caller of an import chooses: by default any channel, and the strict rule.
-#[derive(Debug, Clone, Copy, PartialEq, Eq, Hash)]
+///
+/// ```
+/// use lumbryth::{Options, TailRule};
+///
+/// let options = Options::default().with_channel(9).with_tail(TailRule::Tolerant);
+/// assert_eq!((options.channel, options.tail), (Some(9), TailRule::Tolerant));
+/// ```
+#[derive(Debug, Clone, Copy, PartialEq, Eq, Hash, Default)]
+#[non_exhaustive]
 pub struct Options {
     /// The RFCOMM channel; any if it is none.
     pub channel: Option<u8>,
@@ -84,25 +99,56 @@ pub struct Options {
     pub tail: TailRule,
 }
 
-impl Default for Options {
-    fn default() -> Options {
-        Options { channel: None, tail: TailRule::Strict }
+impl Options {
+    /// The same with this channel.
+    pub fn with_channel(self, channel: u8) -> Options {
+        Options { channel: Some(channel), ..self }
+    }
+
+    /// The same with this rule.
+    pub fn with_tail(self, tail: TailRule) -> Options {
+        Options { tail, ..self }
     }
 }
 
 /// What a frame holds.
 #[derive(Debug, Clone, PartialEq, Eq, Hash)]
+#[non_exhaustive]
 pub struct Frame {
-    /// The type, as its byte.
-    pub kind: u8,
+    /// The type.
+    pub kind: FrameType,
     /// The sequence number.
     pub seq: u8,
     /// The payload; its first byte is the command.
     pub payload: Vec<u8>,
 }
 
+impl Frame {
+    /// The command, if there is one.
+    pub fn command(&self) -> Option<u8> {
+        self.payload.first().copied()
+    }
+
+    /// The command's name, as in a fixture's name: `NO_COMMAND` if there is none, `UNKNOWN` if the table of the type has no name for
+    /// it.
+    ///
+    /// ```
+    /// let frame = lumbryth::unpack(&[0x3E, 0x0C, 0x01, 0x00, 0x00, 0x00, 0x01, 0x22, 0x30, 0x3C])?;
+    /// assert_eq!((frame.kind.name(), frame.command_name()), ("DATA_MDR", "POWER_GET_STATUS".to_string()));
+    /// # Ok::<(), lumbryth::Refusal>(())
+    /// ```
+    pub fn command_name(&self) -> String {
+        let first = &self.payload[..self.payload.len().min(1)];
+        let name = pack(self.kind, 0, first).and_then(|wire| fixture_name(0, 0, Direction::Rx, &wire));
+        let name = name.unwrap_or_default();
+        let part = name.split_once(".cmd-").and_then(|(_, part)| part.rsplit_once('-'));
+        part.map_or(String::new(), |(command, _)| command.to_string())
+    }
+}
+
 /// A stretch of wire bytes from 3E through 3C, as it was found in a trace. It may not unpack.
 #[derive(Debug, Clone, PartialEq, Eq, Hash)]
+#[non_exhaustive]
 pub struct Span {
     /// Which way it went.
     pub direction: Direction,
@@ -112,66 +158,70 @@ pub struct Span {
     pub wire: Vec<u8>,
 }
 
+impl Span {
+    /// A span of this direction, time and wire.
+    pub fn new(direction: Direction, ms: u64, wire: Vec<u8>) -> Span {
+        Span { direction, ms, wire }
+    }
+}
+
 /// What an import found.
 #[derive(Debug, Clone, PartialEq, Eq, Hash)]
+#[non_exhaustive]
 pub struct Imported {
     /// The DLCI of the spans. Its RFCOMM channel is half of it.
     pub dlci: u8,
     /// How many spans there are, also of those that do not unpack.
     pub frames: usize,
     /// How many stretches and directions of the DLCI held bytes without an end marker, 3C, when
-    /// the reading stopped.
+    /// the reading stopped. A PDU of which only a part was recorded is not counted.
     pub unfinished: usize,
-    /// Where the reading stopped: the file's length or, if it was cut, where the record starts
-    /// inside which it ends.
+    /// Where the reading stopped: the file's length, or where the record starts that passes its
+    /// end. If it is the file's length, more may have been recorded all the same: [`ending`] says
+    /// what can be seen.
     pub tail: usize,
     /// The spans, in the order in which they were complete.
     pub spans: Vec<Span>,
 }
 
 /// A stretch and direction that holds bytes without an end marker at the end of a trace.
-#[derive(Debug, Clone, Copy, PartialEq, Eq, Hash, Default)]
-#[repr(C)]
+#[derive(Debug, Clone, Copy, PartialEq, Eq, Hash)]
+#[non_exhaustive]
 pub struct Stretch {
-    /// Twice the handle, and one more if the bytes came from the headset.
-    pub way: u32,
+    /// The handle.
+    pub handle: u16,
+    /// Which way the bytes went.
+    pub direction: Direction,
     /// The CID.
-    pub cid: u32,
+    pub cid: u16,
     /// The DLCI.
-    pub dlci: u32,
+    pub dlci: u8,
     /// How many sessions of the handle had been asked for.
     pub sessions: u32,
     /// How often the link of the DLCI had been opened.
     pub links: u32,
     /// How many bytes are held.
-    pub held: u32,
+    pub held: usize,
 }
 
 impl Stretch {
-    /// The handle.
-    ///
-    /// ```
-    /// use lumbryth::{Direction, Stretch};
-    ///
-    /// let stretch = Stretch { way: 13, ..Stretch::default() };
-    /// assert_eq!((stretch.handle(), stretch.direction()), (6, Direction::Rx));
-    /// ```
-    pub fn handle(&self) -> u32 {
-        self.way / 2
-    }
-
-    /// Which way the bytes went.
-    pub fn direction(&self) -> Direction {
-        if self.way % 2 == 1 {
-            Direction::Rx
-        } else {
-            Direction::Tx
+    /// A stretch as the library tells it.
+    fn of(raw: &ffi::Stretch) -> Stretch {
+        Stretch {
+            handle: (raw.way / 2) as u16,
+            direction: if raw.way % 2 == 1 { Direction::Rx } else { Direction::Tx },
+            cid: raw.cid as u16,
+            dlci: raw.dlci as u8,
+            sessions: raw.sessions,
+            links: raw.links,
+            held: raw.held as usize,
         }
     }
 }
 
 /// A file to write: a frame with its name.
 #[derive(Debug, Clone, PartialEq, Eq, Hash)]
+#[non_exhaustive]
 pub struct Fixture {
     /// The file's name: time, counter, direction, type, sequence number and command.
     pub name: String,
@@ -181,15 +231,17 @@ pub struct Fixture {
 
 /// The records of a trace.
 #[derive(Debug, Clone, PartialEq, Eq, Hash)]
+#[non_exhaustive]
 pub struct Records {
     /// Where each whole record starts: 24 bytes, then its packet.
     pub starts: Vec<usize>,
-    /// The file's length or, if it was cut, where the record starts inside which it ends.
+    /// The file's length, or where the record starts that passes its end.
     pub tail: usize,
 }
 
 /// A file that ends inside a record.
 #[derive(Debug, Clone, Copy, PartialEq, Eq, Hash)]
+#[non_exhaustive]
 pub struct Cut {
     /// Where the record starts.
     pub offset: usize,
@@ -197,6 +249,30 @@ pub struct Cut {
     pub present: usize,
     /// How many are missing, by the length that the record gives; none if that is missing too.
     pub missing: Option<u64>,
+}
+
+/// How a trace ends, as far as that can be seen.
+#[derive(Debug, Clone, Copy, PartialEq, Eq, Hash)]
+#[non_exhaustive]
+pub enum Ending {
+    /// At the end of a record, or of the header if there is no record. Whether more was recorded cannot be seen.
+    AtRecord,
+    /// Inside a record: the file was cut.
+    Inside(Cut),
+    /// At a record that gives its packet more bytes than any packet has, over [`PACKET_MAX`]: the file is damaged there.
+    Length {
+        /// Where the record starts.
+        offset: usize,
+        /// The length that it gives.
+        length: u32,
+    },
+    /// With zeros only, from the start of a record on: the file is damaged there.
+    Zeros {
+        /// Where they start.
+        offset: usize,
+        /// How many they are.
+        count: usize,
+    },
 }
 
 /// Runs a call with an output of `first` bytes and, if that is too short, once more with what it
@@ -223,7 +299,7 @@ fn with_output(
 ///
 /// ```
 /// let frame = lumbryth::unpack(&[0x3E, 0x0C, 0x01, 0x00, 0x00, 0x00, 0x01, 0x22, 0x30, 0x3C])?;
-/// assert_eq!((frame.kind, frame.seq, frame.payload), (0x0C, 1, vec![0x22]));
+/// assert_eq!((frame.kind, frame.seq, frame.payload), (lumbryth::FrameType::DataMdr, 1, vec![0x22]));
 ///
 /// let refusal = lumbryth::unpack(&[0x3E, 0x3D, 0x00, 0, 0, 0, 0, 0, 0x3C]).unwrap_err();
 /// assert_eq!(refusal, lumbryth::Refusal::BadEscapee(0));
@@ -232,21 +308,22 @@ fn with_output(
 pub fn unpack(wire: &[u8]) -> Result<Frame, Refusal> {
     let (mut payload, values) = with_output(wire.len(), |out, values| ffi::unpack(wire, out, values))?;
     payload.truncate(values[2] as usize);
-    Ok(Frame { kind: values[0] as u8, seq: values[1] as u8, payload })
+    Ok(Frame { kind: FrameType::from(values[0] as u8), seq: values[1] as u8, payload })
 }
 
 /// Writes a frame: 3E, then type, sequence number, length, payload and checksum, escaped, then
-/// 3C. A payload of over [`PAYLOAD_MAX`] bytes is refused.
+/// 3C. A payload of over [`PAYLOAD_MAX`] bytes is refused. The type may be given as its byte.
 ///
 /// ```
-/// let wire = lumbryth::pack(0x0C, 1, &[0x3E])?;
+/// let wire = lumbryth::pack(lumbryth::FrameType::DataMdr, 1, &[0x3E])?;
 /// assert_eq!(wire, [0x3E, 0x0C, 0x01, 0x00, 0x00, 0x00, 0x01, 0x3D, 0x2E, 0x4C, 0x3C]);
 /// assert_eq!(lumbryth::unpack(&wire)?.payload, [0x3E]);
 ///
 /// assert_eq!(lumbryth::pack(0x0C, 1, &[0; 32_761]), Err(lumbryth::Refusal::PayloadLong));
 /// # Ok::<(), lumbryth::Refusal>(())
 /// ```
-pub fn pack(kind: u8, seq: u8, payload: &[u8]) -> Result<Vec<u8>, Refusal> {
+pub fn pack(kind: impl Into<FrameType>, seq: u8, payload: &[u8]) -> Result<Vec<u8>, Refusal> {
+    let kind = kind.into().byte();
     let room = 16 + 2 * payload.len().min(PAYLOAD_MAX);
     let (mut wire, values) = with_output(room, |out, values| ffi::pack(kind, seq, payload, out, values))?;
     wire.truncate(values[0] as usize);
@@ -287,7 +364,7 @@ pub fn is_command_name(name: impl AsRef<[u8]>) -> bool {
 /// ```
 /// use lumbryth::{pack, plan, Direction, Span};
 ///
-/// let span = |payload: &[u8]| pack(0x0C, 0, payload).map(|wire| Span { direction: Direction::Tx, ms: 5, wire });
+/// let span = |payload: &[u8]| pack(0x0C, 0, payload).map(|wire| Span::new(Direction::Tx, 5, wire));
 /// let spans = [span(&[0x22])?, span(&[0x66])?];
 /// let fixtures = plan(&spans, &["POWER_GET_STATUS"])?;
 /// assert_eq!(fixtures.len(), 1);
@@ -343,7 +420,7 @@ pub fn import(file: &[u8], channel: Option<u8>, tail: TailRule) -> Result<Import
 /// let cut = b"btsnoop\0\0\0\0\x01\0\0\x03\xEA\0";
 /// assert_eq!(import_with(cut, &Options::default()), Err(Refusal::Truncated { offset: 16 }));
 ///
-/// let tolerant = Options { tail: TailRule::Tolerant, ..Options::default() };
+/// let tolerant = Options::default().with_tail(TailRule::Tolerant);
 /// assert_eq!(import_with(cut, &tolerant), Err(Refusal::NoStream));
 /// ```
 pub fn import_with(file: &[u8], options: &Options) -> Result<Imported, Refusal> {
@@ -351,8 +428,7 @@ pub fn import_with(file: &[u8], options: &Options) -> Result<Imported, Refusal> 
     let options = [u64::from(channel), u64::from(tolerant)];
     let size = lent(file);
     let mut work = vec![0; 8 * size];
-    let (list, values) =
-        with_output(2 * size, |out, values| ffi::import_with(file, &mut work, out, &options, values))?;
+    let (list, values) = with_output(2 * size, |out, values| ffi::import_with(file, &mut work, out, &options, values))?;
     Ok(imported(list, &values))
 }
 
@@ -370,13 +446,13 @@ pub fn import_stretches(file: &[u8], channel: Option<u8>, tail: TailRule) -> Res
     let (channel, tolerant) = numbers(channel, tail);
     let size = lent(file);
     let mut work = vec![0; 8 * size];
-    let mut stretches = vec![Stretch::default(); size / 24];
+    let mut stretches = vec![ffi::Stretch::default(); size / 24];
     let (list, values) = with_output(2 * size, |out, values| {
         ffi::import_stretches(file, &mut work, &mut stretches, out, channel, tolerant, values)
     })?;
     let imported = imported(list, &values);
-    stretches.truncate(imported.unfinished);
-    Ok((imported, stretches))
+    let open = stretches.iter().take(imported.unfinished).map(Stretch::of).collect();
+    Ok((imported, open))
 }
 
 /// Channel and tail rule by number.
@@ -409,13 +485,15 @@ fn imported(mut list: Vec<u8>, values: &[u64; VALUES]) -> Imported {
 /// The records of a trace. A file that ends inside a record is not refused; [`Records::tail`] tells.
 ///
 /// ```
-/// use lumbryth::{records, Records, Refusal};
+/// use lumbryth::{records, Refusal};
 ///
 /// let mut file = b"btsnoop\0\0\0\0\x01\0\0\x03\xEA".to_vec();
 /// file.extend([0; 24]);
 /// file.extend([0; 25]);
-/// assert_eq!(records(&file), Ok(Records { starts: vec![16, 40], tail: 64 }));
+/// let found = records(&file)?;
+/// assert_eq!((found.starts, found.tail), (vec![16, 40], 64));
 /// assert_eq!(records(&file[..15]), Err(Refusal::NotBtsnoop));
+/// # Ok::<(), Refusal>(())
 /// ```
 pub fn records(file: &[u8]) -> Result<Records, Refusal> {
     // A record has at least 24 bytes, and a file that is too long is refused.
@@ -430,22 +508,59 @@ pub fn records(file: &[u8]) -> Result<Records, Refusal> {
     }
 }
 
-/// How a file was cut, if it was, by the tail offset that was answered for it or the offset of
-/// [`Refusal::Truncated`].
+/// How a file ends inside a record, if it does, by the tail offset that was answered for it or the offset of
+/// [`Refusal::Truncated`]. [`ending`] also says whether the record can be one.
 ///
 /// ```
-/// use lumbryth::{cut, Cut};
+/// use lumbryth::cut;
 ///
 /// let mut file = b"btsnoop\0\0\0\0\x01\0\0\x03\xEA".to_vec();
 /// assert_eq!(cut(&file, 16), None);
 /// file.extend([0, 0, 0, 9, 0, 0, 0, 9]);
-/// assert_eq!(cut(&file, 16), Some(Cut { offset: 16, present: 8, missing: Some(25) }));
+/// let cut_there = cut(&file, 16).unwrap();
+/// assert_eq!((cut_there.offset, cut_there.present, cut_there.missing), (16, 8, Some(25)));
 /// file.pop();
-/// assert_eq!(cut(&file, 16), Some(Cut { offset: 16, present: 7, missing: None }));
+/// assert_eq!(cut(&file, 16).unwrap().missing, None);
 /// ```
 pub fn cut(file: &[u8], tail: usize) -> Option<Cut> {
     let record = file.get(tail..).filter(|record| !record.is_empty())?;
-    let included = record.get(4..8).map(|b| u32::from_be_bytes([b[0], b[1], b[2], b[3]]));
-    let missing = included.map(|n| (24 + u64::from(n)).saturating_sub(record.len() as u64));
+    let missing = included(record).map(|n| (24 + u64::from(n)).saturating_sub(record.len() as u64));
     Some(Cut { offset: tail, present: record.len(), missing })
+}
+
+/// How a trace ends. Refuses as [`records`] does.
+///
+/// ```
+/// use lumbryth::{cut, ending, Ending};
+///
+/// let mut file = b"btsnoop\0\0\0\0\x01\0\0\x03\xEA".to_vec();
+/// assert_eq!(ending(&file), Ok(Ending::AtRecord));
+/// file.extend([0, 0, 0, 9, 0, 0, 0, 9]);
+/// assert_eq!(ending(&file), Ok(Ending::Inside(cut(&file, 16).unwrap())));
+/// file[20..24].fill(0xFF);
+/// assert_eq!(ending(&file), Ok(Ending::Length { offset: 16, length: u32::MAX }));
+/// file[16..24].fill(0);
+/// assert_eq!(ending(&file), Ok(Ending::Zeros { offset: 16, count: 8 }));
+/// ```
+pub fn ending(file: &[u8]) -> Result<Ending, Refusal> {
+    let records = records(file)?;
+    let zeros = file.len() - file.iter().rev().take_while(|byte| **byte == 0).count();
+    let starts = records.starts.iter().chain([&records.tail]);
+    let offset = starts.copied().find(|start| *start >= zeros).unwrap_or(file.len());
+    // Of a record in which both lengths are there and 0; fewer zeros may be the beginning of any record.
+    if file.len() - offset >= 8 {
+        return Ok(Ending::Zeros { offset, count: file.len() - offset });
+    }
+    let Some(cut) = cut(file, records.tail) else {
+        return Ok(Ending::AtRecord);
+    };
+    match included(&file[cut.offset..]) {
+        Some(length) if length > PACKET_MAX => Ok(Ending::Length { offset: cut.offset, length }),
+        _ => Ok(Ending::Inside(cut)),
+    }
+}
+
+/// The length that a record gives its packet, if so much of it is there.
+fn included(record: &[u8]) -> Option<u32> {
+    record.get(4..8).map(|b| u32::from_be_bytes([b[0], b[1], b[2], b[3]]))
 }

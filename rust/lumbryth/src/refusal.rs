@@ -17,6 +17,7 @@ use crate::{FILE_MAX, LIST_MAX, PAYLOAD_MAX};
 /// assert_eq!(refusal.to_string(), "the frame's checksum is 02 where its bytes give 01");
 /// ```
 #[derive(Debug, Clone, Copy, PartialEq, Eq, Hash)]
+#[non_exhaustive]
 pub enum Refusal {
     /// 1: the file is over [`FILE_MAX`] bytes.
     FileLong,
@@ -76,10 +77,12 @@ pub enum Refusal {
         /// Where its first wrong item starts.
         offset: usize,
     },
+    /// A number that this crate does not know: the library that is linked is not the one that it was written for.
+    Unknown(u32),
 }
 
 impl Refusal {
-    /// The refusal's number, 1 to 20.
+    /// The refusal's number, 1 to 20 if it is known.
     pub fn number(self) -> u32 {
         match self {
             Refusal::FileLong => 1,
@@ -100,13 +103,11 @@ impl Refusal {
             Refusal::PayloadLong => 18,
             Refusal::SpansIll { .. } => 19,
             Refusal::NamesIll { .. } => 20,
+            Refusal::Unknown(number) => number,
         }
     }
 
     /// The refusal of a number and the values that came with it.
-    ///
-    /// Panics if no call has the number: then the library that is linked is not the one that
-    /// these declarations are for.
     pub(crate) fn of(number: u32, values: &[u64]) -> Refusal {
         match number {
             1 => Refusal::FileLong,
@@ -127,7 +128,7 @@ impl Refusal {
             18 => Refusal::PayloadLong,
             19 => Refusal::SpansIll { offset: values[0] as usize },
             20 => Refusal::NamesIll { offset: values[0] as usize },
-            other => panic!("the linked library gave {other}, which is the number of no refusal"),
+            other => Refusal::Unknown(other),
         }
     }
 }
@@ -144,7 +145,7 @@ impl fmt::Display for Refusal {
                 write!(f, "the trace has datalink {n}, and only 1001, 1002 and 2001 can be read")
             }
             Refusal::Truncated { offset } => {
-                write!(f, "the file ends inside the record that starts at byte {offset}")
+                write!(f, "the record that starts at byte {offset} passes the end of the file")
             }
             Refusal::NoStream => write!(f, "no channel that was asked for carries a frame that unpacks"),
             Refusal::OutShort { needed } => write!(f, "the output buffer is too short: {needed} bytes are needed"),
@@ -169,8 +170,27 @@ impl fmt::Display for Refusal {
             Refusal::NamesIll { offset } => {
                 write!(f, "the list of names is longer than {LIST_MAX} bytes, or wrong at byte {offset}")
             }
+            Refusal::Unknown(number) => {
+                write!(f, "the linked library refused with {number}, which this program does not know")
+            }
         }
     }
 }
 
 impl Error for Refusal {}
+
+#[cfg(test)]
+mod tests {
+    use super::Refusal;
+
+    #[test]
+    fn each_number_there_and_back() {
+        for number in 0..300 {
+            let refusal = Refusal::of(number, &[1, 2, 3, 4, 5]);
+            assert_eq!(refusal.number(), number);
+            let known = matches!(number, 1..=7 | 10..=20);
+            assert_eq!(refusal == Refusal::Unknown(number), !known, "{number}");
+            assert!(!refusal.to_string().is_empty());
+        }
+    }
+}

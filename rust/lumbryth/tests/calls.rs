@@ -2,7 +2,7 @@
 
 use lumbryth::{
     capture_order, fixture_name, import, import_stretches, is_command_name, pack, plan, records, unpack, Direction,
-    Fixture, Records, Refusal, Span, TailRule,
+    Fixture, Frame, FrameType, Records, Refusal, Span, TailRule,
 };
 
 /// Document 01's worked example.
@@ -45,7 +45,7 @@ fn frames_there_and_back() {
         for byte in [0x00, 0x3C, 0x3D, 0x3E] {
             let wire = pack(byte, 0x3E, &vec![byte; n]).unwrap();
             let frame = unpack(&wire).unwrap();
-            assert_eq!((frame.kind, frame.seq, frame.payload), (byte, 0x3E, vec![byte; n]));
+            assert_eq!((frame.kind.byte(), frame.seq, frame.payload), (byte, 0x3E, vec![byte; n]));
         }
     }
 }
@@ -76,7 +76,7 @@ fn the_example() {
     {
         for channel in [None, Some(9)] {
             let imported = import(file, channel, rule).unwrap();
-            let span = Span { direction: Direction::Rx, ms: 0, wire: EXAMPLE[52..61].to_vec() };
+            let span = Span::new(Direction::Rx, 0, EXAMPLE[52..61].to_vec());
             assert_eq!((imported.dlci, imported.frames, imported.unfinished, imported.tail), (18, 1, 0, 62));
             assert_eq!(imported.spans, [span]);
         }
@@ -108,7 +108,7 @@ fn lists() {
     assert_eq!(capture_order(&["b", "", "a", "a"]).unwrap(), [&b""[..], b"a", b"a", b"b"]);
     assert_eq!(capture_order(&[[0xFF], [0xFE]]).unwrap(), [[0xFE], [0xFF]]);
     // A list may have 16,777,216 bytes: 14 of them before the wire of a span, 6 before a name.
-    let span = |n| Span { direction: Direction::Tx, ms: 0, wire: vec![0; n] };
+    let span = |n| Span::new(Direction::Tx, 0, vec![0; n]);
     assert_eq!(plan(&[span(16_777_202)], &none), Ok(Vec::new()));
     refused(plan(&[span(16_777_203)], &none), Refusal::SpansIll { offset: 0 }, 19, &["16777216"]);
     refused(plan(&[], &[vec![0; 16_777_211]]), Refusal::NamesIll { offset: 0 }, 20, &["16777216"]);
@@ -119,6 +119,28 @@ fn lists() {
     assert_eq!(name.len(), 118, "{name}");
 }
 
+/// The names of types and commands are those in fixtures' names.
+#[test]
+fn names_of_frames() {
+    for byte in 0..=255 {
+        let kind = FrameType::from(byte);
+        assert_eq!(kind.byte(), byte);
+        for payload in [&[][..], &[0x22], &[0x57, 1, 2], &[0xEE]] {
+            let wire = pack(kind, 0, payload).unwrap();
+            let frame: Frame = unpack(&wire).unwrap();
+            let parts = format!(
+                "type-{}-{byte:02x}.seq-00.cmd-{}-{:02x}.bin",
+                kind.name(),
+                frame.command_name(),
+                frame.command().unwrap_or(0)
+            );
+            let name = fixture_name(5, 1, Direction::Rx, &wire).unwrap();
+            assert_eq!(name, format!("mdr-packet-5-000001-rx.{parts}"));
+        }
+    }
+    assert_eq!(FrameType::Other(0x0C).name(), "DATA_MDR");
+}
+
 #[test]
 fn commands() {
     assert!(is_command_name("GENERAL_SETTING_NTNY_PARAM"));
@@ -127,7 +149,8 @@ fn commands() {
 
 #[test]
 fn the_records() {
-    let found = |starts: &[usize], tail| Ok(Records { starts: starts.to_vec(), tail });
+    let found = |starts: &[usize], tail| Ok((starts.to_vec(), tail));
+    let records = |file: &[u8]| records(file).map(|Records { starts, tail, .. }| (starts, tail));
     assert_eq!(records(&EXAMPLE), found(&[16], 62));
     for n in 16..62 {
         assert_eq!(records(&EXAMPLE[..n]), found(&[], 16), "{n} bytes");
@@ -157,7 +180,7 @@ fn stretches_that_are_open() {
         assert_eq!(import(trace, None, TailRule::Tolerant), Ok(imported.clone()));
         assert_eq!((imported.unfinished, stretches.len()), (open, open));
         for stretch in stretches {
-            assert_eq!((stretch.handle(), stretch.direction(), stretch.dlci, stretch.held), (6, Direction::Rx, 18, 8));
+            assert_eq!((stretch.handle, stretch.direction, stretch.dlci, stretch.held), (6, Direction::Rx, 18, 8));
         }
     }
     refused(import_stretches(&[0; 16], None, TailRule::Strict), Refusal::NotBtsnoop, 3, &[]);

@@ -1,0 +1,147 @@
+//! Checking a fixture set: by its list, and by the trace that it came from.
+
+use std::collections::{BTreeMap, BTreeSet};
+use std::fs::{self, File};
+use std::io::{self, Read};
+use std::path::Path;
+
+use crate::set::{self, Set};
+use crate::sha256::sum;
+use crate::words::{object, shown, string};
+use lumbryth::FILE_MAX;
+
+/// What is wrong with a set, or with a name of it.
+pub struct Fault {
+    /// One word: missing, changed, unreadable or extra, of a fixture; or list or trace.
+    pub kind: &'static str,
+    /// The fixture's name, or what is wrong with the list or the trace.
+    pub what: String,
+}
+
+fn fault(kind: &'static str, what: impl Into<String>) -> Fault {
+    Fault { kind, what: what.into() }
+}
+
+impl Fault {
+    pub fn list(what: impl Into<String>) -> Fault {
+        fault("list", what)
+    }
+
+    pub fn trace(what: impl Into<String>) -> Fault {
+        fault("trace", what)
+    }
+
+    /// Whether it says the name of a fixture.
+    fn of_a_name(&self) -> bool {
+        !matches!(self.kind, "list" | "trace")
+    }
+}
+
+/// What became of the fixtures that a list names, and what a reader would take that it does not name.
+pub fn fixtures(dir: &Path, set: &Set) -> Result<Vec<Fault>, String> {
+    let mut faults = Vec::new();
+    for (name, sum) in &set.fixtures {
+        match sum_of(&dir.join(name)) {
+            Ok(Some(found)) if found == *sum => {}
+            Ok(_) => faults.push(fault("changed", name)),
+            Err(error) if error.kind() == io::ErrorKind::NotFound => faults.push(fault("missing", name)),
+            Err(_) => faults.push(fault("unreadable", name)),
+        }
+    }
+    let names = fs::read_dir(dir).map_err(|error| format!("the directory cannot be read: {error}: {}", shown(dir)))?;
+    let mut extra = Vec::new();
+    for entry in names {
+        let name = entry.map_err(|error| format!("the directory cannot be read: {error}: {}", shown(dir)))?.file_name();
+        if set::is_fixture_name(&name.to_string_lossy())
+            && !name.to_str().is_some_and(|name| set.fixtures.contains_key(name))
+        {
+            extra.push(fault("extra", name.to_string_lossy()));
+        }
+    }
+    extra.sort_by(|a, b| a.what.cmp(&b.what));
+    faults.extend(extra);
+    Ok(faults)
+}
+
+/// The sum of a file, if it is one that is not longer than any fixture.
+fn sum_of(path: &Path) -> io::Result<Option<String>> {
+    if !fs::metadata(path)?.is_file() {
+        return Ok(None);
+    }
+    let mut bytes = Vec::new();
+    File::open(path)?.take(FILE_MAX as u64 + 1).read_to_end(&mut bytes)?;
+    Ok((bytes.len() <= FILE_MAX).then(|| sum(&bytes)))
+}
+
+/// Where a list contradicts itself: each counter is that of one fixture, or of one span that is none.
+pub fn list(set: &Set) -> Vec<Fault> {
+    let mut faults = Vec::new();
+    let number = |name: &str| set.fact(name).and_then(|value| value.parse::<usize>().ok());
+    if number("fixtures") != Some(set.fixtures.len()) {
+        faults.push(Fault::list(format!("it names {} fixtures and says another number", set.fixtures.len())));
+    }
+    let mut seen = BTreeMap::new();
+    let of_fixtures = set.fixtures.keys().map(|name| name.split('-').nth(3));
+    let of_others = set.facts.iter().filter(|fact| fact.0 == "not a fixture").map(|fact| fact.1.split(' ').next());
+    for counter in of_fixtures.chain(of_others) {
+        *seen.entry(counter.and_then(|counter| counter.parse::<usize>().ok())).or_insert(0) += 1;
+    }
+    let frames = number("frames").unwrap_or(0);
+    if seen.len() != frames || !(1..=frames).all(|counter| seen.get(&Some(counter)) == Some(&1)) {
+        faults.push(Fault::list(format!("it does not name each of the counters 1 to {frames} once")));
+    }
+    faults
+}
+
+/// In what the set of a trace differs from the list that is there.
+pub fn trace(found: &Set, again: &Set) -> Vec<Fault> {
+    let (there, here) = found.differences(again);
+    let mut faults: Vec<Fault> = there.iter().map(|fact| Fault::trace(format!("only the list has {fact}"))).collect();
+    faults.extend(here.iter().map(|fact| Fault::trace(format!("only the trace has {fact}"))));
+    for name in again.fixtures.keys().filter(|name| !found.fixtures.contains_key(*name)) {
+        faults.push(Fault::trace(format!("only the trace has {name}")));
+    }
+    for (name, sum) in &found.fixtures {
+        match again.fixtures.get(name) {
+            None => faults.push(Fault::trace(format!("only the list has {name}"))),
+            Some(other) if other != sum => {
+                faults.push(Fault::trace(format!("other bytes than in the list has {name}")))
+            }
+            _ => {}
+        }
+    }
+    faults
+}
+
+/// A line for each fault.
+pub fn lines(faults: &[Fault]) -> String {
+    let what = |fault: &Fault| if fault.of_a_name() { shown(&fault.what) } else { fault.what.clone() };
+    faults.iter().map(|fault| format!("{}: {}\n", fault.kind, what(fault))).collect()
+}
+
+/// How many faults of each kind there are.
+pub fn summary(faults: &[Fault]) -> String {
+    let kinds = ["missing", "changed", "unreadable", "extra", "list", "trace"];
+    let numbers = kinds.map(|kind| (faults.iter().filter(|fault| fault.kind == kind).count(), kind));
+    let parts: Vec<String> = numbers.iter().filter(|(n, _)| *n > 0).map(|(n, kind)| format!("{n} {kind}")).collect();
+    parts.join(", ")
+}
+
+/// What a list says of its trace.
+pub fn told(set: &Set) -> String {
+    let fact = |name| set.fact(name).unwrap_or("not told");
+    let (name, end) = (fact("trace name"), fact("end"));
+    format!("{} frames in the trace, end {end}: {name}\n", fact("frames"))
+}
+
+/// An object for each fixture that is as it should be, and for each fault.
+pub fn objects(set: &Set, faults: &[Fault]) -> String {
+    let wrong: BTreeSet<&str> = faults.iter().map(|fault| &*fault.what).collect();
+    let right = set.fixtures.keys().filter(|name| !wrong.contains(&***name));
+    let of = |kind: &str, field: &str, what: &str| object(&[("kind", string(kind)), (field, string(what))]);
+    let mut text: String = right.map(|name| of("ok", "name", name)).collect();
+    text.extend(
+        faults.iter().map(|fault| of(fault.kind, if fault.of_a_name() { "name" } else { "reason" }, &fault.what)),
+    );
+    text
+}

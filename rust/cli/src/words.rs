@@ -1,0 +1,88 @@
+//! Names and numbers as they are printed, and text for other programs.
+
+use std::ffi::OsStr;
+use std::fmt::Write;
+use std::os::unix::ffi::OsStrExt;
+
+/// A number and what it counts.
+pub fn count(n: usize, one: &str, more: &str) -> String {
+    format!("{n} {}", if n == 1 { one } else { more })
+}
+
+/// Whether a character does something else than to be seen: controls, and marks of direction and width.
+fn unseen(c: char) -> bool {
+    c.is_control()
+        || matches!(c, '\u{200B}'..='\u{200F}' | '\u{2028}'..='\u{202E}' | '\u{2060}'..='\u{2069}' | '\u{FEFF}')
+}
+
+/// A name in one line: what would not be seen, bytes that are no text, and the backslash are escaped.
+pub fn shown(name: impl AsRef<OsStr>) -> String {
+    let mut text = String::new();
+    for part in name.as_ref().as_bytes().utf8_chunks() {
+        for c in part.valid().chars() {
+            match c {
+                '\\' => text += "\\\\",
+                '\n' => text += "\\n",
+                '\t' => text += "\\t",
+                c if unseen(c) && u32::from(c) < 0x80 => {
+                    let _ = write!(text, "\\x{:02x}", u32::from(c));
+                }
+                c if unseen(c) => {
+                    let _ = write!(text, "\\u{{{:x}}}", u32::from(c));
+                }
+                c => text.push(c),
+            }
+        }
+        for byte in part.invalid() {
+            let _ = write!(text, "\\x{byte:02x}");
+        }
+    }
+    text
+}
+
+/// An object in one line. Values are put in as they are, so that they are made by `string` or are numbers, true, false or null.
+pub fn object(fields: &[(&str, String)]) -> String {
+    let fields: Vec<String> = fields.iter().map(|(name, value)| format!("{}:{value}", string(name))).collect();
+    format!("{{{}}}\n", fields.join(","))
+}
+
+/// A string for an object.
+pub fn string(text: &str) -> String {
+    let mut quoted = String::from("\"");
+    for c in text.chars() {
+        match c {
+            '"' => quoted += "\\\"",
+            '\\' => quoted += "\\\\",
+            c if unseen(c) => {
+                let _ = write!(quoted, "\\u{:04x}", u32::from(c));
+            }
+            c => quoted.push(c),
+        }
+    }
+    quoted + "\""
+}
+
+/// Bytes in hexadecimal.
+pub fn hex(bytes: &[u8]) -> String {
+    bytes.iter().map(|byte| format!("{byte:02x}")).collect()
+}
+
+#[cfg(test)]
+mod tests {
+    use super::{object, shown, string};
+    use std::ffi::OsStr;
+    use std::os::unix::ffi::OsStrExt;
+
+    #[test]
+    fn names_stay_in_their_line() {
+        assert_eq!(shown("plain nåme.btsnoop"), "plain nåme.btsnoop");
+        assert_eq!(shown("a\nb\x1B[31m\\\u{202E}\u{85}"), "a\\nb\\x1b[31m\\\\\\u{202e}\\u{85}");
+        assert_eq!(shown(OsStr::from_bytes(b"a\xFF\xC3")), "a\\xff\\xc3");
+    }
+
+    #[test]
+    fn objects() {
+        assert_eq!(string("a\"\\\n\u{7F}"), "\"a\\\"\\\\\\u000a\\u007f\"");
+        assert_eq!(object(&[("a", "1".into()), ("b", string("c"))]), "{\"a\":1,\"b\":\"c\"}\n");
+    }
+}
