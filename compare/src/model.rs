@@ -611,14 +611,7 @@ pub fn open(file: &[u8], dlci: u64) -> Vec<answer::Stretch> {
         let held = buffers.remove(&(piece.stretch, piece.way))?;
         let (handle, cid, sessions, links) = piece.stretch;
         let way = 2 * u32::from(handle) + u32::from(piece.way);
-        Some(answer::Stretch {
-            way,
-            cid: u32::from(cid),
-            dlci: dlci as u32,
-            sessions,
-            links,
-            held: held.len() as u32,
-        })
+        Some(answer::Stretch { way, cid: u32::from(cid), dlci: dlci as u32, sessions, links, held: held.len() as u32 })
     };
     own.iter().filter_map(stretch).collect()
 }
