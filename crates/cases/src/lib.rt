@@ -1,4 +1,8 @@
 // A case of a sample replayed: its call is run, import by work that is lent, and what it answers is compared.
+ghost use mathlib.Core.Path.{_≡_};
+ghost use mathlib.Core.Bool.{true};
+ghost use Prim.Native.Nat.{_≤_};
+ghost use lib.ListN.{length};
 use rerun::NO_CALL;
 use rerun::run_plain;
 use samples::Answer;
@@ -58,7 +62,10 @@ pub struct Replayed {
     pub end: usize,
 }
 
-pub fn replay_case(s: &[u8], at: usize, work: &mut [u8], space: &mut [u8]) -> Replayed {
+// Replays the case at a place. One that does not lie in the sample, or wants more space, is not the same.
+pub fn replay_case(s: &[u8], at: usize, work: &mut [u8], space: &mut [u8]) -> Replayed
+    ensures { λ r. ⌜ (r .same ≡ true → r .end ≤ length (now (s .entry))) ⌝ }
+{
     let c = read_call(s, at);
     let a = read_answer(s, c.end);
     let end = a.end;

@@ -1,4 +1,6 @@
 // Runs the call of a sample's case: the calls on frames, names and lists.
+ghost use mathlib.Core.Path.{_≡_};
+ghost use Prim.Native.Nat.{_<_};
 use samples::Call;
 use samples::byte;
 use samples::long;
@@ -41,7 +43,10 @@ fn run_order(s: &[u8], c: Call, out: &mut [u8], values: &mut [u64]) -> u32 {
     lumbryth::lumbryth_capture_order(names, out, values)
 }
 
-pub fn run_plain(s: &[u8], c: Call, out: &mut [u8], values: &mut [u64]) -> u32 {
+// Runs the call that the op names, 1 to 6; none for another.
+pub fn run_plain(s: &[u8], c: Call, out: &mut [u8], values: &mut [u64]) -> u32
+    ensures { λ r. ⌜ (6 < c .op → r ≡ 4294967295) ⌝ }
+{
     let op = c.op;
     match op {
         1 | 2 => run_codec(s, c, out, values),

@@ -3,6 +3,8 @@
 ghost use mathlib.Core.Path.{_≡_};
 ghost use Prim.Native.Nat.{_≤_, _<_};
 ghost use lib.ListN.{length};
+ghost use mathlib.Core.Bool.{true};
+ghost use Rattle.samples.specs.Samples.{untouchedOf, Fresh, outputOf, Compared};
 use libc::STDOUT_FILENO;
 
 // Room for a sample.
@@ -182,11 +184,16 @@ pub fn one_unless(same: bool) -> u64
 // What stands in the list of values, and at a place of the output, before a call.
 pub const UNTOUCHED: u64 = 0xD15EA5ED0DDBA115;
 
-fn untouched(i: usize) -> u8 {
+fn untouched(i: usize) -> u8
+    ensures { λ r. ⌜ r ≡ untouchedOf i ⌝ }
+{
     ((i % 251 + 165) % 256) as u8
 }
 
-pub fn fill(out: &mut [u8]) {
+// Fills an output with what stands there before a call.
+pub fn fill(out: &mut [u8])
+    ensures { λ _. ⌜ Fresh (now (out .exit)) ⌝ }
+{
     let mut i: usize = 0;
     while i < out.len() {
         out[i] = untouched(i);
@@ -218,7 +225,9 @@ fn has_values(s: &[u8], at: usize, count: usize, values: &[u64]) -> bool {
     true
 }
 
-fn output_byte(written: &[u8], i: usize) -> u8 {
+fn output_byte(written: &[u8], i: usize) -> u8
+    ensures { λ r. ⌜ r ≡ outputOf (now (written .entry)) i ⌝ }
+{
     if i < written.len() {
         return written[i];
     }
@@ -226,7 +235,9 @@ fn output_byte(written: &[u8], i: usize) -> u8 {
 }
 
 // Whether the output starts with the bytes written, and the rest of it is untouched.
-fn has_output(written: &[u8], out: &[u8]) -> bool {
+fn has_output(written: &[u8], out: &[u8]) -> bool
+    ensures { λ r. ⌜ Compared (now (written .entry)) (now (out .entry)) r ⌝ }
+{
     if out.len() < written.len() {
         return false;
     }
@@ -241,7 +252,9 @@ fn has_output(written: &[u8], out: &[u8]) -> bool {
 }
 
 // Whether a call's number, values and output are those of an answer, and the rest of both lists is untouched.
-pub fn is_answer(s: &[u8], a: Answer, number: u32, values: &[u64], out: &[u8]) -> bool {
+pub fn is_answer(s: &[u8], a: Answer, number: u32, values: &[u64], out: &[u8]) -> bool
+    ensures { λ r. ⌜ (r ≡ true → number ≡ a .number) ⌝ }
+{
     if number != a.number {
         return false;
     }

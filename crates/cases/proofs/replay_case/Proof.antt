@@ -1,4 +1,5 @@
-use mathlib.Core.Path.{sym}
+use mathlib.Core.Path.{refl, sym}
+use Rattle.laws.proofs.Choice.{no-way}
 use lib.Seq.{length-take-le}
 use native.Mathlib.Omega.{arith}
 use borrow.Author.Needs.{needs}
@@ -12,10 +13,10 @@ read-answer-requires : tie.Need-read-answer-requires
 read-answer-requires c κs = search needs
 
 returns : tie.Need-returns
-returns c = search needs
+returns c e = no-way e refl
 
 returns-2 : tie.Need-returns-2
-returns-2 c = search needs
+returns-2 c e = no-way e refl
 
 slice-relend-prefix-is-same : tie.Need-slice-relend-prefix-is-same
 slice-relend-prefix-is-same c = search needs
@@ -33,7 +34,7 @@ same-length-2 : tie.Need-same-length-2
 same-length-2 c = search needs
 
 returns-3 : tie.Need-returns-3
-returns-3 c = search needs
+returns-3 c e = omega arith
 
 pub replay-case-spec : {M : Type 1} → statement M
 replay-case-spec =
