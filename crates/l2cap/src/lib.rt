@@ -22,7 +22,7 @@ use words::put64;
 use words::wide32;
 
 // What is open under a key: nothing, or the PDU that a packet began, and its bytes so far.
-enum Open {
+pub enum Open {
     Closed,
     From(usize, usize),
 }
@@ -46,7 +46,7 @@ fn needed(file: &[u8], w: &[u8], q: usize, first: usize, upto: usize, got: usize
 }
 
 // Where the row of packet i's key stands.
-fn row_of(w: &[u8], q: usize, i: usize) -> usize
+pub fn row_of(w: &[u8], q: usize, i: usize) -> usize
     requires { ⌜ RowPre (now w) q i ⌝ }
     ensures { λ r. ⌜ r ≡ rowAt (now (w .entry)) q i ⌝ }
 {
@@ -54,7 +54,7 @@ fn row_of(w: &[u8], q: usize, i: usize) -> usize
 }
 
 // What is open, by the row at word at.
-fn look(w: &[u8], at: usize) -> Open
+pub fn look(w: &[u8], at: usize) -> Open
     requires { ⌜ 4 * at + 16 ≤ length (now w) ⌝ }
     ensures { λ r. ⌜ r ≡ openIn (now (w .entry)) at ⌝ }
 {
@@ -142,7 +142,7 @@ fn finish(
 }
 
 // One packet, with q a quarter of the file's length: PDUs stand from word 2 * q of work, open PDUs from word 3 * q.
-fn step(file: &[u8], w: &mut [u8], q: usize, t: Tables, i: usize) -> Tables
+pub fn step(file: &[u8], w: &mut [u8], q: usize, t: Tables, i: usize) -> Tables
     requires { ⌜ Step (now file) (now w) q t i ⌝ }
     ensures { λ r. ⌜ Stepped (now (file .entry)) (now (w .entry)) q t i (now (w .exit)) r ⌝ }
 {
