@@ -1,20 +1,17 @@
 -- What the calls of import promise.
-use Prim.Native.Nat.{ℕ, _*_, _≤_}
+use Prim.Native.Nat.{ℕ}
 use mathlib.Core.Path.{_≡_}
-use mathlib.Core.Bool.{Bool, false, cond, not, _&&_}
+use mathlib.Core.Bool.{false, _&&_}
 use mathlib.Core.List.{List, [], _∷_}
 use lib.ListN.{length}
-use lib.Dec.{eqb}
-use Rattle.laws.specs.Answers.{Answer, accepted, refused, Outcome, Meets}
-use Rattle.btsnoop.specs.Records.{btsnoop, tailOffset}
-use Rattle.outcome.specs.Import.{Options, filePieces, read, endsWell, missing, outcome, given, fits, workSuffices, imported}
+use Rattle.laws.specs.Answers.{Answer, accepted, refused, Meets}
+use Rattle.btsnoop.specs.Records.{btsnoop}
+use Rattle.outcome.specs.Import.{Options, filePieces, read, given, fits, workSuffices, imported}
 use Rattle.streams.specs.Streams.{Leaves}
 use Rattle.cut.specs.Claim.{CutClaim}
 use Rattle.capture.specs.declared.Found.{Found}
 use Rattle.capture.specs.declared.Imported.{Imported}
 use Rattle.capture.specs.declared.Imported.the-variants.{Spans, FileLong, WorkShort, NotBtsnoop, Datalink, Truncated, NoStream, OutShort}
-use Rattle.capture.specs.declared.Tail.{Tail}
-use Rattle.capture.specs.declared.Tail.the-variants.{Strict, Tolerant}
 
 -- each case's number and values in document 01: DLCI, frames, unfinished, tail offset, bytes written
 abbrev pub toldImported : Imported → Answer
@@ -44,26 +41,8 @@ pub record ImportsFound (f w : List ℕ) (o : Options) (out : List ℕ) (r : Fou
   pub imports : Imports f w o out (r .answer) w′ out′
   pub left : Left f o r w′
 
--- ---- from the header on
+-- ---- from the packets on
 
-pub record Sized (f w : List ℕ) : Type 0 where
-  pub small : length f ≤ 1048576
-  pub room : 8 * length f ≤ length w
-
-pub record HeaderMeets (f : List ℕ) (o : Options) (out : List ℕ) (r : Found) (w′ out′ : List ℕ) : Type 0 where
-  pub meets : Meets (given (outcome btsnoop f o)) out (toldImported (r .answer)) out′
-  pub left : Left f o r w′
-
--- ---- from the records on
-
--- 5, strict only
-unfoldable pub truncates : Tail → ℕ → ℕ → Bool
-truncates Strict at end = not (eqb at end)
-truncates Tolerant at end = false
-
-unfoldable pub recordsOutcome : List ℕ → Options → Outcome
-recordsOutcome f o = given (cond (endsWell btsnoop (o .tail) f) (read btsnoop f o) (missing 5 (tailOffset f ∷ [])))
-
-pub record RecordsMeet (f : List ℕ) (o : Options) (out : List ℕ) (r : Found) (w′ out′ : List ℕ) : Type 0 where
-  pub meets : Meets (recordsOutcome f o) out (toldImported (r .answer)) out′
+pub record PacketsMeet (f : List ℕ) (o : Options) (out : List ℕ) (r : Found) (w′ out′ : List ℕ) : Type 0 where
+  pub meets : Meets (given (read btsnoop f o)) out (toldImported (r .answer)) out′
   pub left : Left f o r w′

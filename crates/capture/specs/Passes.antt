@@ -1,4 +1,4 @@
--- The five passes of import, in order, and what they promise together. Each finds in work what the one before it left there.
+-- The five passes of import, the first of which opens the trace, in order, and what they promise together. Each finds in work what the one before it left there.
 use Prim.Native.Nat.{ℕ}
 use mathlib.Core.Path.{_≡_}
 use mathlib.Core.List.{List}

@@ -1,24 +1,19 @@
 // Import: from the bytes of a trace to the list of the spans of one DLCI.
 ghost use mathlib.Core.Path.{_≡_};
-ghost use Rattle.btsnoop.specs.Adding.{ReadPre};
+ghost use Rattle.btsnoop.specs.Adding.{ReadTo};
 ghost use Rattle.streams.specs.Streams.{told};
 ghost use Rattle.capture.specs.Options.{optionsOf};
-ghost use Rattle.capture.specs.Calls.{toldImported, truncates, RecordsMeet, Sized, HeaderMeets, Imports, ImportsFound};
-use btsnoop::Header;
-use btsnoop::read_header;
-use btsnoop::read_packets;
+ghost use Rattle.capture.specs.Calls.{toldImported, PacketsMeet, Imports, ImportsFound};
+use btsnoop::Packets;
 use channels::read_channels;
 use l2cap::reassemble;
+use opening::Opened;
+use opening::Tail;
+use opening::open_trace;
 use rfcomm::read_pieces;
 use streams::Channel;
 use streams::Listed;
 use streams::list_spans;
-
-// Where a record passes the end: refuse, or read what comes before it.
-pub enum Tail {
-    Strict,
-    Tolerant,
-}
 
 // What a caller chooses, beside the file and the buffers.
 pub struct Options {
@@ -53,78 +48,49 @@ pub fn import(file: &[u8], work: &mut [u8], out: &mut [u8], options: Options) ->
     f.answer
 }
 
-// The same, with the number of pieces; work keeps what was counted of the DLCI chosen. A file that is too long, and work that is too short, are refused first.
+// The same, with the number of pieces; work keeps what was counted of the DLCI chosen.
 pub fn import_found(file: &[u8], work: &mut [u8], out: &mut [u8], options: Options) -> Found
     ensures { λ r. ⌜ ImportsFound (now (file .entry)) (now (work .entry)) (optionsOf options) (now (out .entry)) r (now (work .exit)) (now (out .exit)) ⌝ }
 {
-    let n = file.len();
-    if 1048576 < n {
-        return Found {
-            answer: Imported::FileLong,
-            pieces: 0,
-        };
-    }
-    if work.len() < 8 * n {
-        return Found {
-            answer: Imported::WorkShort,
-            pieces: 0,
-        };
-    }
-    import_from_header(file, work, out, options)
-}
-
-// Imports a file of a size that is taken, with work enough.
-fn import_from_header(file: &[u8], work: &mut [u8], out: &mut [u8], options: Options) -> Found
-    requires { ⌜ Sized (now file) (now work) ⌝ }
-    ensures { λ r. ⌜ HeaderMeets (now (file .entry)) (optionsOf options) (now (out .entry)) r (now (work .exit)) (now (out .exit)) ⌝ }
-{
-    let h = read_header(file);
-    match h {
-        Header::NotBtsnoop => Found {
-            answer: Imported::NotBtsnoop,
-            pieces: 0,
-        },
-        Header::Other(n) => Found {
-            answer: Imported::Datalink(n),
-            pieces: 0,
-        },
-        Header::Datalink(_) => import_from_records(file, work, out, options),
-    }
-}
-
-// Imports a file whose header is read, by five passes over work.
-fn import_from_records(file: &[u8], work: &mut [u8], out: &mut [u8], options: Options) -> Found
-    requires { ⌜ ReadPre (now file) (now work) ⌝ }
-    ensures { λ r. ⌜ RecordsMeet (now (file .entry)) (optionsOf options) (now (out .entry)) r (now (work .exit)) (now (out .exit)) ⌝ }
-{
     let tail = options.tail;
-    let channel = options.channel;
-    let p = read_packets(file, work);
-    let at = p.tail;
-    if is_truncated(tail, at, file.len()) {
-        return Found {
-            answer: Imported::Truncated(at),
-            pieces: 0,
-        };
+    let x = open_trace(file, work, tail);
+    match x {
+        Opened::Read(p) => import_packets(file, work, out, options, p),
+        Opened::FileLong => refused(Imported::FileLong),
+        Opened::WorkShort => refused(Imported::WorkShort),
+        Opened::NotBtsnoop => refused(Imported::NotBtsnoop),
+        Opened::Datalink(n) => refused(Imported::Datalink(n)),
+        Opened::Truncated(at) => refused(Imported::Truncated(at)),
     }
+}
+
+// A refusal, where no piece was looked for.
+fn refused(answer: Imported) -> Found
+    ensures { λ r. ⌜ r ≡ record { answer = answer; pieces = 0 } ⌝ }
+{
+    Found { answer, pieces: 0 }
+}
+
+// Imports a trace whose packets stand in work, by four passes over it.
+fn import_packets(
+    file: &[u8],
+    work: &mut [u8],
+    out: &mut [u8],
+    options: Options,
+    p: Packets,
+) -> Found
+    requires { ⌜ ReadTo (now file) (now work) p ⌝ }
+    ensures { λ r. ⌜ PacketsMeet (now (file .entry)) (optionsOf options) (now (out .entry)) r (now (work .exit)) (now (out .exit)) ⌝ }
+{
+    let channel = options.channel;
     let t = reassemble(file, work, p.count);
     let made = t.made;
     let rows = read_channels(file, work, made);
     let pieces = read_pieces(file, work, made, rows);
     let l = list_spans(file, work, pieces, channel, out);
     Found {
-        answer: answer_of(l, at),
+        answer: answer_of(l, p.tail),
         pieces,
-    }
-}
-
-// Whether a record passes the end and that is refused.
-fn is_truncated(tail: Tail, at: usize, end: usize) -> bool
-    ensures { λ r. ⌜ r ≡ truncates tail at end ⌝ }
-{
-    match tail {
-        Tail::Strict => at != end,
-        Tail::Tolerant => false,
     }
 }
 

@@ -8,9 +8,10 @@ use borrow.Author.Tests.{le-leb, lt-leb, eq-eqb, ne-eqb}
 use Rattle.streams.specs.Streams.{channelOf}
 use Rattle.streams.specs.declared.Channel.{Channel}
 use Rattle.streams.specs.declared.Channel.the-variants.{Any, Only}
-use Rattle.capture.specs.Options.{tailOf, optionsOf}
-use Rattle.capture.specs.declared.Tail.{Tail}
-use Rattle.capture.specs.declared.Tail.the-variants.{Strict, Tolerant}
+use Rattle.opening.specs.Opening.{tailOf}
+use Rattle.opening.specs.declared.Tail.{Tail}
+use Rattle.opening.specs.declared.Tail.the-variants.{Strict, Tolerant}
+use Rattle.capture.specs.Options.{optionsOf}
 use Rattle.imports.specs.Numbers.{channelNumber, tailNumber, optionsIn}
 
 pub channel-only : (n : ℕ) → n ≤ 255 → channelOf (Only n) ≡ channelNumber n

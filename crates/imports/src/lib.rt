@@ -3,7 +3,8 @@
 ghost use mathlib.Core.Path.{_≡_};
 ghost use lib.ListN.{getD};
 ghost use Rattle.capture.specs.Calls.{toldImported};
-ghost use Rattle.capture.specs.Options.{tailOf, optionsOf};
+ghost use Rattle.capture.specs.Options.{optionsOf};
+ghost use Rattle.opening.specs.Opening.{tailOf};
 ghost use Rattle.streams.specs.Streams.{channelOf};
 ghost use Rattle.telling.specs.Telling.{numberOf, valuesOf, Shows};
 ghost use Rattle.imports.specs.Numbers.{channelNumber, tailNumber, optionsIn, optionsNumber};
@@ -11,8 +12,8 @@ ghost use Rattle.imports.specs.Places.{ImportsIn, ToldIn, Listable, Foun
 use capture::Found;
 use capture::Imported;
 use capture::Options;
-use capture::Tail;
 use capture::import_found;
+use opening::Tail;
 use streams::Channel;
 use streams::plan;
 use stretches::list_open;

@@ -3,7 +3,6 @@
 ghost use Rattle.traceprint.specs.Lies.{Lies};
 use capture::Imported;
 use capture::Options;
-use capture::Tail;
 use capture::import;
 use fixtures::Planned;
 use fixtures::plan;
@@ -11,6 +10,7 @@ use items::Step;
 use items::item_at;
 use libc::STDIN_FILENO;
 use libc::STDOUT_FILENO;
+use opening::Tail;
 use streams::Channel;
 
 // ---- text

@@ -1,24 +1,24 @@
-use Rattle.capture.proofs.CallLaws.{truncates-strict, truncates-not}
+use Rattle.opening.proofs.Opening.{truncates-strict, truncates-not}
 use native.Mathlib.Omega.{arith}
 use borrow.Author.Needs.{needs}
-use Rattle.capture.proofs.is_truncated.Statement.{statement}
-use Rattle.capture.proofs.is_truncated.Tie as tie
-use Rattle.capture.proofs.is_truncated.Reads as reads
-use Rattle.capture.proofs.is_truncated.Lts as lts
+use Rattle.opening.proofs.is_truncated.Statement.{statement}
+use Rattle.opening.proofs.is_truncated.Tie as tie
+use Rattle.opening.proofs.is_truncated.Reads as reads
+use Rattle.opening.proofs.is_truncated.Lts as lts
 
--- src/lib.rt:76:25
+-- src/lib.rt:31:25
 enum-told : tie.Need-enum-told
 enum-told c = search needs
 
--- src/lib.rt:77:27
+-- src/lib.rt:32:27
 enum-told-2 : tie.Need-enum-told-2
 enum-told-2 c = search needs
 
--- src/lib.rt:72:1
+-- src/lib.rt:27:1
 returns : tie.Need-returns
 returns c = search truncates-strict
 
--- src/lib.rt:72:1
+-- src/lib.rt:27:1
 returns-2 : tie.Need-returns-2
 returns-2 c = search truncates-not
 
