@@ -1,11 +1,11 @@
 -- What one record shows, as the code finds it in the file.
 use Prim.Native.Nat.{ℕ, suc, _+_, _-_, _/_, _%_, _<_, _≤_}
-use mathlib.Core.Path.{_≡_, refl, sym, ap, _∙_}
+use mathlib.Core.Path.{_≡_, refl, sym, _∙_}
 use mathlib.Core.Bool.{Bool, true, false, _||_}
-use mathlib.Core.List.{List, [], _∷_}
+use mathlib.Core.List.{List, _∷_}
 use native.Mathlib.Omega.{arith}
 use native.Mathlib.Numerals.{add-one}
-use lib.ListN.{length, getD, take, drop}
+use lib.ListN.{getD}
 use lib.Seq.{drop-cons}
 use lib.Dec.{ltb, eqb}
 use borrow.Author.Tests.{eq-eqb, ne-eqb}

@@ -54,6 +54,13 @@ looked datalink s at r = record {
 
 -- ---- the records from a place on
 
+abbrev pub noGap : Gap
+noGap = record { many = 0; first = 0 }
+
+-- before the first record
+abbrev pub unseen : Seen
+unseen = record { signs = record { short = noGap; dropped = noGap; skipped = noGap; zeros = noGap }; last = 0 }
+
 unfoldable pub lookedAll : ℕ → Seen → List (Placed (List ℕ)) → Seen
 lookedAll datalink s [] = s
 lookedAll datalink s (r ∷ rs) = lookedAll datalink (looked datalink s (r .at) (r .is)) rs

@@ -1,3 +1,4 @@
+use Rattle.recorded.proofs.Looking.{look-done}
 use native.Mathlib.Omega.{arith}
 use borrow.Author.Needs.{needs}
 use Rattle.recorded.proofs.look_at.Statement.{statement}
@@ -45,7 +46,7 @@ note-if-requires-3 c κs = search needs
 
 -- src/lib.rt:137:1
 returns : tie.Need-returns
-returns c = ?
+returns c = search look-done
 
 pub look-at-spec : {M : Type 1} → statement M
 look-at-spec =
