@@ -1,11 +1,11 @@
 -- What one record shows, as the code finds it in the file.
-use Prim.Native.Nat.{ℕ, suc, _+_, _-_, _/_, _%_, _<_, _≤_}
+use Prim.Native.Nat.{ℕ, _+_, _-_, _/_, _%_, _<_, _≤_}
 use mathlib.Core.Path.{_≡_, refl, sym, _∙_}
 use mathlib.Core.Bool.{Bool, true, false, _||_}
-use mathlib.Core.List.{List, _∷_}
+use mathlib.Core.List.{List}
 use native.Mathlib.Omega.{arith}
 use native.Mathlib.Numerals.{add-one}
-use lib.ListN.{getD}
+use lib.ListN.{length, getD, drop, drop-of-length-le}
 use lib.Seq.{drop-cons}
 use lib.Dec.{ltb, eqb}
 use borrow.Author.Tests.{eq-eqb, ne-eqb}
@@ -77,29 +77,22 @@ module _ (datalink : ℕ) (r : List ℕ) (a : Bool) (h : a ≡ isAcl datalink r)
 
 -- ---- zeros
 
--- from a place on the same is to be seen as from the start
-pub record Zeroing (f : List ℕ) (at end i : ℕ) : Type 0 where
-  pub most : i ≤ end
-  pub same : isZeros (between f i end) ≡ isZeros (between f at end)
+-- from a byte on the same is to be seen as in all of them
+pub record Zeroing (b : List ℕ) (i : ℕ) : Type 0 where
+  pub same : isZeros (drop i b) ≡ isZeros b
 
-module _ (f : List ℕ) (at end : ℕ) (pre : RecordPre f at end) where
-  pub zeros-start : Zeroing f at end at
-  zeros-start = record { most = omega (arith, pre .least); same = refl }
+pub zeros-start : (b : List ℕ) → Zeroing b 0
+zeros-start b = record { same = refl }
 
-  module _ (i : ℕ) (z : Zeroing f at end i) where
-    next-byte : i < end → between f i end ≡ getD f i 0 ∷ between f (i + 1) end
-    next-byte h =
-        let k : end - i ≡ suc (end - (i + 1)) = omega arith in
-        rw (k, drop-cons f i 0 (omega (arith, pre .most)), add-one)
+module _ (b : List ℕ) (i : ℕ) (z : Zeroing b i) where
+  pub zeros-not : i < length b → (getD b i 0 ≡ 0 → ⊥) → false ≡ isZeros b
+  unfolding isZeros
+  zeros-not h n = sym (sym (z .same) ∙ rw (drop-cons b i 0 h, ne-eqb (getD b i 0) 0 n))
 
-    pub zeros-not : i < end → (getD f i 0 ≡ 0 → ⊥) → false ≡ isZeros (between f at end)
-    unfolding isZeros
-    zeros-not h n = sym (sym (z .same) ∙ rw (next-byte h, ne-eqb (getD f i 0) 0 n))
+  pub zeros-turn : i < length b → getD b i 0 ≡ 0 → Zeroing b (i + 1)
+  unfolding isZeros
+  zeros-turn h e = record { same = rw add-one (rw (drop-cons b i 0 h, eq-eqb (getD b i 0) 0 e) at (z .same)) }
 
-    pub zeros-turn : i < end → getD f i 0 ≡ 0 → Zeroing f at end (i + 1)
-    unfolding isZeros
-    zeros-turn h e = record { most = omega arith; same = sym (rw (next-byte h, eq-eqb (getD f i 0) 0 e)) ∙ z .same }
-
-    pub zeros-end : end ≤ i → true ≡ isZeros (between f at end)
-    unfolding isZeros
-    zeros-end h = let k : end - i ≡ 0 = omega arith in rw k at (z .same)
+  pub zeros-end : length b ≤ i → true ≡ isZeros b
+  unfolding isZeros
+  zeros-end h = rw (drop-of-length-le b h) at (z .same)

@@ -101,9 +101,10 @@ fn is_zeros(file: &[u8], at: usize, end: usize) -> bool
     requires { ⌜ RecordPre (now file) at end ⌝ }
     ensures { λ r. ⌜ r ≡ isZeros (between (now (file .entry)) at end) ⌝ }
 {
-    let mut i = at;
-    while i < end {
-        if file[i] != 0 {
+    let b = &file[at..end];
+    let mut i = 0;
+    while i < b.len() {
+        if b[i] != 0 {
             return false;
         }
         i += 1;
@@ -128,7 +129,8 @@ fn note_rise(before: u32, here: u32, g: Gap, at: usize) -> Gap
     ensures { λ r. ⌜ Risen before here g at r ⌝ }
 {
     if before < here {
-        return note(g, (here - before) as u64, at);
+        let by = here - before;
+        return note(g, by as u64, at);
     }
     g
 }

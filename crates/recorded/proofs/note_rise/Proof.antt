@@ -7,25 +7,25 @@ use Rattle.recorded.proofs.note_rise.Reads as reads
 use Rattle.recorded.proofs.note_rise.Lts as lts
 use Rattle.signs.proofs.note.Reads as note-reads
 
--- src/lib.rt:131:25
-sub-note : tie.Need-sub-note
-sub-note c = search needs
+-- src/lib.rt:132:18
+sub-by : tie.Need-sub-by
+sub-by c = search needs
 
--- src/lib.rt:131:24
+-- src/lib.rt:133:24
 cast-note : tie.Need-cast-note
 cast-note c = search needs
 
--- src/lib.rt:131:9
+-- src/lib.rt:133:9
 note-requires : tie.Need-note-requires
 note-requires c κs = search needs
 
--- src/lib.rt:131:9
+-- src/lib.rt:133:9
 returns : tie.Need-returns
 returns c = search rise-more
 
--- src/lib.rt:126:1
+-- src/lib.rt:127:1
 returns-2 : tie.Need-returns-2
 returns-2 c = search rise-none
 
 pub note-rise-spec : {M : Type 1} → statement M
-note-rise-spec = tie.close (tie.spec sub-note cast-note note-requires returns returns-2)
+note-rise-spec = tie.close (tie.spec sub-by cast-note note-requires returns returns-2)
