@@ -1,0 +1,106 @@
+-- The signs of the records counted in one pass.
+use Prim.Native.Nat.{ℕ, _+_, _-_, _<_, _≤_}
+use mathlib.Core.Path.{_≡_, ap}
+use mathlib.Core.Bool.{Bool, true, false}
+use mathlib.Core.List.{List, []}
+use native.Mathlib.Omega.{arith}
+use lib.ListN.{length}
+use borrow.Author.Tests.{lt-ltb, le-ltb}
+use Rattle.laws.specs.Numbers.{be32}
+use Rattle.btsnoop.specs.Header.{datalink}
+use Rattle.btsnoop.specs.Reader.{stepOf}
+use Rattle.btsnoop.specs.Reading.{between}
+use Rattle.btsnoop.specs.Records.{btsnoop}
+use Rattle.btsnoop.specs.Walk.{RecordAt}
+use Rattle.btsnoop.specs.declared.Step.{Step}
+use Rattle.btsnoop.specs.declared.Step.the-variants.{Record, Cut, End}
+use Rattle.signs.specs.Places.{recordsAt}
+use Rattle.signs.specs.Recorded.{isZeros, isSkipped}
+use Rattle.signs.specs.Gaps.{recordGaps}
+use Rattle.signs.specs.Counting.{noted}
+use Rattle.signs.proofs.Places.{restAt, rest-start, rest-turn, found-record, found-cut, found-end}
+use Rattle.signs.specs.declared.Gap.{Gap}
+use Rattle.recorded.specs.Looking.{recordedOf, Readable, ShortIs, DropsIs, notedIf, notedRise, looked, lookedAll, unseen, Risen, Bounded, LookPre, Looks}
+use Rattle.recorded.specs.declared.Seen.{Seen}
+use Rattle.recorded.proofs.Tallies.{all-gaps}
+
+-- ---- one sign
+
+pub noted-shows : (shows : Bool) (g : Gap) (at : ℕ) → shows ≡ true → (r : Gap) → r ≡ noted g 1 at → r ≡ notedIf shows g at
+unfolding notedIf
+noted-shows shows g at q r e = rw q e
+
+pub noted-not : (shows : Bool) (g : Gap) (at : ℕ) → shows ≡ false → g ≡ notedIf shows g at
+unfolding notedIf
+noted-not shows g at q = rw q
+
+pub rise-more : (before here : ℕ) (g : Gap) (at : ℕ) → before < here → here < 4294967296 → (r : Gap) → r ≡ noted g (here - before) at → Risen before here g at r
+unfolding notedRise noted
+rise-more before here g at h s r e = record { is = rw (lt-ltb before here h) e; most = rw e (omega arith) }
+
+pub rise-none : (before here : ℕ) (g : Gap) (at : ℕ) → here ≤ before → Risen before here g at g
+unfolding notedRise
+rise-none before here g at h = record { is = rw (le-ltb before here h); most = omega arith }
+
+-- ---- one record
+
+if-most : (shows : Bool) (g : Gap) (at : ℕ) → notedIf shows g at .many ≤ g .many + 1
+unfolding notedIf noted
+if-most true g at = omega arith
+if-most false g at = omega arith
+
+module _ (f : List ℕ) (at end link : ℕ) (s : Seen) (p : LookPre f at end s) (here : ℕ) (eh : DropsIs f at here) where
+  pub look-done :
+      (a : Bool) → ShortIs f at a → (short : Gap) → short ≡ notedIf a (s .signs .short) at →
+      (dropped : Gap) → Risen (s .last) here (s .signs .dropped) at dropped →
+      (b : Bool) → b ≡ isSkipped link (between f at end) → (skipped : Gap) → skipped ≡ notedIf b (s .signs .skipped) at →
+      (c : Bool) → c ≡ isZeros (between f at end) → (zeros : Gap) → zeros ≡ notedIf c (s .signs .zeros) at →
+      Looks f at end link s (record { signs = record { short = short; dropped = dropped; skipped = skipped; zeros = zeros }; last = here })
+  unfolding looked
+  look-done a ea short es dropped ed b eb skipped ek c ec zeros ez =
+      let l : at + 24 ≤ end = p .here .least in
+      record {
+        is = rw (es, ed .is, ek, ez, ea .is end l, eb, ec, eh .is end l);
+        bounded = record {
+          short = omega (arith, ap (λ (g : Gap). g .many) es, if-most a (s .signs .short) at, p .bounded .short);
+          dropped = omega (arith, ed .most, p .bounded .dropped);
+          skipped = omega (arith, ap (λ (g : Gap). g .many) ek, if-most b (s .signs .skipped) at, p .bounded .skipped);
+          zeros = omega (arith, ap (λ (g : Gap). g .many) ez, if-most c (s .signs .zeros) at, p .bounded .zeros);
+        };
+      }
+
+-- ---- all records
+
+-- the signs up to a place and the records from there on give what all of them do
+pub record Looking (f : List ℕ) (link : ℕ) (s : Seen) (at : ℕ) : Type 0 where
+  pub bounded : Bounded s at
+  pub same : lookedAll link s (restAt f at) ≡ lookedAll link unseen (recordsAt btsnoop f)
+
+pub looking-start : (f : List ℕ) (link : ℕ) → Looking f link unseen 16
+looking-start f link = record { bounded = record { short = omega arith; dropped = omega arith; skipped = omega arith; zeros = omega arith }; same = rw (rest-start f) }
+
+module _ (f : List ℕ) (link at : ℕ) (s : Seen) (l : Looking f link s at) (x : Step) (h : x ≡ stepOf f at) where
+  pub looking-pre : Readable f → (e : ℕ) → x ≡ Record e → LookPre f at e s
+  looking-pre p e q =
+      let r : RecordAt f at e = found-record f at x h e q in
+      record { here = record { least = r .least; most = r .most; small = p .small }; bounded = l .bounded }
+
+  pub looking-less : (e : ℕ) → x ≡ Record e → length f - e < length f - at
+  looking-less e q = let r : RecordAt f at e = found-record f at x h e q in omega (arith, r .least, r .most)
+
+  pub looking-turn : (e : ℕ) → x ≡ Record e → (t : Seen) → Looks f at e link s t → Looking f link t e
+  unfolding lookedAll
+  looking-turn e q t k = record { bounded = k .bounded; same = rw (k .is) (rw (rest-turn f at e (found-record f at x h e q)) at (l .same)) }
+
+  ended : link ≡ be32 f 12 → restAt f at ≡ [] → recordedOf (s .signs) ≡ recordGaps f
+  unfolding lookedAll datalink
+  ended d n =
+      let z : s ≡ lookedAll link unseen (recordsAt btsnoop f) = rw n at (l .same) in
+      let k : link ≡ datalink f = d in
+      rw (z, k) (all-gaps f)
+
+  pub looking-cut : link ≡ be32 f 12 → (p : ℕ) → x ≡ Cut p → recordedOf (s .signs) ≡ recordGaps f
+  looking-cut d p q = ended d (found-cut f at x h p q)
+
+  pub looking-end : link ≡ be32 f 12 → x ≡ End → recordedOf (s .signs) ≡ recordGaps f
+  looking-end d q = ended d (found-end f at x h q)
