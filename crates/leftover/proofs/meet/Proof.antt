@@ -1,0 +1,32 @@
+use native.Mathlib.Omega.{arith}
+use borrow.Author.Needs.{needs}
+use Rattle.leftover.proofs.meet.Statement.{statement}
+use Rattle.leftover.proofs.meet.Tie as tie
+use Rattle.leftover.proofs.meet.Reads as reads
+use Rattle.leftover.proofs.meet.Lts as lts
+use Rattle.leftover.proofs.count_packet.Reads as count-packet-reads
+use Rattle.signs.proofs.lacks_packet.Reads as lacks-packet-reads
+
+-- src/lib.rt:65:8
+lacks-packet-requires : tie.Need-lacks-packet-requires
+lacks-packet-requires c κs = search needs
+
+-- src/lib.rt:66:9
+returns : tie.Need-returns
+returns c = ?
+
+-- src/lib.rt:69:18
+add-t9 : tie.Need-add-t9
+add-t9 c = search needs
+
+-- src/lib.rt:70:15
+count-packet-requires : tie.Need-count-packet-requires
+count-packet-requires c κs = ?
+
+-- src/lib.rt:53:1
+returns-2 : tie.Need-returns-2
+returns-2 c = ?
+
+pub meet-spec : {M : Type 1} → statement M
+meet-spec =
+    tie.close (tie.spec lacks-packet-requires returns add-t9 count-packet-requires returns-2)
