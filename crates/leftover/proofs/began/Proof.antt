@@ -1,3 +1,4 @@
+use Rattle.leftover.proofs.Meeting.{began-none, began-from}
 use native.Mathlib.Omega.{arith}
 use borrow.Author.Needs.{needs}
 use Rattle.leftover.proofs.began.Statement.{statement}
@@ -25,11 +26,11 @@ enum-known-o c = search needs
 
 -- src/lib.rt:30:1
 returns : tie.Need-returns
-returns c = ?
+returns c = search began-none
 
 -- src/lib.rt:30:1
 returns-2 : tie.Need-returns-2
-returns-2 c = ?
+returns-2 c = search began-from
 
 pub began-spec : {M : Type 1} → statement M
 began-spec =

@@ -1,3 +1,4 @@
+use Rattle.leftover.proofs.Meeting.{counts-one, counts-none}
 use native.Mathlib.Omega.{arith}
 use borrow.Author.Needs.{needs}
 use Rattle.leftover.proofs.count_packet.Statement.{statement}
@@ -17,11 +18,11 @@ note-requires c κs = search needs
 
 -- src/lib.rt:47:9
 returns : tie.Need-returns
-returns c = ?
+returns c = search counts-one
 
 -- src/lib.rt:42:1
 returns-2 : tie.Need-returns-2
-returns-2 c = ?
+returns-2 c = search counts-none
 
 pub count-packet-spec : {M : Type 1} → statement M
 count-packet-spec = tie.close (tie.spec began-requires note-requires returns returns-2)

@@ -1,3 +1,4 @@
+use Rattle.leftover.proofs.Meeting.{meets-none, meets-one, meets-count}
 use native.Mathlib.Omega.{arith}
 use borrow.Author.Needs.{needs}
 use Rattle.leftover.proofs.meet.Statement.{statement}
@@ -13,7 +14,7 @@ lacks-packet-requires c κs = search needs
 
 -- src/lib.rt:66:9
 returns : tie.Need-returns
-returns c = ?
+returns c = search meets-none
 
 -- src/lib.rt:69:18
 add-t9 : tie.Need-add-t9
@@ -21,11 +22,11 @@ add-t9 c = search needs
 
 -- src/lib.rt:70:15
 count-packet-requires : tie.Need-count-packet-requires
-count-packet-requires c κs = ?
+count-packet-requires c κs = search meets-count
 
 -- src/lib.rt:53:1
 returns-2 : tie.Need-returns-2
-returns-2 c = ?
+returns-2 c = search meets-one
 
 pub meet-spec : {M : Type 1} → statement M
 meet-spec =
