@@ -1,8 +1,8 @@
 -- Each packet is told by the row of its key; the walk leaves the packets that began what is open at the end.
-use Prim.Native.Nat.{ℕ, _+_, _-_, _*_, _/_, _<_, _≤_}
+use Prim.Native.Nat.{ℕ, _+_, _-_, _/_, _<_, _≤_}
 use mathlib.Core.Path.{_≡_, refl, sym, ap, _∙_}
 use mathlib.Core.Bool.{Bool, true, false, cond}
-use mathlib.Core.List.{List, [], _∷_, _++_, map, append-assoc, append-nil}
+use mathlib.Core.List.{List, [], _∷_, _++_, map, append-assoc, append-nil, map-append}
 use mathlib.Core.Option.{Option, none, some}
 use native.Mathlib.Omega.{arith}
 use lib.ListN.{length, length-append}
@@ -14,8 +14,7 @@ use Rattle.laws.specs.Numbers.{be32}
 use Rattle.container.specs.Packets.{Packet}
 use Rattle.btsnoop.specs.Header.{datalink}
 use Rattle.btsnoop.specs.Packets.{packetOf}
-use Rattle.btsnoop.specs.PacketTable.{packetAt}
-use Rattle.btsnoop.specs.Reading.{between, RecordPre}
+use Rattle.btsnoop.specs.Reading.{between}
 use Rattle.btsnoop.specs.Reader.{stepOf}
 use Rattle.btsnoop.specs.Records.{btsnoop}
 use Rattle.btsnoop.specs.Walk.{RecordAt}
@@ -84,18 +83,19 @@ module _ (f w : List ℕ) (count : ℕ) (d : Followed f w count) (before : List 
       go (openIn w (rowAt w (length f / 4) (length before))) (atEnd (packetsAt btsnoop f) (placedKey a))
       (λ x g q. d .known (length before) x g number-less q)
       (rw (table-has f w count (d .list) before a rest (sym e)) at (d .opened (length before) number-less)) where
-    here : placeAt (packetsAt btsnoop f) (length before) ≡ a .at
-    here = ap (λ (ps : List (Placed Packet)). placeAt ps (length before)) (sym e) ∙ place-here before a rest
-    go :
-        (o : Open) (b : Begun) → ((x g : ℕ) → o ≡ From x g → x < count) →
-        openPlace (packetsAt btsnoop f) o ≡ begunPlace b → beganBy o (length before) ≡ beganAt b (a .at)
-    go Closed none k q = refl
-    go Closed (some b) k q = not-some q
-    go (From x g) none k q = not-some (sym q)
-    go (From x g) (some b) k q =
-        let many : length (packetsAt btsnoop f) ≡ count = places-many f w count (d .list) in
-        let p : placeAt (packetsAt btsnoop f) x ≡ b .at = cc in
-        sym (places-tell f x (length before) (omega (arith, k x g refl)) (omega (arith, number-less))) ∙ rw (p, here)
+        here : placeAt (packetsAt btsnoop f) (length before) ≡ a .at
+        here = ap (λ (ps : List (Placed Packet)). placeAt ps (length before)) (sym e) ∙ place-here before a rest
+
+        go :
+            (o : Open) (b : Begun) → ((x g : ℕ) → o ≡ From x g → x < count) →
+            openPlace (packetsAt btsnoop f) o ≡ begunPlace b → beganBy o (length before) ≡ beganAt b (a .at)
+        go Closed none k q = refl
+        go Closed (some b) k q = not-some q
+        go (From x g) none k q = not-some (sym q)
+        go (From x g) (some b) k q =
+            let many : length (packetsAt btsnoop f) ≡ count = places-many f w count (d .list) in
+            let p : placeAt (packetsAt btsnoop f) x ≡ b .at = cc in
+            sym (places-tell f x (length before) (omega (arith, k x g refl)) (omega (arith, number-less))) ∙ rw (p, here)
 
 -- ---- the walk
 
@@ -121,9 +121,10 @@ left-snoc :
     (ps before : List (Placed Packet)) (a : Placed Packet) →
     leftOf ps (before ++ (a ∷ [])) ≡ leftOf ps before ++ cond (beganAt (atEnd ps (placedKey a)) (a .at)) (a .at ∷ []) []
 unfolding leftOf keep
-left-snoc ps [] a = splitB (beganAt (atEnd ps (placedKey a)) (a .at)) (λ q. rw q) (λ q. rw q)
-left-snoc ps (b ∷ before) a =
-    splitB (beganAt (atEnd ps (placedKey b)) (b .at)) (λ q. rw q (ap (λ (t : List ℕ). b .at ∷ t) (left-snoc ps before a))) (λ q. rw q (left-snoc ps before a))
+left-snoc ps before a =
+    let began : Placed Packet → Bool = λ b. beganAt (atEnd ps (placedKey b)) (b .at) in
+    rw (keep-append began before (a ∷ []), map-append (λ (b : Placed Packet). b .at) (keep began before) (keep began (a ∷ [])))
+    (splitB (began a) (λ q. rw q) (λ q. rw q))
 
 counted-few : (w : List ℕ) (q i : ℕ) (g : Gap) (at : ℕ) → g .many ≤ i → countedAt w q i g at .many ≤ i + 1
 unfolding countedAt noted

@@ -50,15 +50,7 @@ fn count_packet(w: &[u8], q: usize, i: usize, g: Gap, at: usize) -> Gap
 }
 
 // The record from one place up to another. One without a packet has no number.
-fn meet(
-    file: &[u8],
-    w: &[u8],
-    q: usize,
-    datalink: u32,
-    at: usize,
-    end: usize,
-    m: Met,
-) -> Met
+fn meet(file: &[u8], w: &[u8], q: usize, datalink: u32, at: usize, end: usize, m: Met) -> Met
     requires { ⌜ MeetPre (now file) (now w) q datalink at end m ⌝ }
     ensures { λ r. ⌜ r ≡ metAt (now (w .entry)) q at m (isNone (packetOf datalink (between (now (file .entry)) at end))) ⌝ }
 {

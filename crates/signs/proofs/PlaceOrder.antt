@@ -35,24 +35,16 @@ unfolding packetsFrom
 table-long f w i zero = refl
 table-long f w i (suc m) = ap suc (table-long f w (suc i) m)
 
-abbrev headOr : Packet → List Packet → Packet
-headOr d [] = d
-headOr d (p ∷ ps) = p
-
-abbrev tailOf : List Packet → List Packet
-tailOf [] = []
-tailOf (p ∷ ps) = ps
-
 table-here :
     (f w : List ℕ) (before : List (Placed Packet)) (a : Placed Packet) (rest : List (Placed Packet)) (i m : ℕ) →
     map (λ (p : Placed Packet). p .is) (before ++ (a ∷ rest)) ≡ packetsFrom f w i m → packetAt f w (i + length before) ≡ a .is
 unfolding packetsFrom
 table-here f w [] a rest i zero e = let z : suc _ ≡ 0 = ap length e in absurd (omega arith)
-table-here f w [] a rest i (suc m) e = let z : i + 0 ≡ i = omega arith in rw z (sym (ap (headOr (a .is)) e))
+table-here f w [] a rest i (suc m) e = let z : i + 0 ≡ i = omega arith in rw z (let y : a .is ≡ packetAt f w i = cc in sym y)
 table-here f w (b ∷ before) a rest i zero e = let z : suc _ ≡ 0 = ap length e in absurd (omega arith)
 table-here f w (b ∷ before) a rest i (suc m) e =
     let z : i + suc (length before) ≡ suc i + length before = omega arith in
-    rw z (table-here f w before a rest (suc i) m (ap tailOf e))
+    rw z (table-here f w before a rest (suc i) m cc)
 
 module _ (f w : List ℕ) (count : ℕ) (l : packetsFrom f w 0 count ≡ packetsIn btsnoop f) where
   pub places-many : length (packetsAt btsnoop f) ≡ count
@@ -106,5 +98,5 @@ places-tell f i j h g =
     (λ e. rw e (eq-eqb (placeAt (packetsAt btsnoop f) j) (placeAt (packetsAt btsnoop f) j) refl ∙ sym (eq-eqb j j refl)))
     (λ e.
     let d : placeAt (packetsAt btsnoop f) i ≢ placeAt (packetsAt btsnoop f) j =
-        λ q. split≤ i j (λ l. e (split≤ j i (λ b. omega arith) (λ b. absurd (omega (arith, places-rise f i j b g))))) (λ l. absurd (omega (arith, places-rise f j i l h))) in
+    λ q. split≤ i j (λ l. e (split≤ j i (λ b. omega arith) (λ b. absurd (omega (arith, places-rise f i j b g))))) (λ l. absurd (omega (arith, places-rise f j i l h))) in
     ne-eqb (placeAt (packetsAt btsnoop f) i) (placeAt (packetsAt btsnoop f) j) d ∙ sym (ne-eqb i j e))
