@@ -55,7 +55,7 @@ unfolding countedAt
 counts-none w q i g at b e t = rw (← e, t)
 
 module _ (f w : List ℕ) (q datalink at end : ℕ) (m : Met) (b : Bool) (e : b ≡ isNone (packetOf datalink (between f at end))) where
-  pub meets-none : b ≡ true → m ≡ metAt w q at m (isNone (packetOf datalink (between f at end)))
+  pub meets-none : b ≡ true → record { packets = m .packets; left = m .left } ≡ metAt w q at m (isNone (packetOf datalink (between f at end)))
   unfolding metAt
   meets-none t = rw (← e, t)
 

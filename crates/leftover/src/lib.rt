@@ -49,17 +49,20 @@ fn count_packet(w: &[u8], q: usize, i: usize, g: Gap, at: usize) -> Gap
     g
 }
 
-// The record from one place up to another. One without a packet has no number.
+// The record from one place up to another. Only a packet takes the next number.
 fn meet(file: &[u8], w: &[u8], q: usize, datalink: u32, at: usize, end: usize, m: Met) -> Met
     requires { ⌜ MeetPre (now file) (now w) q datalink at end m ⌝ }
     ensures { λ r. ⌜ r ≡ metAt (now (w .entry)) q at m (isNone (packetOf datalink (between (now (file .entry)) at end))) ⌝ }
 {
+    let i = m.packets;
+    let left = m.left;
+    let next = i + 1;
     if lacks_packet(file, at, end, datalink) {
-        return m;
+        return Met { packets: i, left };
     }
     Met {
-        packets: m.packets + 1,
-        left: count_packet(w, q, m.packets, m.left, at),
+        packets: next,
+        left: count_packet(w, q, i, left, at),
     }
 }
 
