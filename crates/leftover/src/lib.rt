@@ -21,9 +21,9 @@ use signs::note;
 use words::get_be32;
 
 // The packets met so far, and those of them that began what is open at the end.
-pub struct Met {
-    pub packets: usize,
-    pub left: Gap,
+struct Met {
+    packets: usize,
+    left: Gap,
 }
 
 // Whether packet i began what is open under its key at the end.
