@@ -36,7 +36,7 @@ fn channel_of(channel: u64) -> Channel
 }
 
 // The tail rule by number: 0 is strict, any other tolerant.
-fn tail_of(tolerant: u64) -> Tail
+pub fn tail_of(tolerant: u64) -> Tail
     ensures { λ r. ⌜ tailOf r ≡ tailNumber tolerant ⌝ }
 {
     if tolerant == 0 {

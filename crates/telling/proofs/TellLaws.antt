@@ -1,14 +1,15 @@
 -- From an answer's case to its number and values, and from there to what a caller gets.
-use Prim.Native.Nat.{ℕ, zero, suc, _<_, _≤_}
+use Prim.Native.Nat.{ℕ, zero, suc, _+_, _<_, _≤_}
 use mathlib.Core.Path.{_≡_, refl, sym, ap, subst, _∙_}
 use mathlib.Core.Bool.{Bool, true, false, cond}
 use mathlib.Core.List.{List, [], _∷_}
 use native.Mathlib.Omega.{arith}
 use lib.Dec.{ltb}
-use lib.ListN.{length, set, take}
-use lib.Seq.{set-out}
+use lib.ListN.{length, getD, set, take, drop, drop-of-length-le, length-set}
+use lib.Seq.{set-out, take-length}
 use borrow.Author.Tests.{lt-ltb, le-ltb}
 use Rattle.laws.proofs.Choice.{split≤}
+use Rattle.laws.proofs.Lists.{drop-step}
 use Rattle.laws.specs.Answers.{Answer, Outcome, Meets}
 use Rattle.telling.specs.Telling.{numberOf, valuesOf, stored, Told, Calls, shownValues, Shows, Tells, putAt}
 use Rattle.telling.specs.declared.Shown.{Shown}
@@ -74,3 +75,29 @@ tells-all s v p q t u w ep eq et eu ew = record {
   number = refl;
   values = ew ∙ rw (eu, et, eq, ep) (puts-stored (s .count) (s .a ∷ s .b ∷ s .c ∷ s .d ∷ s .e ∷ []) v);
 }
+
+-- ---- a list stored, place by place
+
+-- the places below i have the list's numbers, and those from i on are still to get them
+pub record Storing (l d₀ d : List ℕ) (i : ℕ) : Type 0 where
+  pub within : i ≤ length l
+  pub long : length d ≡ length d₀
+  pub same : puts (length l) i (drop i l) d ≡ stored l d₀
+
+put-length : (n at x : ℕ) (d : List ℕ) → length (putAt n at x d) ≡ length d
+unfolding putAt
+put-length n at x d = split≤ n at (λ h. rw (le-ltb at n h)) (λ h. rw (lt-ltb at n h) (length-set d at x))
+
+pub store-start : (l d : List ℕ) → Storing l d d 0
+store-start l d = record { within = omega arith; long = refl; same = puts-stored (length l) l d ∙ rw (take-length l) }
+
+module _ (l d₀ d : List ℕ) (i : ℕ) (v : Storing l d₀ d i) where
+  pub store-turn : i < length l → (x : ℕ) → x ≡ getD l i 0 → (e : List ℕ) → e ≡ putAt (length l) i x d → Storing l d₀ e (i + 1)
+  store-turn h x xe e ee = record {
+    within = omega arith;
+    long = rw (ee, put-length (length l) i x d) (v .long);
+    same = let n : i + 1 ≡ suc i = omega arith in rw (ee, xe, n) (let z : drop i l ≡ getD l i 0 ∷ drop (suc i) l = rw (← n) (drop-step l i h) in rw z at (v .same));
+  }
+
+  pub store-end : length l ≤ i → d ≡ stored l d₀
+  store-end h = let z : drop i l ≡ [] = drop-of-length-le l h in rw z at (v .same)

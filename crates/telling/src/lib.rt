@@ -7,7 +7,7 @@ ghost use Rattle.fixtures.specs.Told.{toldPlanned};
 ghost use Rattle.mdr.specs.Told.{told, toldPacked};
 ghost use Rattle.names.specs.Told.{toldNamed};
 ghost use Rattle.order.specs.Order.{toldOrdered};
-ghost use Rattle.telling.specs.Telling.{numberOf, valuesOf, putAt, Shows, Tells};
+ghost use Rattle.telling.specs.Telling.{numberOf, valuesOf, stored, putAt, Shows, Tells};
 
 // An answer's number, and its values: the first count of a to e.
 pub struct Shown {
@@ -43,6 +43,18 @@ pub fn tell(s: Shown, values: &mut [u64]) -> u32
     put(values, count, 3, s.d);
     put(values, count, 4, s.e);
     s.number
+}
+
+// Stores the numbers of a list at the front of values, as many as there is room for.
+pub fn store(values: &mut [u64], list: &[u64])
+    ensures { λ _. ⌜ now (values .exit) ≡ stored (now (list .entry)) (now (values .entry)) ⌝ }
+{
+    let count = list.len();
+    let mut i = 0;
+    while i < count {
+        put(values, count, i, list[i]);
+        i += 1;
+    }
 }
 
 // ---- so many values
