@@ -32,7 +32,7 @@ use Rattle.l2cap.proofs.Opens.{never, as-blank}
 
 -- ---- link and direction as one number
 
-same-key : (x y : Packet) → x .rx ≤ 1 → y .rx ≤ 1 → eqK (packetKey x) (packetKey y) ≡ eqb (numberOf x) (numberOf y)
+pub same-key : (x y : Packet) → x .rx ≤ 1 → y .rx ≤ 1 → eqK (packetKey x) (packetKey y) ≡ eqb (numberOf x) (numberOf y)
 unfolding eqK
 same-key x y p q =
     split≡ (x .link) (y .link)
@@ -53,87 +53,111 @@ pdus-numbered ps all =
 
 -- ---- i packets are read, and the others are still to come
 
-pub record Running (f w₀ : List ℕ) (q count : ℕ) (w : List ℕ) (t : Tables) (i : ℕ) : Type 0 where
+-- what every loop of steps keeps, whatever it takes from them
+pub record Going (f w₀ : List ℕ) (q count : ℕ) (w : List ℕ) (t : Tables) (i : ℕ) : Type 0 where
   pub within : i ≤ count
   pub ready : Ready f w q t i
+  pub tabled : Tabled f w count
   pub size : length w ≡ length w₀
   pub front : Front (4 * q) w w₀
   pub linked : Linked w q count
   pub seats : Seats w q (t .live) count
+
+-- and the PDUs
+pub record Running (f w₀ : List ℕ) (q count : ℕ) (w : List ℕ) (t : Tables) (i : ℕ) : Type 0 where
+  pub going : Going f w₀ q count w t i
   pub same : pdusFrom f w (2 * q) 0 (t .made) ++ runNumbered (mapOf f w (3 * q) (t .live) i) (packetsFrom f w₀ i (count - i)) ≡ pdus (packetsFrom f w₀ 0 count)
 
 module _ (f w₀ : List ℕ) (q n count : ℕ) (pre : Run f w₀ q n count) where
-  closed : (k : ℕ) → openAt w₀ (3 * q) n k ≡ Closed
+  pub run-closed : (k : ℕ) → openAt w₀ (3 * q) n k ≡ Closed
   unfolding openAt
-  closed k = as-blank (lookup w₀ (3 * q) n k) (pre .blank .says k)
+  run-closed k = as-blank (lookup w₀ (3 * q) n k) (pre .blank .says k)
 
   nothing : _≡_ {A = ℕ → Option (List ℕ)} (mapOf f w₀ (3 * q) n 0) (λ k. none)
   unfolding mapOf heldOf
-  nothing = fun-ext (λ k. ap (heldOf f w₀ k 0) (closed k))
+  nothing = fun-ext (λ k. ap (heldOf f w₀ k 0) (run-closed k))
+
+  pub going-start : Going f w₀ q count w₀ (record { live = n; made = 0; top = 4 * q }) 0
+  unfolding paysOf dataOf
+  going-start = record {
+    within = omega arith;
+    ready = record {
+      quarter = pre .quarter;
+      live = omega (arith, pre .few, pre .linked .most, pre .linked .low);
+      made = omega arith;
+      bump = omega arith;
+      ends = omega arith;
+      few = omega (arith, pre .blank .sum);
+      sound = record { sound = λ k a g x. never (sym (run-closed k) ∙ x); own = λ k a g x. never (sym (run-closed k) ∙ x) };
+      placed = λ j h. absurd (omega arith);
+    };
+    tabled = pre .tabled;
+    size = refl;
+    front = front-refl (4 * q) w₀;
+    linked = pre .linked;
+    seats = pre .seats;
+  }
 
   pub run-start : Running f w₀ q count w₀ (record { live = n; made = 0; top = 4 * q }) 0
-  unfolding pdusFrom paysOf dataOf
+  unfolding pdusFrom
   run-start =
       let z : count - 0 ≡ count = omega arith in
-      record {
-        within = omega arith;
-        ready = record {
-          quarter = pre .quarter;
-          live = omega (arith, pre .few, pre .linked .most, pre .linked .low);
-          made = omega arith;
-          bump = omega arith;
-          ends = omega arith;
-          few = omega (arith, pre .blank .sum);
-          sound = record { sound = λ k a g x. never (sym (closed k) ∙ x); own = λ k a g x. never (sym (closed k) ∙ x) };
-          placed = λ j h. absurd (omega arith);
-        };
-        size = refl;
-        front = front-refl (4 * q) w₀;
-        linked = pre .linked;
-        seats = pre .seats;
-        same = rw (z, nothing) (sym (pdus-numbered (packetsFrom f w₀ 0 count) (two-ways f w₀ 0 count)));
-      }
+      record { going = going-start; same = rw (z, nothing) (sym (pdus-numbered (packetsFrom f w₀ 0 count) (two-ways f w₀ 0 count))) }
 
-  module _ (w : List ℕ) (t : Tables) (i : ℕ) (v : Running f w₀ q count w t i) where
-    low : 24 * count ≤ 4 * q
-    low = omega (arith, pre .tabled .total, v .ready .quarter)
+module _ (f w₀ : List ℕ) (q count : ℕ) (w : List ℕ) (t : Tables) (i : ℕ) where
+  module _ (v : Going f w₀ q count w t i) where
+    pub going-low : 24 * count ≤ 4 * q
+    going-low = omega (arith, v .tabled .total, v .ready .quarter)
 
-    pub run-step : i < count → Step f w q t i
-    run-step h = record {
+    pub going-step : i < count → Step f w q t i
+    going-step h = record {
       ready = v .ready;
-      tabled = tabled-less f w (i + 1) count (omega arith) (tabled-front (4 * q) f w w₀ count low (v .front) (v .size) (pre .tabled));
+      tabled = tabled-less f w (i + 1) count (omega arith) (v .tabled);
       linked = linked-less w q (i + 1) count (omega arith) (v .linked);
       seats = record { row = λ j l. v .seats .row j (omega arith) };
     }
 
+    -- the packet that a step reads
+    pub going-packet : i < count → packetAt f w i ≡ packetAt f w₀ i
+    going-packet h = packet-front (4 * q) f w w₀ i (omega (arith, going-low)) (v .front)
+
+    pub going-turn : i < count → (u : List ℕ) (r : Tables) → Stepped f w q t i u r → Going f w₀ q count u r (i + 1)
+    going-turn h u r st = record {
+      within = omega arith;
+      ready = st .ready;
+      tabled = tabled-front (4 * q) f u w count going-low (st .front) (st .size) (v .tabled);
+      size = st .size ∙ v .size;
+      front = front-then (4 * q) u w w₀ (st .front) (v .front);
+      linked = linked-agree u w q count (λ j l. front-word (4 * q) u w j (omega arith) (st .front)) (st .beyond) (v .linked);
+      seats = record {
+        row = λ j l.
+            let a : word u (6 * j) ≡ word w (6 * j) = front-word (4 * q) u w (6 * j) (omega (arith, going-low)) (st .front) in
+            rw (a, st .beyond (7 * q + 2 * j + 1) (omega arith)) (st .finds (word w (6 * j)) ∙ v .seats .row j l);
+      };
+    }
+
+  module _ (v : Running f w₀ q count w t i) where
+    pub run-step : i < count → Step f w q t i
+    run-step h = going-step (v .going) h
+
     pub run-turn : i < count → (u : List ℕ) (r : Tables) → Stepped f w q t i u r → Running f w₀ q count u r (i + 1)
     unfolding runBy
-    run-turn h u r st =
-        let pk : packetAt f w i ≡ packetAt f w₀ i = packet-front (4 * q) f w w₀ i (omega (arith, low)) (v .front) in
-        record {
-          within = omega arith;
-          ready = st .ready;
-          size = st .size ∙ v .size;
-          front = front-then (4 * q) u w w₀ (st .front) (v .front);
-          linked = linked-agree u w q count (λ j l. front-word (4 * q) u w j (omega arith) (st .front)) (st .beyond) (v .linked);
-          seats = record {
-            row = λ j l.
-                let a : word u (6 * j) ≡ word w (6 * j) = front-word (4 * q) u w (6 * j) (omega (arith, low)) (st .front) in
-                rw (a, st .beyond (7 * q + 2 * j + 1) (omega arith)) (st .finds (word w (6 * j)) ∙ v .seats .row j l);
-          };
-          same = rw (st .list, st .map, append-assoc, pk) (rw (packets-next f w₀ i count h) at (v .same));
-        }
+    run-turn h u r st = record {
+      going = going-turn (v .going) h u r st;
+      same = rw (st .list, st .map, append-assoc, going-packet (v .going) h) (rw (packets-next f w₀ i count h) at (v .same));
+    }
 
     pub run-end : count ≤ i → Reassembled f w (t .made) (pdus (packetsFrom f w₀ 0 count))
     unfolding runBy
     run-end h =
-        let tb : Tabled f w count = tabled-front (4 * q) f w w₀ count low (v .front) (v .size) (pre .tabled) in
-        let dm : dataOf w i ≤ dataOf w count = data-mono w i count (v .within) in
-        let full : t .top ≤ 8 * q = omega (arith, v .ready .ends, v .ready .few, tb .total, v .ready .quarter) in
+        let tb : Tabled f w count = v .going .tabled in
+        let rd : Ready f w q t i = v .going .ready in
+        let dm : dataOf w i ≤ dataOf w count = data-mono w i count (v .going .within) in
+        let full : t .top ≤ 8 * q = omega (arith, rd .ends, rd .few, tb .total, rd .quarter) in
         record {
-          list = rw (← v .ready .quarter) (sym (append-nil (pdusFrom f w (2 * q) 0 (t .made))) ∙ (rw (packets-none f w₀ i count h) at (v .same)));
-          placed = rw (← v .ready .quarter) (λ j l. inside-top f w (2 * q + 7 * j) (t .top) (8 * q) full (v .ready .placed j l));
-          few = rw (← v .ready .quarter) (omega (arith, v .ready .few, v .ready .made, v .within, tb .total));
+          list = rw (← rd .quarter) (sym (append-nil (pdusFrom f w (2 * q) 0 (t .made))) ∙ (rw (packets-none f w₀ i count h) at (v .same)));
+          placed = rw (← rd .quarter) (λ j l. inside-top f w (2 * q + 7 * j) (t .top) (8 * q) full (rd .placed j l));
+          few = rw (← rd .quarter) (omega (arith, rd .few, rd .made, v .going .within, tb .total));
           small = tb .small;
           room = tb .room;
         }

@@ -1,9 +1,10 @@
 -- A step: what the open rows stand for before and after one packet.
 use mathlib.Core.Path.{_≡_, refl, sym, ap, _∙_, fun-ext}
 use mathlib.Core.Bool.{Bool, true, false, cond}
+use mathlib.Core.Logic.{_⊎_, inl, inr, ⊎-elim}
 use mathlib.Core.List.{List, _++_, append-nil}
 use mathlib.Core.Option.{Option, none, some}
-use Prim.Native.Nat.{ℕ, _+_, _-_, _*_, _<_, _≤_}
+use Prim.Native.Nat.{ℕ, _+_, _-_, _*_, _/_, _<_, _≤_}
 use native.Mathlib.Omega.{arith}
 use lib.ListN.{length, length-append}
 use lib.Dec.{eqb, leb}
@@ -17,8 +18,9 @@ use Rattle.table.specs.Table.{some as row, findIn, lookup, upd, second, sumOf, 
 use Rattle.table.proofs.Table.{find-below, lookup-found, lookup-agree, long-agree, sum-agree, second-le}
 use Rattle.table.specs.declared.Row.the-variants.{At}
 use Rattle.tree.proofs.Index.{find-agree}
-use Rattle.btsnoop.specs.PacketTable.{packetAt, dataOf}
+use Rattle.btsnoop.specs.PacketTable.{packetAt, dataOf, Tabled}
 use Rattle.btsnoop.proofs.PacketFrames.{data-next, data-front}
+use Rattle.fragments.specs.Links.{Seats}
 use Rattle.fragments.specs.Bytes.{since, begun, Walk}
 use Rattle.fragments.proofs.Walking.{number-at, bytes-length, piece-own, piece-other, since-one, since-snoc, since-front}
 use Rattle.l2cap.specs.Pdus.{joined, isComplete, stillOpen, completed}
@@ -26,7 +28,7 @@ use Rattle.l2cap.specs.PduTable.{pdusFrom, paysOf}
 use Rattle.l2cap.specs.PduFrames.{Placed}
 use Rattle.l2cap.proofs.PduFrames.{placed-agree, pdus-agree, pays-agree}
 use Rattle.l2cap.specs.Rekeyed.{putBy}
-use Rattle.l2cap.specs.Steps.{Need, rowAt, RowPre, asOpen, openAt, longer, grown, nextAt, nextBy, Arrive, putOpen, Finish, Finished, heldOf, mapOf, Sound, Step, after, Stepped}
+use Rattle.l2cap.specs.Steps.{Need, rowAt, RowPre, asOpen, openAt, openIn, longer, grown, nextAt, nextBy, Arrive, putOpen, Finish, Finished, heldOf, mapOf, Sound, Step, after, Stepped}
 use Rattle.l2cap.specs.declared.Open.{Open}
 use Rattle.l2cap.specs.declared.Open.the-variants.{Closed, From}
 use Rattle.l2cap.specs.declared.Tables.{Tables}
@@ -39,6 +41,10 @@ packet-start :
     packetAt f w i ≡ record { link = packetAt f w i .link; rx = packetAt f w i .rx; start = eqb (word w (6 * i + 1)) 1; time = packetAt f w i .time; bytes = packetAt f w i .bytes }
 unfolding packetAt
 packet-start f w i = refl
+
+-- what is open began before
+sound-le : (f w : List ℕ) (b live i : ℕ) → Sound f w b live i → (k a g : ℕ) → openAt w b live k ≡ From a g → (a ≤ i) × (g ≡ length (since f w k a i))
+sound-le f w b live i s k a g e = (omega (arith, s .sound k a g e .0), s .sound k a g e .1)
 
 module _ (f w : List ℕ) (b live i : ℕ) (s : Sound f w b live i) where
   held-first : some (since f w (word w (6 * i)) i (i + 1)) ≡ some (packetAt f w i .bytes)
@@ -61,7 +67,7 @@ module _ (f w : List ℕ) (b live i : ℕ) (s : Sound f w b live i) where
   unfolding nextAt grown mapOf
   arrive-held =
       rw (number-at f w i)
-      (held-open (openAt w b live (word w (6 * i))) (λ a g e. s .sound (word w (6 * i)) a g e .0) (eqb (word w (6 * i + 1)) 1)
+      (held-open (openAt w b live (word w (6 * i))) (λ a g e. sound-le f w b live i s (word w (6 * i)) a g e .0) (eqb (word w (6 * i + 1)) 1)
       ∙ ap (joined (heldOf f w (word w (6 * i)) i (openAt w b live (word w (6 * i))))) (sym (packet-start f w i)))
 
   -- it began with a packet of the key
@@ -80,7 +86,7 @@ module _ (f w : List ℕ) (b live i : ℕ) (s : Sound f w b live i) where
       word w (6 * i + 2) + word w (6 * i + 3) ≤ length f → (a g : ℕ) → nextAt w b live i ≡ From a g →
       (a ≤ i) × (g ≡ length (since f w (word w (6 * i)) a (i + 1)))
   unfolding nextAt grown longer
-  arrive-sound fit a g e = go (openAt w b live (word w (6 * i))) (λ x y q. s .sound (word w (6 * i)) x y q) (eqb (word w (6 * i + 1)) 1) e where
+  arrive-sound fit a g e = go (openAt w b live (word w (6 * i))) (λ x y q. sound-le f w b live i s (word w (6 * i)) x y q) (eqb (word w (6 * i + 1)) 1) e where
     own : length (packetAt f w i .bytes) ≡ word w (6 * i + 3)
     own = bytes-length f w i fit
 
@@ -127,7 +133,7 @@ module _
       ap (heldOf f u k (i + 1)) (says k)
       ∙ split≡ (word w (6 * i)) k
       (λ e. rw (← e, eq-eqb (word w (6 * i)) (word w (6 * i)) refl) (held-own v (λ a g q. vs a g q .0)))
-      (λ e. rw (ne-eqb (word w (6 * i)) k e, ne-eqb k (word w (6 * i)) (λ x. e (sym x))) (held-other k e (openAt w b live k) (λ a g q. s .sound k a g q .0))))
+      (λ e. rw (ne-eqb (word w (6 * i)) k e, ne-eqb k (word w (6 * i)) (λ x. e (sym x))) (held-other k e (openAt w b live k) (λ a g q. sound-le f w b live i s k a g q .0))))
 
   pub next-sound : Sound f u b c (i + 1)
   next-sound = record { sound = λ k a g e. go k a g (sym (says k) ∙ e); own = λ k a g e. own k a g (sym (says k) ∙ e) } where
@@ -141,7 +147,7 @@ module _
         let q : openAt w b live k ≡ From a g = (rw (ne-eqb (word w (6 * i)) k z) at e) in
         front-word n u w (6 * a) (omega (arith, s .sound k a g q .0)) fr ∙ s .own k a g q)
 
-    go : (k a g : ℕ) → cond (eqb (word w (6 * i)) k) v (openAt w b live k) ≡ From a g → (a ≤ i + 1) × (g ≡ length (since f u k a (i + 1)))
+    go : (k a g : ℕ) → cond (eqb (word w (6 * i)) k) v (openAt w b live k) ≡ From a g → (a < i + 1) × (g ≡ length (since f u k a (i + 1)))
     go k a g e =
         split≡ (word w (6 * i)) k
         (λ z.
@@ -149,7 +155,7 @@ module _
         let l : a ≤ i = q .0 in
         (omega arith, rw (since-front n f u w k a (i + 1) (omega arith) (omega arith) fr, ← z) (q .1)))
         (λ z.
-        let q = s .sound k a g (rw (ne-eqb (word w (6 * i)) k z) at e) in
+        let q = sound-le f w b live i s k a g (rw (ne-eqb (word w (6 * i)) k z) at e) in
         (omega (arith, q .0), rw (since-other k a z (q .0)) (q .1)))
 
 -- a row stored says so
@@ -161,6 +167,26 @@ stored-open v w u b n k y z r lk so j = ap asOpen (so .says j) ∙ rw (lk j) (go
   go : (t : Bool) → asOpen (cond t (row y z) (lookup w b n j)) ≡ cond t (asOpen (row y z)) (asOpen (lookup w b n j))
   go true = refl
   go false = refl
+
+-- ---- the row of a packet's key
+
+module _
+    (f w : List ℕ) (q n count : ℕ) (tb : Tabled f w count) (qe : q ≡ length f / 4) (few : 2 * n ≤ q) (st : Seats w q n count)
+    (i : ℕ) (h : i < count) where
+  pub seat-below : word w (7 * q + 2 * i + 1) < n
+  seat-below = find-below w (3 * q) (word w (6 * i)) n (word w (7 * q + 2 * i + 1)) (st .row i h)
+
+  pub seat-row : RowPre w q i
+  unfolding rowAt
+  seat-row = record { room = omega (arith, tb .total, tb .room); small = omega (arith, seat-below, tb .small) }
+
+  pub seat-room : (at : ℕ) → at ≡ rowAt w q i → 4 * at + 16 ≤ length w
+  unfolding rowAt
+  seat-room at e = omega (arith, seat-below, tb .room)
+
+  pub seat-open : openAt w (3 * q) n (word w (6 * i)) ≡ openIn w (rowAt w q i)
+  unfolding rowAt
+  seat-open = open-row w (3 * q) n (word w (6 * i)) (word w (7 * q + 2 * i + 1)) (st .row i h)
 
 -- ---- one packet
 
@@ -179,20 +205,17 @@ record Storing (f w : List ℕ) (q : ℕ) (t : Tables) (i : ℕ) (v : List ℕ) 
   beyond : (j : ℕ) → 7 * q ≤ j → word v j ≡ word w j
   list : pdusFrom f v (2 * q) 0 made ≡ pdusFrom f w (2 * q) 0 (t .made) ++ completed (after f w (3 * q) (t .live) i) (packetAt f w i)
   held : heldOf f w (word w (6 * i)) (i + 1) o ≡ stillOpen (after f w (3 * q) (t .live) i)
+  comes : (o ≡ Closed) ⊎ (o ≡ nextAt w (3 * q) (t .live) i)
 
 module _ (f w : List ℕ) (q : ℕ) (t : Tables) (i : ℕ) (p : Step f w q t i) where
   seat : findIn w (3 * q) (word w (6 * i)) (t .live) ≡ At (word w (7 * q + 2 * i + 1))
   seat = p .seats .row i (omega arith)
 
   below : word w (7 * q + 2 * i + 1) < t .live
-  below = find-below w (3 * q) (word w (6 * i)) (t .live) (word w (7 * q + 2 * i + 1)) seat
+  below = seat-below f w q (t .live) (i + 1) (p .tabled) (p .ready .quarter) (p .ready .live) (p .seats) i (omega arith)
 
   pub step-row : RowPre w q i
-  unfolding rowAt
-  step-row = record {
-    room = omega (arith, p .tabled .total, p .tabled .room, p .ready .quarter);
-    small = omega (arith, below, p .ready .live, p .tabled .small, p .ready .quarter);
-  }
+  step-row = seat-row f w q (t .live) (i + 1) (p .tabled) (p .ready .quarter) (p .ready .live) (p .seats) i (omega arith)
 
   low : 24 * i + 24 ≤ 4 * q
   low = omega (arith, p .tabled .total, p .ready .quarter)
@@ -203,7 +226,7 @@ module _ (f w : List ℕ) (q : ℕ) (t : Tables) (i : ℕ) (p : Step f w q t i) 
     at-is = ae
 
     pub at-room : 4 * at + 16 ≤ length w
-    at-room = omega (arith, at-is, below, p .ready .live, p .tabled .room, p .ready .quarter)
+    at-room = seat-room f w q (t .live) (i + 1) (p .tabled) (p .ready .quarter) (p .ready .live) (p .seats) i (omega arith) at ae
 
     pub full-room : (first need : ℕ) (v : List ℕ) (top : ℕ) → Finished f w (2 * q) (t .made) (t .top) i first need v top → 4 * at + 16 ≤ length v
     full-room first need v top fin = rw (fin .size) at-room
@@ -269,6 +292,8 @@ module _ (f w : List ℕ) (q : ℕ) (t : Tables) (i : ℕ) (p : Step f w q t i) 
           size = so .size ∙ b .size;
           list = pdus-agree f u v (2 * q) 0 made made top (omega arith) ag frt (b .placed) ∙ b .list;
           map = next-map f u w (3 * q) c c i (4 * q) o (p .ready .sound) frn low says (b .counted) (b .own) ∙ rw (b .held, number-at f w i);
+          own = rw (says k, eq-eqb k k refl) (b .comes);
+          others = λ j n. rw (says j, ne-eqb k j n);
         }
 
     module _ (next : Open) (ne : next ≡ nextBy w at i) where
@@ -304,6 +329,8 @@ module _ (f w : List ℕ) (q : ℕ) (t : Tables) (i : ℕ) (p : Step f w q t i) 
             size = refl;
             list = sym (rw (← hn) (append-nil (pdusFrom f w (2 * q) 0 (t .made))));
             map = next-map f w w (3 * q) (t .live) (t .live) i (4 * q) Closed (p .ready .sound) (front-refl (4 * q) w) low says vs vo ∙ rw (← hn, number-at f w i);
+            own = inl no;
+            others = λ j n. refl;
           }
 
       module _ (first got : ℕ) (fe : next ≡ From first got) where
@@ -382,6 +409,7 @@ module _ (f w : List ℕ) (q : ℕ) (t : Tables) (i : ℕ) (p : Step f w q t i) 
               beyond = λ j h. refl;
               list = sym (rw (← held-next, cmp) (append-nil (pdusFrom f w (2 * q) 0 (t .made))));
               held = rw (← held-next, cmp);
+              comes = inr (sym e);
             }) va u eu
 
         -- the PDU is complete
@@ -409,4 +437,5 @@ module _ (f w : List ℕ) (q : ℕ) (t : Tables) (i : ℕ) (p : Step f w q t i) 
               beyond = λ j h. fin .above j (omega (arith, h, p .ready .made, p .tabled .total, p .ready .quarter, step-small));
               list = fin .list ∙ rw (step-begun, ← held-next, cmp);
               held = rw (← held-next, cmp);
+              comes = inl refl;
             }) (as-zero 0 0 refl) u eu

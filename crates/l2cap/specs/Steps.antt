@@ -2,6 +2,7 @@
 use Prim.Native.Nat.{ℕ, zero, suc, _+_, _*_, _/_, _%_, _<_, _≤_}
 use mathlib.Core.Path.{_≡_}
 use mathlib.Core.Bool.{cond}
+use mathlib.Core.Logic.{_⊎_}
 use mathlib.Core.List.{List, [], _∷_, _++_}
 use mathlib.Core.Option.{Option, none, some}
 use lib.ListN.{length}
@@ -117,7 +118,7 @@ mapOf f w b live i k = heldOf f w k i (openAt w b live k)
 
 -- the bytes so far are counted right, from a packet of the key on
 pub record Sound (f w : List ℕ) (b live i : ℕ) : Type 0 where
-  pub sound : (k a g : ℕ) → openAt w b live k ≡ From a g → (a ≤ i) × (g ≡ length (since f w k a i))
+  pub sound : (k a g : ℕ) → openAt w b live k ≡ From a g → (a < i) × (g ≡ length (since f w k a i))
   pub own : (k a g : ℕ) → openAt w b live k ≡ From a g → word w (6 * a) ≡ k
 
 -- i packets are read. Every data byte is in one open PDU or one made, or dropped: so all areas have room.
@@ -151,6 +152,9 @@ pub record Stepped (f w : List ℕ) (q : ℕ) (t : Tables) (i : ℕ) (u : List �
   pub map :
       _≡_ {A = ℕ → Option (List ℕ)} (mapOf f u (3 * q) (r .live) (i + 1))
       (putBy eqb (mapOf f w (3 * q) (t .live) i) (numberOf (packetAt f w i)) (stillOpen (after f w (3 * q) (t .live) i)))
+  -- which packet began what is open: under the packet's key nothing is, or what is with the packet; under the others what was
+  pub own : (openAt u (3 * q) (r .live) (word w (6 * i)) ≡ Closed) ⊎ (openAt u (3 * q) (r .live) (word w (6 * i)) ≡ nextAt w (3 * q) (t .live) i)
+  pub others : (k : ℕ) → (word w (6 * i) ≡ k → ⊥) → openAt u (3 * q) (r .live) k ≡ openAt w (3 * q) (t .live) k
 
 -- ---- all steps
 

@@ -49,6 +49,13 @@ module _ (f : List ℕ) (at : ℕ) where
     unfolding placed
     rest-turn = rw (r .list, record-length)
 
+    -- the packets still to come: that of the record, if it holds one, and those after it
+    pub rest-packets :
+        (read : List ℕ → Option Packet) →
+        placedPackets read (restAt f at) ≡ placedPacket at (read (between f at e)) ++ placedPackets read (restAt f e)
+    unfolding placedPackets
+    rest-packets read = rw rest-turn
+
   pub rest-none : recordsIn (drop at f) ≡ [] → restAt f at ≡ []
   unfolding placed
   rest-none e = rw e

@@ -40,7 +40,7 @@ loop-again c = search run-turn
 
 -- src/lib.rt:389:1
 same-length : tie.Need-same-length Inv-loop μ-loop
-same-length c = c .before .loop .inv .size
+same-length c = c .before .loop .inv .going .size
 
 -- src/lib.rt:389:1
 returns : tie.Need-returns Inv-loop μ-loop
