@@ -29,7 +29,7 @@ gapsOf f work tail = orValues (opened btsnoop f work tail) (gaps f)
 
 -- the seven signs as their numbers
 abbrev pub signsOf : Signs → List ℕ
-signsOf s = recordedOf (s .recorded) ++ (gapOf (s .partial .stray) ++ (gapOf (s .partial .given_up) ++ gapOf (s .left)))
+signsOf s = recordedOf (s .recorded) ++ (gapOf (s .partial .stray) ++ (gapOf (s .partial .«given_up») ++ gapOf (s .left)))
 
 abbrev pub toldGaps : Gaps → Answer
 toldGaps (Found s) = accepted (signsOf s)

@@ -7,11 +7,13 @@ ghost use Rattle.mdr.specs.Frame.{unpackOf, packOf};
 ghost use Rattle.commands.specs.Commands.{isCommandName};
 ghost use Rattle.names.specs.Names.{fixtureName};
 ghost use Rattle.order.specs.Order.{captureOrder};
-ghost use Rattle.imports.specs.Numbers.{optionsIn, optionsNumber};
+ghost use Rattle.gaps.specs.Calls.{GapsCalls};
+ghost use Rattle.imports.specs.Numbers.{tailNumber, optionsIn, optionsNumber};
 ghost use Rattle.telling.specs.Telling.{Calls};
 ghost use Rattle.lumbryth.specs.Imports.{bit, wayOf, ImportCalls};
 ghost use Rattle.lumbryth.specs.RecordCalls.{RecordsCalls};
 ghost use Rattle.lumbryth.specs.Stretches.{StretchCalls};
+use gaps::gaps_told;
 use imports::import_told;
 use imports::options_in;
 use imports::shown_imported;
@@ -161,6 +163,22 @@ pub extern "C" fn lumbryth_records(file: &[u8], starts: &mut [u64], values: &mut
     let l = btsnoop::list_records(file, starts);
     let s = shown_listed(l);
     tell(s, values)
+}
+
+// Counts the signs in a trace that something is not in it; 0 is strict, any other tolerant. Refused as import is, by 1 to 5.
+// Values, for each sign how many and at which byte the record starts that shows the first, 0 if none does: records stored
+// short, packets that the recorder dropped, ACL packets skipped because data is not there, records of zeros, continuations
+// with nothing open, partial PDUs given up because another starts, PDUs open at the end.
+#[no_mangle]
+pub extern "C" fn lumbryth_gaps(
+    file: &[u8],
+    work: &mut [u8],
+    tolerant: u32,
+    values: &mut [u64],
+) -> u32
+    ensures { λ r. ⌜ GapsCalls (now (file .entry)) (now (work .entry)) (tailNumber tolerant) (now (values .entry)) r (now (work .exit)) (now (values .exit)) ⌝ }
+{
+    gaps_told(file, work, tolerant, values)
 }
 
 // Imports a trace, and fills the first places of the list lent with the stretches that are open at the end, in the order of
