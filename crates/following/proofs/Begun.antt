@@ -13,7 +13,7 @@ use Rattle.container.specs.Packets.{Packet}
 use Rattle.btsnoop.specs.PacketTable.{packetAt}
 use Rattle.fragments.specs.Bytes.{numberOf}
 use Rattle.fragments.proofs.Walking.{number-at}
-use Rattle.l2cap.specs.Pdus.{joined, stillOpen}
+use Rattle.l2cap.specs.Pdus.{stillOpen}
 use Rattle.l2cap.specs.Steps.{openAt, longer, grown, nextAt, heldOf, mapOf, after, Stepped}
 use Rattle.l2cap.specs.declared.Open.{Open}
 use Rattle.l2cap.specs.declared.Open.the-variants.{Closed, From}
@@ -69,6 +69,9 @@ pub start-is : (f w : List ℕ) (i : ℕ) → packetAt f w i .start ≡ eqb (wor
 unfolding packetAt
 start-is f w i = refl
 
+pub number-is : (f w : List ℕ) (i : ℕ) (a : Placed Packet) → a .is ≡ packetAt f w i → numberOf (a .is) ≡ word w (6 * i)
+number-is f w i a e = ap (λ (p : Packet). numberOf p) e ∙ number-at f w i
+
 module _
     (f w : List ℕ) (q : ℕ) (t : Tables) (i : ℕ) (u : List ℕ) (r : Tables) (st : Stepped f w q t i u r)
     (ps : List (Placed Packet)) (a : Placed Packet) (here : placeAt ps i ≡ a .at) (is : a .is ≡ packetAt f w i) where
@@ -107,9 +110,6 @@ module _
   goes-own =
       rw (place-in f w (3 * q) (t .live) ps i (word w (6 * i)), bytes-in f w (3 * q) (t .live) ps i (word w (6 * i)), is, number-at f w i)
 
-  pub number-is : numberOf (a .is) ≡ word w (6 * i)
-  number-is = ap (λ (p : Packet). numberOf p) is ∙ number-at f w i
-
   -- a step of reassembly is a step of the machine
   pub begun-step :
       (k : ℕ) →
@@ -118,6 +118,6 @@ module _
   unfolding begunIn
   begun-step k = split≡ (word w (6 * i)) k
       (λ e.
-      rw (← e, number-is, eq-eqb (word w (6 * i)) (word w (6 * i)) refl)
+      rw (← e, number-is f w i a is, eq-eqb (word w (6 * i)) (word w (6 * i)) refl)
       (began-own ∙ ap (begunAt (cond (a .is .start) (a .at) (beganOf ps (openAt w (3 * q) (t .live) (word w (6 * i)))))) held-own ∙ sym goes-own))
-      (λ e. rw (number-is, ne-eqb k (word w (6 * i)) (λ z. e (sym z)), st .others k e, held-other k e))
+      (λ e. rw (number-is f w i a is, ne-eqb k (word w (6 * i)) (λ z. e (sym z)), st .others k e, held-other k e))

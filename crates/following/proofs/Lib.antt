@@ -1,3 +1,5 @@
-pub mod Begun
 pub mod Showing
+pub mod Begun
+pub mod Counting
+pub mod Following
 pub mod Walking

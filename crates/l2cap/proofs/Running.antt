@@ -25,10 +25,11 @@ use Rattle.l2cap.specs.Rekeyed.{runBy}
 use Rattle.l2cap.proofs.Rekeyed.{run-by, rekey}
 use Rattle.fragments.specs.Links.{Linked, Seats, LinkRoom, LinkedTo}
 use Rattle.fragments.proofs.Chains.{linked-less, linked-agree}
-use Rattle.l2cap.specs.Steps.{openAt, heldOf, mapOf, Ready, Step, Stepped, Run}
+use Rattle.l2cap.specs.Steps.{openAt, openIn, rowAt, RowPre, heldOf, mapOf, Ready, Step, Stepped, Run}
 use Rattle.l2cap.specs.declared.Open.the-variants.{Closed}
 use Rattle.l2cap.specs.declared.Tables.{Tables}
 use Rattle.l2cap.proofs.Opens.{never, as-blank}
+use Rattle.l2cap.proofs.Stepping.{seat-row, seat-room, seat-open}
 
 -- ---- link and direction as one number
 
@@ -120,6 +121,17 @@ module _ (f w₀ : List ℕ) (q count : ℕ) (w : List ℕ) (t : Tables) (i : �
     -- the packet that a step reads
     pub going-packet : i < count → packetAt f w i ≡ packetAt f w₀ i
     going-packet h = packet-front (4 * q) f w w₀ i (omega (arith, going-low)) (v .front)
+
+    -- the row of a packet's key, read or still to come
+    module _ (j : ℕ) (h : j < count) where
+      pub going-row : RowPre w q j
+      going-row = seat-row f w q (t .live) count (v .tabled) (v .ready .quarter) (v .ready .live) (v .seats) j h
+
+      pub going-room : 4 * rowAt w q j + 16 ≤ length w
+      going-room = seat-room f w q (t .live) count (v .tabled) (v .ready .quarter) (v .ready .live) (v .seats) j h (rowAt w q j) refl
+
+      pub going-open : openAt w (3 * q) (t .live) (word w (6 * j)) ≡ openIn w (rowAt w q j)
+      going-open = seat-open f w q (t .live) count (v .tabled) (v .ready .quarter) (v .ready .live) (v .seats) j h
 
     pub going-turn : i < count → (u : List ℕ) (r : Tables) → Stepped f w q t i u r → Going f w₀ q count u r (i + 1)
     going-turn h u r st = record {

@@ -2,7 +2,8 @@ use Prim.Native.Nat.{_-_}
 use mathlib.Core.Path.{_∙_}
 use lib.ListN.{length}
 use Rattle.l2cap.proofs.Running.{link-room}
-use Rattle.following.proofs.Walking.{Following, coming, follow-start, follow-pre, follow-less, follow-again, follow-cut, follow-end}
+use Rattle.following.proofs.Following.{Following}
+use Rattle.following.proofs.Walking.{coming, follow-start, follow-pre, follow-less, follow-again, follow-cut, follow-end}
 use borrow.Author.Needs.{needs}
 use native.Mathlib.Omega.{arith}
 use Rattle.following.proofs.follow_packets.Statement.{statement}
