@@ -49,6 +49,7 @@ fn the_list_says_where_a_set_came_from() {
         "# exclude: none",
         "# fixtures: 30",
         "# frames: 31",
+        "# losses: none seen",
         "# not a fixture: 000017 refusal 17, the frame's checksum is 70 where its bytes give B0",
         "# tail offset: 2542",
         "# tail rule: strict",
@@ -154,7 +155,8 @@ fn a_set_is_checked() {
     let json = words(&[&"check", &"--json", &dir]);
     assert_eq!(status(&json), 1);
     let text = out(&json);
-    assert_eq!(text.lines().count(), 31);
+    assert_eq!(text.lines().count(), 32);
+    assert!(text.starts_with("{\"kind\":\"losses\",\"told\":\"none seen\"}\n"), "{text}");
     assert_eq!(text.lines().filter(|line| line.starts_with("{\"kind\":\"ok\",\"name\":\"mdr-packet-")).count(), 26);
     assert!(text.contains(&format!("{{\"kind\":\"missing\",\"name\":\"{}\"}}\n", names[5])));
     assert!(text.ends_with("{\"kind\":\"extra\",\"name\":\"more-rx.\\u001b.bin\"}\n"), "{text}");
@@ -218,18 +220,6 @@ fn a_set_is_held_against_a_trace() {
     assert_eq!(status(&words(&[&"check", &dir])), 0);
     let line = format!("trace: other bytes than in the list has {name}");
     finds(&words(&[&"check", &dir, &example("headset.btsnoop")]), &[&line], "1 trace");
-}
-
-/// The sum of a file, by another program.
-fn sum(path: &Path) -> String {
-    out(&Command::new("sha256sum").arg("--").arg(path).output().unwrap()).trim_start_matches('\\')[..64].to_string()
-}
-
-/// Puts a changed text in the place of a list, with a right last line.
-fn relist(place: &Place, dir: &Path, text: &str) {
-    let body = &text[..text.rfind("# lines above").unwrap()];
-    let last = sum(&place.file("body", body.as_bytes()));
-    fs::write(dir.join(LIST), format!("{body}# lines above sha256: {last}\n")).unwrap();
 }
 
 #[test]
@@ -323,12 +313,6 @@ fn odd_places() {
         .output()
         .unwrap();
     assert_eq!(status(&output), 0, "{}", err(&output));
-}
-
-/// A trace with many frames.
-fn many(place: &Place, n: u32) -> std::path::PathBuf {
-    let payloads: Vec<Vec<u8>> = (0..n).map(|i| vec![0x22, i as u8, (i >> 8) as u8]).collect();
-    place.file("many", &trace_of(&payloads))
 }
 
 #[test]
