@@ -259,18 +259,20 @@ impl<'a> Side<'a> {
 
     /// Takes an ACK, if it may be that of a frame. The latest comes first.
     fn takes(&mut self, ack: u8) -> bool {
-        let from = self.waiting.len().saturating_sub(BACK);
-        if let Some(i) = self.waiting[from..].iter().rposition(|waiting| fits(ack, waiting.frame)) {
-            let taken = self.waiting.remove(from + i);
-            self.passed = from + i;
-            if self.last == Some(taken.frame) {
-                self.spare = taken.again;
-            }
+        if self.spare > 0 && self.last.is_some_and(|frame| fits(ack, frame)) {
+            self.spare -= 1;
             return true;
         }
-        let spare = self.spare > 0 && self.last.is_some_and(|frame| fits(ack, frame));
-        self.spare -= usize::from(spare);
-        spare
+        let from = self.waiting.len().saturating_sub(BACK);
+        let Some(i) = self.waiting[from..].iter().rposition(|waiting| fits(ack, waiting.frame)) else {
+            return false;
+        };
+        let taken = self.waiting.remove(from + i);
+        self.passed = from + i;
+        if self.last == Some(taken.frame) {
+            self.spare = taken.again;
+        }
+        true
     }
 }
 
@@ -291,22 +293,21 @@ impl Places {
 /// The hints of a link that ACKs give, of frames that went one way.
 fn acknowledging(link: &[Seen], direction: Direction, hints: &mut Vec<Hint>) {
     let mut side = Side::default();
-    // The first ACK may be of a frame before the recording.
-    let mut before = !is_whole(link);
+    // The first ACK, and more with its number, may be of a frame before the recording.
+    let (mut begins, mut before) = (!is_whole(link), None);
     for seen in link {
         match &seen.what {
             What::Data(frame, _) if seen.direction == direction => {
                 side.sent(seen, frame);
-                before = false;
+                begins = false;
             }
             What::Broken if seen.direction == direction => side.broken = Some(seen),
             What::Ack(seq) if seen.direction != direction && !side.takes(*seq) => {
-                match side.broken.take() {
-                    Some(broken) => hints.push(broken.hint(Kind::Broken)),
-                    None if before => {}
-                    None => hints.push(seen.hint(Kind::Ack)),
+                if let Some(broken) = side.broken.take() {
+                    hints.push(broken.hint(Kind::Broken));
+                } else if !begins || *before.get_or_insert(*seq) != *seq {
+                    hints.push(seen.hint(Kind::Ack));
                 }
-                before = false;
             }
             _ => {}
         }
@@ -334,15 +335,16 @@ fn answering(link: &[Seen], direction: Direction, hints: &mut Vec<Hint>) {
     // Those that wait, with the name of the answer; and where those were answered that do not.
     let mut waiting: Vec<(&Seen, &Frame, String)> = Vec::new();
     let mut answered = BTreeMap::new();
-    let mut last = None;
+    let mut last = [None, None];
     for seen in link {
-        if let Some((frame, name)) = seen.data(direction) {
-            if let Some(answer) = answer_to(name).filter(|_| last != Some(frame)) {
-                waiting.push((seen, frame, answer));
-            }
-            last = Some(frame);
+        let What::Data(frame, name) = &seen.what else { continue };
+        let asks = seen.direction == direction;
+        if last[usize::from(asks)].replace(frame) == Some(frame) {
+            continue;
         }
-        if let Some((frame, name)) = seen.data(back) {
+        if asks {
+            waiting.extend(answer_to(name).map(|answer| (seen, frame, answer)));
+        } else {
             let answers = |(_, get, answer): &(&Seen, &Frame, String)| get.kind == frame.kind && answer == name;
             // Most say again in their second byte what was asked for.
             let same = |row: &(&Seen, &Frame, String)| answers(row) && row.1.payload.get(1) == frame.payload.get(1);
@@ -363,7 +365,7 @@ fn answering(link: &[Seen], direction: Direction, hints: &mut Vec<Hint>) {
 
 #[cfg(test)]
 mod tests {
-    use super::{hints, lines, objects, Kind};
+    use super::{hints, lines, objects, Hint, Kind};
     use lumbryth::Direction::{self, Rx, Tx};
     use lumbryth::{pack, Span};
 
@@ -432,9 +434,10 @@ mod tests {
         for n in 2..16 {
             gives(&link()[n..], &[]);
         }
-        // One ACK each way may be of a frame before it, and no more.
+        // One frame each way may have been under way before it, which may have been sent again, and no more.
         let both = vec![ack(Rx, 0), ack(Tx, 1), data(Rx, 0, &[0x25, 0]), ack(Tx, 1)];
         gives(&both, &[]);
+        gives(&[vec![ack(Tx, 1)], both.clone()].concat(), &[]);
         gives(&[vec![ack(Tx, 0)], both].concat(), &[(Kind::Ack, 3)]);
         // Nor where frames came before.
         gives(&[exchange(0, 0x22), vec![ack(Rx, 0)]].concat(), &[(Kind::Ack, 5)]);
@@ -488,6 +491,10 @@ mod tests {
         // Two under way, of either number.
         gives(&[data(Tx, 0, &[0x24]), data(Tx, 1, &[0x24]), ack(Rx, 1), ack(Rx, 0)], &[]);
         gives(&[data(Tx, 0, &[0x24]), data(Tx, 0, &[0x28]), ack(Rx, 1), ack(Rx, 1)], &[]);
+        // One that others were sent after, and acknowledged, has none any more.
+        let set = |seq, value| data(Tx, seq, &[0x24, value]);
+        let late = [set(0, 1), set(1, 2), ack(Rx, 0), set(1, 3), ack(Rx, 0), ack(Rx, 1)];
+        gives(&late, &[(Kind::Ack, 6), (Kind::Unacknowledged, 1)]);
         // The same way it is none.
         gives(&[data(Tx, 0, &[0x24]), ack(Tx, 1)], &[(Kind::End, 1)]);
     }
@@ -521,6 +528,9 @@ mod tests {
         gives(&[ask(MDR, 1), ask(MDR, 2), say(MDR, 2)].concat(), &[(Kind::Unanswered, 1)]);
         gives(&[ask(MDR, 1), ask(MDR, 2), say(MDR, 1)].concat(), &[]);
         gives(&[ask(MDR, 1), ask(MDR, 2), say(MDR, 7), say(MDR, 2)].concat(), &[]);
+        // An answer that is sent again is no other.
+        let again = [vec![ret(MDR, 1)], say(MDR, 1)].concat();
+        gives(&[ask(MDR, 1), ask(NO2, 2), ask(MDR, 3), again].concat(), &[]);
         // A command that has no answer by its name.
         let test = vec![data(Tx, 0, &[0x0F]), ack(Rx, 1)];
         gives(&[test, exchange(1, 0x22)].concat(), &[]);
@@ -530,7 +540,9 @@ mod tests {
     fn what_does_not_unpack_may_be_what_is_missing() {
         let ends = || exchange(1, 0x66);
         // Sent again, whole.
-        gives(&[vec![broken(Rx), data(Rx, 0, &[0x25]), ack(Tx, 1)], ends()].concat(), &[]);
+        let again = || vec![broken(Rx), data(Rx, 0, &[0x25]), ack(Tx, 1)];
+        gives(&[again(), ends()].concat(), &[]);
+        gives(&[again(), vec![ack(Tx, 1)], ends()].concat(), &[(Kind::Ack, 4)]);
         // It may be the ACK, or the answer.
         gives(&[vec![data(Tx, 0, &[0x24]), broken(Rx)], ends()].concat(), &[]);
         gives(&[vec![data(Tx, 0, &[0x22]), ack(Rx, 1), broken(Rx)], ends()].concat(), &[]);
@@ -575,12 +587,113 @@ Hint: the end may be missing: no ACK follows POWER_SET_STATUS tx 11.
         assert_eq!(told(&[exchange(0, 0x22), vec![broken(Rx), ack(Tx, 0)]].concat()), text);
     }
 
+    /// A side of a conversation: what it has to say, its sequence number, and where its frame is that waits for an ACK.
+    #[derive(Default)]
+    struct Talker {
+        to_say: Vec<Vec<u8>>,
+        seq: u8,
+        waits: Option<usize>,
+    }
+
+    /// A frame of a conversation: where it was sent first, or of an ACK, the frame that it acknowledges; and how often it is there.
+    struct Row {
+        span: Span,
+        of: usize,
+        times: usize,
+    }
+
+    /// An ACK is shorter than any other frame here.
+    fn is_ack(row: &Row) -> bool {
+        row.span.wire.len() == 9
+    }
+
+    /// A conversation as two sides have it that keep the rules, from the first question on: each says the next when the last is
+    /// acknowledged, and sometimes the last again; that may have more than one ACK.
+    fn conversation(seed: u64) -> Vec<Row> {
+        let mut state = seed * 2 + 1;
+        let mut below = |n: u64| {
+            state = state.wrapping_mul(6_364_136_223_846_793_005).wrapping_add(1_442_695_040_888_963_407);
+            (state >> 33) % n
+        };
+        let mut list: Vec<Row> = Vec::new();
+        let mut sides = [Talker::default(), Talker::default()];
+        sides[0].to_say.push(vec![0x00, 0]);
+        let mut left = 25;
+        loop {
+            let (me, way) = if below(2) == 0 { (0, Tx) } else { (1, Rx) };
+            if let Some(of) = sides[1 - me].waits.filter(|_| below(3) > 0) {
+                let (seq, said) = (sides[1 - me].seq, sides[1 - me].to_say.remove(0));
+                let times = 1 + (1..list[of].times).filter(|_| below(2) == 0).count();
+                list.extend((0..times).map(|_| Row { span: ack(way, 1 - seq), of, times }));
+                if me == 1 && [0x00, 0x22, 0x66, 0x56].contains(&said[0]) {
+                    sides[1].to_say.push(vec![said[0] + 1, said[1], 9]);
+                }
+                // The headset's numbers do not always change.
+                sides[1 - me].seq = if me == 1 || below(3) > 0 { 1 - seq } else { seq };
+                sides[1 - me].waits = None;
+            } else if let Some(of) = sides[me].waits {
+                if below(8) == 0 {
+                    list[of].times += 1;
+                    list.push(Row { span: list[of].span.clone(), of, times: 2 });
+                }
+            } else {
+                // Nobody says more before the first answer.
+                let begun = list.iter().any(|row| row.span.direction == Rx && !is_ack(row));
+                if sides[me].to_say.is_empty() && left > 0 && begun {
+                    left -= 1;
+                    let command = if me == 1 { 0x25 } else { [0x24, 0x22, 0x66, 0x56][below(4) as usize] };
+                    sides[me].to_say.push(vec![command, left]);
+                }
+                if let Some(payload) = sides[me].to_say.first() {
+                    let of = list.len();
+                    list.push(Row { span: data(way, sides[me].seq, payload), of, times: 1 });
+                    sides[me].waits = Some(of);
+                } else if left == 0 && sides.iter().all(|side| side.to_say.is_empty() && side.waits.is_none()) {
+                    return list;
+                }
+            }
+        }
+    }
+
+    /// Many conversations: of the whole nothing is said, from the middle on nothing, up to the middle only what is not acknowledged
+    /// yet; and without a frame or an ACK that is there once, something.
+    #[test]
+    fn conversations() {
+        let (mut frames, mut starts, mut missed) = (0, 0, 0);
+        for seed in 0..100 {
+            let list = conversation(seed);
+            let spans: Vec<Span> = list.iter().map(|row| row.span.clone()).collect();
+            gives(&spans, &[]);
+            frames += spans.len();
+            for n in 1..spans.len() {
+                // From here on, unless that parts a frame that is sent again, or the first question from its answer.
+                let parted = |row: &Row| row.of < n && (row.of == 0 || list[row.of].times > 1);
+                if !list[n..].iter().any(parted) {
+                    gives(&spans[n..], &[]);
+                    starts += 1;
+                }
+                let cut = hints(&spans[..n]);
+                let known = |hint: &Hint| matches!(hint.kind, Kind::End | Kind::Unacknowledged);
+                assert!(cut.len() <= 2 && cut.iter().all(known), "{seed} to {n}: {cut:?}");
+                if list[n].times == 1 {
+                    let left = [&spans[..n], &spans[n + 1..]].concat();
+                    // The ACK of a frame that is lost may pass for one more of the frame before it, if that was sent again.
+                    let before = list[..n].iter().rfind(|row| row.span.direction == spans[n].direction && !is_ack(row));
+                    let passes = !is_ack(&list[n]) && before.is_some_and(|row| list[row.of].times > 1);
+                    assert!(passes || !hints(&left).is_empty(), "{seed} without {n}");
+                    missed += usize::from(!passes);
+                }
+            }
+        }
+        assert!(frames > 7_000 && starts > 4_000 && missed > 4_000, "{frames} {starts} {missed}");
+    }
+
     /// Long lists take no long time.
     #[test]
     fn many() {
         let spans: Vec<Span> = (0..24_000_u32).map(|i| data(Rx, 0, &[0x22, i as u8, (i >> 8) as u8])).collect();
         assert_eq!(hints(&spans).len(), 24_000);
         let spans: Vec<Span> = (0..24_000).map(|i| ack(Tx, i as u8)).collect();
-        assert_eq!(hints(&spans).len(), 23_999);
+        assert_eq!(hints(&spans).len(), 24_000 - 94);
     }
 }
