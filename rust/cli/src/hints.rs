@@ -476,7 +476,8 @@ mod tests {
         gives(&[vec![get(), get(), ack(Rx, 1), ack(Rx, 1)], rest()].concat(), &[]);
         gives(&[vec![get(), ack(Rx, 1), get(), ack(Rx, 1)], rest()].concat(), &[]);
         gives(&[vec![get(), ack(Rx, 1), get()], rest()].concat(), &[]);
-        // More ACKs than frames.
+        // More ACKs than frames, or with another number.
+        gives(&[vec![get(), get(), ack(Rx, 1), ack(Rx, 0)], rest()].concat(), &[(Kind::Ack, 4)]);
         gives(&[vec![get(), ack(Rx, 1), get(), ack(Rx, 1), ack(Rx, 1)], rest()].concat(), &[(Kind::Ack, 5)]);
         gives(&[vec![get(), get()], rest()].concat(), &[(Kind::Unacknowledged, 1)]);
         // Another sequence number is another frame.
