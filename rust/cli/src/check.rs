@@ -5,6 +5,7 @@ use std::fs::{self, File};
 use std::io::{self, Read};
 use std::path::Path;
 
+use crate::losses;
 use crate::set::{self, Set};
 use crate::sha256::sum;
 use crate::words::{object, shown, string};
@@ -134,12 +135,22 @@ pub fn told(set: &Set) -> String {
     format!("{} frames in the trace, end {end}: {name}\n", fact("frames"))
 }
 
-/// An object for each fixture that is as it should be, and for each fault.
+/// What a list says of losses: a line for each, and one if it does not say; none if none was seen.
+pub fn losses(set: &Set) -> String {
+    let told = set.all("losses");
+    if told.is_empty() {
+        return "Losses: the list does not tell.\n".to_string();
+    }
+    told.iter().filter(|loss| **loss != losses::NONE).map(|loss| format!("Losses: {loss}.\n")).collect()
+}
+
+/// An object for what the list says of losses, each fixture that is as it should be, and each fault.
 pub fn objects(set: &Set, faults: &[Fault]) -> String {
     let wrong: BTreeSet<&str> = faults.iter().map(|fault| &*fault.what).collect();
     let right = set.fixtures.keys().filter(|name| !wrong.contains(&***name));
     let of = |kind: &str, field: &str, what: &str| object(&[("kind", string(kind)), (field, string(what))]);
-    let mut text: String = right.map(|name| of("ok", "name", name)).collect();
+    let mut text: String = set.all("losses").iter().map(|loss| of("losses", "told", loss)).collect();
+    text.extend(right.map(|name| of("ok", "name", name)));
     text.extend(
         faults.iter().map(|fault| of(fault.kind, if fault.of_a_name() { "name" } else { "reason" }, &fault.what)),
     );

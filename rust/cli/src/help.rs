@@ -52,6 +52,11 @@ Whether a file that ends at a record's end was longer once cannot be seen in it.
 Unfinished are bytes at the end that have no end marker: told by handle, direction
 (received is from the headset), DLCI and how many are held. They make no file. Packets
 that were not complete are not counted there.
+
+Losses that the file itself shows are told, a line each: what, how many, at which byte
+first. They are of the whole file. Hints come after them and are less: by the frames alone,
+what may be missing, such as the answer to a question. Where neither is told, something
+may be missing all the same.
 ";
 
 pub const FRAMES: &str = "\
@@ -61,10 +66,11 @@ Lists the frames of TRACE: command, direction (rx is from the headset), counter,
 sequence number, length on the wire, command and type as numbers, time (UTC); or why the
 frame does not unpack. Before them stands what is unfinished, bytes at the end that have
 no end marker: handle, direction (received is from the headset), DLCI and how many are
-held. A file that ends inside a record is listed up to there.
+held; and the losses and hints that import tells. A file that ends inside a record is
+listed up to there.
 
   --channel N      only RFCOMM channel N, 0 to 31; else the first that carries frames
-  --json           an object a line: import, unfinished, then frame
+  --json           an object a line: import, unfinished, hint, then frame
   --               what follows is no option
 ";
 
@@ -73,7 +79,8 @@ usage: lumbryth records TRACE [options]
 
 Lists the records of TRACE: what the packet is, direction (rx is from the headset or the
 controller), number, length of the packet, the byte that the record starts at, time (UTC).
-A file that ends inside a record is listed up to there.
+Before them stand the losses that the file shows. A file that ends inside a record is
+listed up to there.
 
   --json           an object a line: file, then record
   --               what follows is no option
@@ -85,10 +92,10 @@ usage: lumbryth check DIR [TRACE] [options]
 Checks a set of fixtures that import wrote to DIR, by its list, fixtures.sha256: names each
 fixture that is missing, changed or unreadable, and each that is extra. With TRACE, imports that again
 as the set was asked for, and names in what it differs. Files that are no fixtures are
-passed over.
+passed over. Losses that the list tells are told again.
 
-  --json           an object a line: each fixture, ok, missing, changed, unreadable or
-                   extra; and what is wrong with the list, or differs from the trace
+  --json           an object a line: losses; each fixture, ok, missing, changed, unreadable
+                   or extra; and what is wrong with the list, or differs from the trace
   --               what follows is no option
 
 Exit status: 0 if nothing is wrong; 1 if something is, or cannot be read; 2 if the command

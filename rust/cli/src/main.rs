@@ -6,6 +6,8 @@
 mod args;
 mod check;
 mod help;
+mod hints;
+mod losses;
 #[allow(unsafe_code)]
 mod os;
 mod report;
@@ -24,7 +26,7 @@ use std::process::ExitCode;
 
 use args::{Check, Command, Import, Look};
 use check::Fault;
-use lumbryth::{import_stretches, plan, records, Fixture, Imported, Refusal, Stretch, TailRule};
+use lumbryth::{gaps, import_stretches, plan, records, Fixture, Gaps, Imported, Refusal, Stretch, TailRule};
 use set::Set;
 use words::{count, shown};
 use write::Stopped;
@@ -101,6 +103,8 @@ struct Found {
     imported: Imported,
     /// The stretches of its DLCI that are open at the end.
     open: Vec<Stretch>,
+    /// The signs that something is not in it.
+    gaps: Gaps,
 }
 
 /// Reads and imports a trace; what is refused is told in words.
@@ -110,8 +114,8 @@ fn found(look: &Look) -> Result<Found, Failure> {
 
 fn imported(look: &Look, file: Vec<u8>) -> Result<Found, Failure> {
     let rule = if look.tolerant { TailRule::Tolerant } else { TailRule::Strict };
-    match import_stretches(&file, look.channel, rule) {
-        Ok((imported, open)) => Ok(Found { file, imported, open }),
+    match import_stretches(&file, look.channel, rule).and_then(|found| Ok((found, gaps(&file, rule)?))) {
+        Ok(((imported, open), gaps)) => Ok(Found { file, imported, open, gaps }),
         Err(refusal) => Err(Failure::Refused(refused(&look.trace, look.channel, &file, refusal))),
     }
 }
@@ -138,7 +142,11 @@ fn refused(trace: &Path, channel: Option<u8>, file: &[u8], refusal: Refusal) -> 
         Refusal::Truncated { .. } => "\nlumbryth: --tolerant keeps what was complete before that",
         _ => "",
     };
-    format!("refused ({}): {words}: {}{hint}", refusal.number(), shown(trace))
+    // Why nothing is found may be that it is not in the file.
+    let lost = if refusal == Refusal::NoStream { gaps(file, TailRule::Tolerant).ok() } else { None };
+    let lost: String =
+        losses::seen(&lost.unwrap_or_default()).iter().map(|loss| format!("\nlumbryth: {}", loss.sentence())).collect();
+    format!("refused ({}): {words}: {}{hint}{lost}", refusal.number(), shown(trace))
 }
 
 /// The fixtures of an import, and the list of their set.
@@ -146,15 +154,16 @@ fn planned(look: &Look, exclude: &[String], found: &Found) -> Result<(Vec<Fixtur
     let fixtures = plan(&found.imported.spans, exclude).map_err(|refusal| {
         Failure::Refused(format!("refused ({}): {refusal}: {}", refusal.number(), shown(&look.trace)))
     })?;
-    let set = Set::of(&found.file, look, exclude, &found.imported, &fixtures);
+    let set = Set::of(&found.file, look, exclude, &found.imported, &found.gaps, &fixtures);
     Ok((fixtures, set))
 }
 
 fn run_import(options: &Import) -> Result<(), Failure> {
     let found = found(&options.look)?;
     let (fixtures, set) = planned(&options.look, &options.exclude, &found)?;
-    let Found { file, imported, open } = &found;
+    let Found { file, imported, open, gaps } = &found;
     let mut findings = report::findings(file, imported, open, options.look.channel.is_some(), "among the fixtures");
+    findings += &report::missing(file, imported, gaps);
     let excluded = imported.frames - report::broken(imported) - fixtures.len();
     if !options.exclude.is_empty() {
         findings += &format!("{} left out by --exclude.\n", count(excluded, "frame", "frames"));
@@ -170,18 +179,20 @@ fn run_import(options: &Import) -> Result<(), Failure> {
 }
 
 fn run_frames(look: &Look, json: bool) -> Result<(), Failure> {
-    let Found { file, imported, open } = found(look)?;
+    let Found { file, imported, open, gaps } = found(look)?;
     if json {
-        return print(&report::frame_objects(&file, &imported, &open));
+        return print(&report::frame_objects(&file, &imported, &open, &gaps));
     }
-    let findings = report::findings(&file, &imported, &open, look.channel.is_some(), "listed");
+    let mut findings = report::findings(&file, &imported, &open, look.channel.is_some(), "listed");
+    findings += &report::missing(&file, &imported, &gaps);
     print(&(findings + &report::frames(&imported)))
 }
 
 fn run_records(trace: &Path, json: bool) -> Result<(), Failure> {
     let file = source::read(trace).map_err(Failure::Refused)?;
-    let found = records(&file).map_err(|refusal| Failure::Refused(refused(trace, None, &file, refusal)))?;
-    print(&if json { report::record_objects(&file, &found) } else { report::records(&file, &found) })
+    let told = |refusal| Failure::Refused(refused(trace, None, &file, refusal));
+    let (found, gaps) = (records(&file).map_err(told)?, gaps(&file, TailRule::Tolerant).map_err(told)?);
+    print(&if json { report::record_objects(&file, &found, &gaps) } else { report::records(&file, &found, &gaps) })
 }
 
 fn run_check(options: &Check) -> Result<(), Failure> {
@@ -200,11 +211,12 @@ fn run_check(options: &Check) -> Result<(), Failure> {
     if let Some(trace) = &options.trace {
         faults.extend(imported_again(trace, &there)?);
     }
-    let text = if options.json { check::objects(&there, &faults) } else { check::lines(&faults) };
+    let text =
+        if options.json { check::objects(&there, &faults) } else { check::losses(&there) + &check::lines(&faults) };
     if faults.is_empty() {
         let by = if options.trace.is_some() { "as the list and the trace have them" } else { "as the list has them" };
         let words = format!("{}, all {by}: {}\n", count(there.fixtures.len(), "fixture", "fixtures"), shown(dir));
-        return print(&if options.json { text } else { check::told(&there) + &words });
+        return print(&if options.json { text } else { check::told(&there) + &text + &words });
     }
     print(&text)?;
     Err(Failure::Refused(format!("the set is not as it was made, {}: {}", check::summary(&faults), shown(dir))))

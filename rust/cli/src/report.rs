@@ -3,10 +3,12 @@
 use std::fmt::Write;
 use std::path::Path;
 
+use crate::hints::{self, Hint, Kind};
+use crate::losses;
 use crate::time::utc;
-use crate::words::{count, hex, object, shown, string};
+use crate::words::{count, hex, object, shown, string, way};
 use crate::write::Done;
-use lumbryth::{ending, unpack, Cut, Direction, Ending, Imported, Records, Stretch, PACKET_MAX};
+use lumbryth::{ending, unpack, Cut, Direction, Ending, Gaps, Imported, Records, Stretch, PACKET_MAX};
 
 /// How many spans do not unpack.
 pub fn broken(imported: &Imported) -> usize {
@@ -55,14 +57,6 @@ pub fn end_of(file: &[u8]) -> Option<(String, bool)> {
 fn sentence(words: &str) -> String {
     let mut chars = words.chars();
     chars.next().map_or(String::new(), |first| format!("{}{}.", first.to_ascii_uppercase(), chars.as_str()))
-}
-
-fn way(direction: Direction) -> &'static str {
-    if direction == Direction::Rx {
-        "rx"
-    } else {
-        "tx"
-    }
 }
 
 /// The open stretches, a sentence each, by handle and direction.
@@ -115,6 +109,17 @@ pub fn findings(file: &[u8], imported: &Imported, open: &[Stretch], asked: bool,
         }
     }
     text
+}
+
+/// The hints that the frames give. That the end may be missing is none where the file tells it.
+fn hints_of(file: &[u8], imported: &Imported) -> Vec<Hint> {
+    let told = end_of(file).is_some_and(|(_, seen)| seen);
+    hints::hints(&imported.spans).into_iter().filter(|hint| hint.kind != Kind::End || !told).collect()
+}
+
+/// What is not in the trace: the signs of it that are seen, then hints.
+pub fn missing(file: &[u8], imported: &Imported, gaps: &Gaps) -> String {
+    losses::lines(gaps) + &hints::lines(&hints_of(file, imported))
 }
 
 /// What was done with the fixtures.
@@ -172,14 +177,15 @@ fn end_fields(file: &[u8]) -> Vec<(&'static str, String)> {
     fields
 }
 
-/// What `findings` and `frames` say, an object a line.
-pub fn frame_objects(file: &[u8], imported: &Imported, open: &[Stretch]) -> String {
+/// What `findings`, `missing` and `frames` say, an object a line.
+pub fn frame_objects(file: &[u8], imported: &Imported, open: &[Stretch], gaps: &Gaps) -> String {
     let numbers =
         [("dlci", imported.dlci as usize), ("channel", imported.dlci as usize / 2), ("frames", imported.frames)];
     let mut fields = vec![("kind", string("import"))];
     fields.extend(numbers.map(|(name, number)| (name, number.to_string())));
     fields.push(("unfinished", imported.unfinished.to_string()));
     fields.extend(end_fields(file));
+    fields.push(("losses", losses::fields(gaps)));
     let mut text = object(&fields);
     for stretch in open {
         text += &object(&[
@@ -190,6 +196,7 @@ pub fn frame_objects(file: &[u8], imported: &Imported, open: &[Stretch]) -> Stri
             ("held", stretch.held.to_string()),
         ]);
     }
+    text += &hints::objects(&hints_of(file, imported));
     for (counter, span) in (1..).zip(&imported.spans) {
         let mut fields = vec![
             ("kind", string("frame")),
@@ -275,7 +282,7 @@ fn each_record<'a>(file: &'a [u8], found: &'a Records) -> impl Iterator<Item = R
 }
 
 /// The list of records, a line each.
-pub fn records(file: &[u8], found: &Records) -> String {
+pub fn records(file: &[u8], found: &Records, gaps: &Gaps) -> String {
     let records = count(found.starts.len(), "record", "records");
     let mut text = format!("{records}: datalink {}.\n", number(&file[12..16]));
     let (words, seen) = end_of(file).unwrap_or_default();
@@ -283,6 +290,7 @@ pub fn records(file: &[u8], found: &Records) -> String {
     if seen {
         text += "Whatever came later is missing.\n";
     }
+    text += &losses::lines(gaps);
     for (n, record) in (1..).zip(each_record(file, found)) {
         let (way, bytes) = (record.way.unwrap_or("no direction"), count(record.length, "byte", "bytes"));
         let _ = writeln!(text, "{}, {way} {n}, {bytes} at {}, {}", record.what, record.start, utc(record.ms));
@@ -291,13 +299,14 @@ pub fn records(file: &[u8], found: &Records) -> String {
 }
 
 /// What `records` says, an object a line.
-pub fn record_objects(file: &[u8], found: &Records) -> String {
+pub fn record_objects(file: &[u8], found: &Records, gaps: &Gaps) -> String {
     let mut fields = vec![
         ("kind", string("file")),
         ("datalink", number(&file[12..16]).to_string()),
         ("records", found.starts.len().to_string()),
     ];
     fields.extend(end_fields(file));
+    fields.push(("losses", losses::fields(gaps)));
     let mut text = object(&fields);
     for (n, record) in (1..).zip(each_record(file, found)) {
         let n: usize = n;

@@ -6,9 +6,10 @@
 use std::collections::{BTreeMap, BTreeSet};
 
 use crate::args::{is_name, Look};
+use crate::losses;
 use crate::sha256::sum;
 use crate::words::shown;
-use lumbryth::{ending, fixture_name, Ending, Fixture, Imported, TailRule};
+use lumbryth::{ending, fixture_name, Ending, Fixture, Gaps, Imported, TailRule};
 
 /// The list's name. A reader of fixtures takes only names with -rx. or -tx. that end with .bin.
 pub const NAME: &str = "fixtures.sha256";
@@ -58,7 +59,14 @@ fn end(file: &[u8]) -> String {
 
 impl Set {
     /// The list of an import and the fixtures planned from it.
-    pub fn of(file: &[u8], look: &Look, exclude: &[String], imported: &Imported, fixtures: &[Fixture]) -> Set {
+    pub fn of(
+        file: &[u8],
+        look: &Look,
+        exclude: &[String],
+        imported: &Imported,
+        gaps: &Gaps,
+        fixtures: &[Fixture],
+    ) -> Set {
         let fixtures: BTreeMap<String, String> =
             fixtures.iter().map(|fixture| (fixture.name.clone(), sum(&fixture.wire))).collect();
         let name = look.trace.file_name().unwrap_or(look.trace.as_os_str());
@@ -83,6 +91,7 @@ impl Set {
         if exclude.is_empty() {
             facts.push(("exclude", "none".to_string()));
         }
+        facts.extend(losses::facts(gaps).into_iter().map(|loss| ("losses", loss)));
         for (counter, span) in (1..).zip(&imported.spans) {
             let reason = match fixture_name(span.ms, counter, span.direction, &span.wire) {
                 Ok(name) if fixtures.contains_key(&name) => continue,
@@ -145,6 +154,11 @@ impl Set {
         self.facts.iter().find(|fact| fact.0 == name).map(|fact| &*fact.1)
     }
 
+    /// A fact that may come again.
+    pub fn all(&self, name: &str) -> Vec<&str> {
+        self.facts.iter().filter(|fact| fact.0 == name).map(|fact| &*fact.1).collect()
+    }
+
     /// How the set was asked for, if the list says it.
     pub fn asked(&self) -> Option<Asked> {
         let channel = match self.fact("channel")? {
@@ -156,16 +170,19 @@ impl Set {
             "tolerant" => TailRule::Tolerant,
             _ => return None,
         };
-        let names = self.facts.iter().filter(|fact| fact.0 == "exclude").map(|fact| fact.1.clone());
-        let exclude: Vec<String> = names.filter(|name| name != "none").collect();
+        let names = self.all("exclude").into_iter().filter(|name| *name != "none");
+        let exclude: Vec<String> = names.map(String::from).collect();
         exclude.iter().all(|name| is_name(name)).then_some(Asked { channel, tail, exclude })
     }
 
-    /// Facts that only this set has, and those that only the other has. The name of the trace is free.
+    /// Facts that only this set has, and those that only the other has. The name of the trace is free, and so are losses if one of
+    /// the two does not tell them.
     pub fn differences(&self, other: &Set) -> (Vec<String>, Vec<String>) {
+        let untold = self.fact("losses").is_none() || other.fact("losses").is_none();
+        let free = |name: &str| name == "trace name" || name == "losses" && untold;
         let only = |one: &Set, two: &Set| {
             let two: BTreeSet<_> = two.facts.iter().collect();
-            let facts = one.facts.iter().filter(|fact| fact.0 != "trace name" && !two.contains(fact));
+            let facts = one.facts.iter().filter(|fact| !free(&fact.0) && !two.contains(fact));
             facts.map(|(name, value)| format!("{name}: {value}")).collect()
         };
         (only(self, other), only(other, self))

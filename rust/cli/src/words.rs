@@ -4,9 +4,20 @@ use std::ffi::OsStr;
 use std::fmt::Write;
 use std::os::unix::ffi::OsStrExt;
 
+use lumbryth::Direction;
+
 /// A number and what it counts.
 pub fn count(n: usize, one: &str, more: &str) -> String {
     format!("{n} {}", if n == 1 { one } else { more })
+}
+
+/// A direction in two letters: rx is from the headset.
+pub fn way(direction: Direction) -> &'static str {
+    if direction == Direction::Rx {
+        "rx"
+    } else {
+        "tx"
+    }
 }
 
 /// Whether a character does something else than to be seen: controls, and marks of direction and width.

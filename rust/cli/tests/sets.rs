@@ -49,6 +49,7 @@ fn the_list_says_where_a_set_came_from() {
         "# exclude: none",
         "# fixtures: 30",
         "# frames: 31",
+        "# losses: none seen",
         "# not a fixture: 000017 refusal 17, the frame's checksum is 70 where its bytes give B0",
         "# tail offset: 2542",
         "# tail rule: strict",
@@ -154,7 +155,8 @@ fn a_set_is_checked() {
     let json = words(&[&"check", &"--json", &dir]);
     assert_eq!(status(&json), 1);
     let text = out(&json);
-    assert_eq!(text.lines().count(), 31);
+    assert_eq!(text.lines().count(), 32);
+    assert!(text.starts_with("{\"kind\":\"losses\",\"told\":\"none seen\"}\n"), "{text}");
     assert_eq!(text.lines().filter(|line| line.starts_with("{\"kind\":\"ok\",\"name\":\"mdr-packet-")).count(), 26);
     assert!(text.contains(&format!("{{\"kind\":\"missing\",\"name\":\"{}\"}}\n", names[5])));
     assert!(text.ends_with("{\"kind\":\"extra\",\"name\":\"more-rx.\\u001b.bin\"}\n"), "{text}");
@@ -218,18 +220,6 @@ fn a_set_is_held_against_a_trace() {
     assert_eq!(status(&words(&[&"check", &dir])), 0);
     let line = format!("trace: other bytes than in the list has {name}");
     finds(&words(&[&"check", &dir, &example("headset.btsnoop")]), &[&line], "1 trace");
-}
-
-/// The sum of a file, by another program.
-fn sum(path: &Path) -> String {
-    out(&Command::new("sha256sum").arg("--").arg(path).output().unwrap()).trim_start_matches('\\')[..64].to_string()
-}
-
-/// Puts a changed text in the place of a list, with a right last line.
-fn relist(place: &Place, dir: &Path, text: &str) {
-    let body = &text[..text.rfind("# lines above").unwrap()];
-    let last = sum(&place.file("body", body.as_bytes()));
-    fs::write(dir.join(LIST), format!("{body}# lines above sha256: {last}\n")).unwrap();
 }
 
 #[test]
@@ -325,22 +315,29 @@ fn odd_places() {
     assert_eq!(status(&output), 0, "{}", err(&output));
 }
 
-/// A trace with many frames.
-fn many(place: &Place, n: u32) -> std::path::PathBuf {
-    let payloads: Vec<Vec<u8>> = (0..n).map(|i| vec![0x22, i as u8, (i >> 8) as u8]).collect();
-    place.file("many", &trace_of(&payloads))
-}
-
 #[test]
 fn fifteen_thousand() {
     let place = Place::new();
     let (trace, dir) = (many(&place, 15_000), place.join("out"));
+    // The recorder drops a packet before each of the last 8,000.
+    let mut file = fs::read(&trace).unwrap();
+    let bounds = bounds(&file);
+    for (drops, at) in (1_u32..).zip(&bounds[7_000..15_000]) {
+        file[at + 12..at + 16].copy_from_slice(&drops.to_be_bytes());
+    }
+    fs::write(&trace, &file).unwrap();
     let started = Instant::now();
-    assert_eq!(status(&words(&[&"import", &trace, &"--out", &dir])), 0);
+    let output = words(&[&"import", &trace, &"--out", &dir]);
     let took = started.elapsed();
+    assert_eq!((status(&output), err(&output)), (0, String::new()));
     assert!(took < Duration::from_secs(60), "{took:?}");
     assert_eq!(listing(&dir).len(), 15_001);
-    assert_eq!(status(&words(&[&"check", &dir, &trace])), 0);
+    let line = format!("Dropped by the recorder: 8000 packets, first told at byte {}. ", bounds[7_000]);
+    assert!(out(&output).contains(&line), "{}", out(&output));
+    let output = words(&[&"check", &dir, &trace]);
+    assert_eq!((status(&output), err(&output)), (0, String::new()));
+    let line = format!("\nLosses: dropped by the recorder, 8000 packets, first told at byte {}.\n", bounds[7_000]);
+    assert!(out(&output).contains(&line), "{}", out(&output));
     // Into a directory that is there, half of it missing.
     for name in listing(&dir).iter().step_by(2) {
         fs::remove_file(dir.join(name)).unwrap();
@@ -468,7 +465,7 @@ fn progress_is_told_at_a_terminal() {
     assert_eq!(status(&words(&[&"check", &place.join("told")])), 0);
 }
 
-/// A small file system that fills up, where one can be mounted.
+/// A small file system that fills up, where one can be mounted: by any user, or else by one who may.
 #[test]
 fn a_full_disk() {
     let place = Place::new();
@@ -481,16 +478,20 @@ fn a_full_disk() {
             \"$0\" import \"$2\" --out \"$1/$dir\" && exit 78
         done
         find \"$1\" -mindepth 1 -printf '%P\\n' | sort";
-    let mut command = Command::new("unshare");
-    command.args(["--mount", "sh", "-c", script, PROGRAM]).arg(&disk).arg(&trace).stdin(Stdio::null());
-    match command.output() {
-        Ok(output) if output.status.code() == Some(0) => {
-            assert_eq!(out(&output), "there\nthere/note\n");
-            assert_eq!(err(&output).matches("lumbryth: cannot be written: No space left on device").count(), 2);
+    for who in [&["--user", "--map-root-user", "--mount"][..], &["--mount"]] {
+        let mut command = Command::new("unshare");
+        command.args(who).args(["sh", "-c", script, PROGRAM]).arg(&disk).arg(&trace).stdin(Stdio::null());
+        match command.output() {
+            Ok(output) if output.status.code() == Some(0) => {
+                assert_eq!(out(&output), "there\nthere/note\n");
+                assert_eq!(err(&output).matches("lumbryth: cannot be written: No space left on device").count(), 2);
+                return;
+            }
+            Ok(output) if output.status.code() == Some(78) => panic!("the disk was not full"),
+            _ => {}
         }
-        Ok(output) if output.status.code() == Some(78) => panic!("the disk was not full"),
-        _ => println!("skipped: no file system can be mounted"),
     }
+    println!("skipped: no file system can be mounted");
 }
 
 #[test]

@@ -142,3 +142,21 @@ pub fn trace_of_pieces(pieces: &[(u16, bool, u8, &[u8])]) -> Vec<u8> {
     }
     file
 }
+
+/// The sum of a file, by another program.
+pub fn sum(path: &Path) -> String {
+    out(&Command::new("sha256sum").arg("--").arg(path).output().unwrap()).trim_start_matches('\\')[..64].to_string()
+}
+
+/// Puts a changed text in the place of a list, with a right last line.
+pub fn relist(place: &Place, dir: &Path, text: &str) {
+    let body = &text[..text.rfind("# lines above").unwrap()];
+    let last = sum(&place.file("body", body.as_bytes()));
+    fs::write(dir.join(LIST), format!("{body}# lines above sha256: {last}\n")).unwrap();
+}
+
+/// A trace with many frames.
+pub fn many(place: &Place, n: u32) -> PathBuf {
+    let payloads: Vec<Vec<u8>> = (0..n).map(|i| vec![0x22, i as u8, (i >> 8) as u8]).collect();
+    place.file("many", &trace_of(&payloads))
+}

@@ -1,0 +1,208 @@
+//! What a trace shows of what is not in it, in words: a sentence for people, a fact for the list of a set, an object for programs.
+
+use crate::words::{count, object};
+use lumbryth::{Gap, Gaps};
+
+/// The words for a sign: for one, and for more.
+struct Words {
+    /// Its name in an object.
+    name: &'static str,
+    head: &'static str,
+    what: [&'static str; 2],
+    /// What stands before the byte at which it is first seen.
+    at: [&'static str; 2],
+    /// What stands behind it.
+    behind: &'static str,
+    means: [&'static str; 2],
+}
+
+const SHORT: Words = Words {
+    name: "short",
+    head: "Stored short",
+    what: ["record", "records"],
+    at: ["at", "the first at"],
+    behind: "",
+    means: ["The recorder kept only a part of its packet.", "The recorder kept only a part of their packets."],
+};
+const DROPPED: Words = Words {
+    name: "dropped",
+    head: "Dropped by the recorder",
+    what: ["packet", "packets"],
+    at: ["told at", "first told at"],
+    behind: "",
+    means: ["By its own count it did not keep it.", "By its own count it did not keep them."],
+};
+const SKIPPED: Words = Words {
+    name: "skipped",
+    head: "Skipped",
+    what: ["data packet", "data packets"],
+    at: ["at", "the first at"],
+    behind: "",
+    means: ["A part of it is not in the file.", "A part of each is not in the file."],
+};
+const ZEROS: Words = Words {
+    name: "zeros",
+    head: "Zeros only",
+    what: ["record", "records"],
+    at: ["at", "the first at"],
+    behind: "",
+    means: ["Something else may have stood there.", "Something else may have stood there."],
+};
+const STRAY: Words = Words {
+    name: "stray",
+    head: "Without a beginning",
+    what: ["packet", "packets"],
+    at: ["at", "the first at"],
+    behind: "",
+    means: ["What it continues is not in the file.", "What they continue is not in the file."],
+};
+const GIVEN_UP: Words = Words {
+    name: "given_up",
+    head: "Broken off",
+    what: ["message", "messages"],
+    at: ["at", "the first at"],
+    behind: ", where another begins",
+    means: ["Its rest is not in the file.", "Their rest is not in the file."],
+};
+const OPEN: Words = Words {
+    name: "open",
+    head: "Open at the end",
+    what: ["message", "messages"],
+    at: ["begun at", "the first begun at"],
+    behind: "",
+    means: ["Its rest is not in the file.", "Their rest is not in the file."],
+};
+
+/// A sign that is seen.
+pub struct Loss {
+    words: &'static Words,
+    count: usize,
+    first: usize,
+}
+
+/// The signs that are seen.
+pub fn seen(gaps: &Gaps) -> Vec<Loss> {
+    let all: [(&'static Words, &Gap); 7] = [
+        (&SHORT, &gaps.short),
+        (&DROPPED, &gaps.dropped),
+        (&SKIPPED, &gaps.skipped),
+        (&ZEROS, &gaps.zeros),
+        (&STRAY, &gaps.stray),
+        (&GIVEN_UP, &gaps.given_up),
+        (&OPEN, &gaps.open),
+    ];
+    let some = all.into_iter().filter(|(_, gap)| gap.count > 0);
+    some.map(|(words, gap)| Loss { words, count: gap.count as usize, first: gap.first.unwrap_or(0) }).collect()
+}
+
+impl Loss {
+    /// How many, and where.
+    fn many(&self) -> String {
+        let (words, more) = (self.words, usize::from(self.count != 1));
+        let what = count(self.count, words.what[0], words.what[1]);
+        format!("{what}, {} byte {}{}", words.at[more], self.first, words.behind)
+    }
+
+    /// In a sentence or two.
+    pub fn sentence(&self) -> String {
+        format!("{}: {}. {}", self.words.head, self.many(), self.words.means[usize::from(self.count != 1)])
+    }
+
+    /// As a fact.
+    fn fact(&self) -> String {
+        format!("{}, {}", self.words.head.to_lowercase(), self.many())
+    }
+}
+
+/// A line for each sign that is seen.
+pub fn lines(gaps: &Gaps) -> String {
+    seen(gaps).iter().map(|loss| format!("{}\n", loss.sentence())).collect()
+}
+
+/// What a list says where no sign is seen.
+pub const NONE: &str = "none seen";
+
+/// The facts for a list.
+pub fn facts(gaps: &Gaps) -> Vec<String> {
+    let seen = seen(gaps);
+    if seen.is_empty() {
+        return vec![NONE.to_string()];
+    }
+    seen.iter().map(Loss::fact).collect()
+}
+
+/// The signs that are seen as one object, by name: how often, and where first.
+pub fn fields(gaps: &Gaps) -> String {
+    let of = |loss: &Loss| object(&[("count", loss.count.to_string()), ("first", loss.first.to_string())]);
+    let seen = seen(gaps);
+    let fields: Vec<(&str, String)> =
+        seen.iter().map(|loss| (loss.words.name, of(loss).trim_end().to_string())).collect();
+    object(&fields).trim_end().to_string()
+}
+
+#[cfg(test)]
+mod tests {
+    use super::{facts, fields, lines};
+    use lumbryth::{Gap, Gaps};
+
+    fn set(gap: &mut Gap, count: u64, first: usize) {
+        gap.count = count;
+        gap.first = Some(first);
+    }
+
+    fn each(count: u64) -> Gaps {
+        let mut gaps = Gaps::default();
+        let Gaps { short, dropped, skipped, zeros, stray, given_up, open, .. } = &mut gaps;
+        for (i, gap) in [short, dropped, skipped, zeros, stray, given_up, open].into_iter().enumerate() {
+            set(gap, count, 16 + i);
+        }
+        gaps
+    }
+
+    #[test]
+    fn none() {
+        let gaps = Gaps::default();
+        assert_eq!((lines(&gaps), facts(&gaps), fields(&gaps)), (String::new(), vec!["none seen".into()], "{}".into()));
+    }
+
+    #[test]
+    fn one_of_each() {
+        let text = "\
+Stored short: 1 record, at byte 16. The recorder kept only a part of its packet.
+Dropped by the recorder: 1 packet, told at byte 17. By its own count it did not keep it.
+Skipped: 1 data packet, at byte 18. A part of it is not in the file.
+Zeros only: 1 record, at byte 19. Something else may have stood there.
+Without a beginning: 1 packet, at byte 20. What it continues is not in the file.
+Broken off: 1 message, at byte 21, where another begins. Its rest is not in the file.
+Open at the end: 1 message, begun at byte 22. Its rest is not in the file.
+";
+        assert_eq!(lines(&each(1)), text);
+    }
+
+    #[test]
+    fn more_of_each() {
+        let text = "\
+Stored short: 3 records, the first at byte 16. The recorder kept only a part of their packets.
+Dropped by the recorder: 3 packets, first told at byte 17. By its own count it did not keep them.
+Skipped: 3 data packets, the first at byte 18. A part of each is not in the file.
+Zeros only: 3 records, the first at byte 19. Something else may have stood there.
+Without a beginning: 3 packets, the first at byte 20. What they continue is not in the file.
+Broken off: 3 messages, the first at byte 21, where another begins. Their rest is not in the file.
+Open at the end: 3 messages, the first begun at byte 22. Their rest is not in the file.
+";
+        assert_eq!(lines(&each(3)), text);
+    }
+
+    #[test]
+    fn as_facts_and_fields() {
+        let mut gaps = Gaps::default();
+        set(&mut gaps.given_up, 2, 40);
+        set(&mut gaps.short, 1, 16);
+        let told = [
+            "stored short, 1 record, at byte 16",
+            "broken off, 2 messages, the first at byte 40, where another begins",
+        ];
+        assert_eq!(facts(&gaps), told);
+        assert_eq!(fields(&gaps), r#"{"short":{"count":1,"first":16},"given_up":{"count":2,"first":40}}"#);
+    }
+}
