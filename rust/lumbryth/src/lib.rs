@@ -34,11 +34,9 @@ mod ffi;
 mod items;
 mod kind;
 mod refusal;
-mod standin;
 
 pub use kind::FrameType;
 pub use refusal::Refusal;
-pub use standin::{gaps, Gap, Gaps};
 
 /// The longest trace that is taken, in bytes.
 pub const FILE_MAX: usize = 1_048_576;
