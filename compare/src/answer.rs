@@ -225,7 +225,7 @@ impl Lender {
             }
         }
         let more = needed + [1, 0, 2, 9, 64][self.turn % 5];
-        let lent = if self.turn % 7 == 0 { 0 } else { more };
+        let lent = if self.turn.is_multiple_of(7) { 0 } else { more };
         let room = self.room(expected);
         self.call(expected, lent, room, call, case)
     }

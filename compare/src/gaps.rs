@@ -51,8 +51,8 @@ pub fn is_acl(datalink: u64, record: &[u8]) -> bool {
     let flags = be32(record, 8);
     match datalink {
         2001 => [4, 5].contains(&(flags % 65536)),
-        1002 => flags / 2 % 2 == 0 && record.get(24) == Some(&2),
-        _ => flags / 2 % 2 == 0,
+        1002 => flags / 2 % 2 != 1 && record.get(24) == Some(&2),
+        _ => flags / 2 % 2 != 1,
     }
 }
 
@@ -87,8 +87,8 @@ pub fn packet_of(datalink: u64, at: usize, record: &[u8]) -> Option<Packet<'_>> 
     let rx = flags % 2 == 1;
     match datalink {
         2001 if [4, 5].contains(&(flags % 65536)) => fragment(at, rx, bytes),
-        1001 if flags / 2 % 2 == 0 => fragment(at, rx, bytes),
-        1002 if flags / 2 % 2 == 0 => fragment(at, rx, bytes.strip_prefix(&[2])?),
+        1001 if flags / 2 % 2 != 1 => fragment(at, rx, bytes),
+        1002 if flags / 2 % 2 != 1 => fragment(at, rx, bytes.strip_prefix(&[2])?),
         _ => None,
     }
 }

@@ -139,7 +139,7 @@ impl<'a> Import<'a> {
             self.guards(enough, file, channel, by)?;
             if expected.number == 1 {
                 self.unworked(lender, file, channel, expected, enough, by)?;
-            } else if self.files % 7 == 0 && !file.is_empty() {
+            } else if self.files.is_multiple_of(7) && !file.is_empty() {
                 self.unworked(lender, file, channel, &Answer::refused(2, &[]), 8 * file.len() - 1, by)?;
                 self.unworked(lender, file, channel, &Answer::refused(2, &[]), self.files % (8 * file.len()), by)?;
             }
@@ -176,7 +176,7 @@ impl<'a> Import<'a> {
     ) -> Checked {
         let places = file.len() / 24;
         let needed = expected.written.len();
-        let lent = if self.files % 3 == 0 { needed.saturating_sub(1) } else { needed + self.files % 2 };
+        let lent = if self.files.is_multiple_of(3) { needed.saturating_sub(1) } else { needed + self.files % 2 };
         let room = lender.room(expected);
         self.lend(enough, fill);
         self.lend_stretches(places);

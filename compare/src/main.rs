@@ -46,7 +46,8 @@ GROUP is codec, names, plan, order, import, tolerant or gaps. --size is the numb
 of random cases; what is exhaustive stays whole. `all` runs every group that this
 build links. There is no sample of gaps. PROGRAM is the built traceprint.
 
-`bench` times the rows of a group, `bench growth` how the times of import grow.
+`bench` times the rows of a group, `bench growth` how the times of import grow,
+`bench gaps` how long the signs take as a part of import.
 --only takes the rows whose label has TEXT, --kib the sizes of the files of import
 (16 to 1024), and --judge says at the end which rows are over their limit. `once`
 imports the trace of a row --times times and does nothing else.";

@@ -145,7 +145,7 @@ fn of_records() -> Vec<Fault> {
             "gaps",
             "gaps: the type byte is not looked at",
             admits(|datalink, r| match datalink {
-                1002 => be32(r, 8) / 2 % 2 == 0,
+                1002 => be32(r, 8) / 2 % 2 != 1,
                 _ => gaps::is_acl(datalink, r),
             }),
         ),
@@ -161,14 +161,14 @@ fn of_records() -> Vec<Fault> {
             SHORT_PACKETS,
             "gaps: 2001 by bit 1 of its codes",
             admits(|datalink, r| match datalink {
-                2001 => be32(r, 8) / 2 % 2 == 0,
+                2001 => be32(r, 8) / 2 % 2 != 1,
                 _ => gaps::is_acl(datalink, r),
             }),
         ),
         (
             "gaps",
             "gaps: only data sent is skipped",
-            admits(|datalink, r| gaps::is_acl(datalink, r) && be32(r, 8) % 2 == 0),
+            admits(|datalink, r| gaps::is_acl(datalink, r) && be32(r, 8) % 2 != 1),
         ),
         (
             SHORT_PACKETS,

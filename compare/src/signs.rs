@@ -6,6 +6,7 @@ use crate::answer::{Answer, Case, Checked, Difference, Lender, Subject, NO_CHANN
 use crate::codec::each_string;
 use crate::expected::{self, LONGEST_FILE};
 use crate::gaps::{self, Found, RIGHT, SIGNS, VALUES};
+use crate::hard;
 use crate::import::{self, Taker};
 use crate::lacking::{self, typed};
 use crate::model;
@@ -64,7 +65,7 @@ const TURNS: usize = 251;
 
 impl<'a> Gaps<'a> {
     pub fn new(subject: &'a dyn Subject) -> Gaps<'a> {
-        let noise = Rng::new(1).bytes(8 * (LONGEST_FILE + 1) + 64 + 2 * GUARD + TURNS);
+        let noise = Rng::new(1).bytes(8 * (LONGEST_FILE + 1) + 64 + 2 * GUARD + 8 + TURNS);
         Gaps { subject, lender: Lender::default(), files: 0, noise, work: Vec::new(), tally: Tally::default() }
     }
 
@@ -79,7 +80,7 @@ impl<'a> Gaps<'a> {
         for tolerant in [0, [1, 2, 1 << 31, u32::MAX][self.files % 4]] {
             let expected = expected(file, tolerant != 0, found.as_ref());
             self.call(file, 8 * n + [0, 0, 1, 64][self.files % 4], tolerant, &expected)?;
-            if self.files % 7 == 0 && n > 0 {
+            if self.files.is_multiple_of(7) && n > 0 {
                 let short = if expected.number == 1 { expected } else { Answer::refused(2, &[]) };
                 for less in [8 * n - 1, self.files % (8 * n), 0] {
                     self.call(file, less, tolerant, &short)?;
@@ -92,19 +93,21 @@ impl<'a> Gaps<'a> {
     /// One call with so much work lent, full of noise. After refusals 1 and 2 it is as it was.
     fn call(&mut self, file: &[u8], lent: usize, tolerant: u32, expected: &Answer) -> Checked {
         let turn = self.files % TURNS;
-        let noise = &self.noise[turn..turn + lent + 2 * GUARD];
+        // Work begins at any place, not at multiples of 8 alone.
+        let front = GUARD + turn % 8;
+        let noise = &self.noise[turn..turn + front + lent + GUARD];
         self.work.clear();
         self.work.extend(noise);
-        let work = &mut self.work[GUARD..GUARD + lent];
+        let work = &mut self.work[front..front + lent];
         let case = || Case {
             call: format!("gaps, tolerant {tolerant}, {lent} bytes of work"),
             inputs: vec![("file", file.to_vec())],
         };
         let room = room(self.lender.answers.iter().sum());
         self.lender.call(expected, 0, room, &mut |_, values| self.subject.gaps(file, work, tolerant, values), &case)?;
-        let kept = if [1, 2].contains(&expected.number) { lent + 2 * GUARD } else { GUARD };
-        let same = |i: &usize| self.work[*i] == noise[*i];
-        match (0..kept).chain(kept.max(GUARD + lent)..lent + 2 * GUARD).find(|i| !same(i)) {
+        let used = if [1, 2].contains(&expected.number) { 0 } else { lent };
+        let changed = |i: &usize| self.work[*i] != noise[*i];
+        match (0..front).chain(front + used..noise.len()).find(changed) {
             None => Ok(()),
             Some(at) => {
                 let case = case();
@@ -112,7 +115,7 @@ impl<'a> Gaps<'a> {
                     call: case.call,
                     inputs: case.inputs,
                     lent: format!("{lent} bytes of work"),
-                    expected: format!("byte {} of work is left as it was", at as i64 - GUARD as i64),
+                    expected: format!("byte {} of work is left as it was", at as i64 - front as i64),
                     got: "it was changed".into(),
                 }))
             }
@@ -132,8 +135,8 @@ fn expected(file: &[u8], tolerant: bool, found: Option<&Found>) -> Answer {
         true => expected::import_tolerant(file, NO_CHANNEL),
         false => expected::import_strict(file, NO_CHANNEL),
     };
-    match found {
-        Some(found) if import.number != 5 => Answer::done(&found.values(RIGHT), Vec::new()),
+    match (found, import.number) {
+        (Some(found), 0 | 6) => Answer::done(&found.values(RIGHT), Vec::new()),
         _ => import,
     }
 }
@@ -253,7 +256,7 @@ fn zeros(gaps: &mut Gaps) -> Checked {
     Ok(())
 }
 
-/// Every packet of up to five bytes over the bytes that matter, by every kind of flags, before a continuation.
+/// Every packet of up to five bytes over the bytes that matter, by every kind of flags, between the fragments of a PDU.
 fn packets(gaps: &mut Gaps) -> Checked {
     let hci = [0, 1, 2, 3, 4, 7, 0xFFFF_FFFC, 0xFFFF_FFFF];
     let codes = [0, 2, 3, 4, 5, 6, 0x1_0004, 0xFFFF_0005, 0x5_0003, 0x0105];
@@ -267,8 +270,9 @@ fn packets(gaps: &mut Gaps) -> Checked {
             each_string(n, &[0x00, 0x01, 0x02, 0x10, 0x20], &mut |packet| {
                 flags.iter().try_for_each(|flags| {
                     let mut trace = Trace::new(datalink);
-                    trace.row(n as u32, *flags, 0, 1, packet);
-                    trace.row(9, 4, 0, 1, &typed(datalink, &acl_packet(0, 1, &[0])));
+                    trace.row(0, 4, 0, 1, &typed(datalink, &acl_packet(0, 2, &[1, 0])));
+                    trace.row(0, *flags, 0, 1, packet);
+                    trace.row(0, 4, 0, 1, &typed(datalink, &acl_packet(0, 1, &[0x41, 0, 7])));
                     gaps.file(&trace.file, NO_CHANNEL)
                 })
             })?;
@@ -308,8 +312,11 @@ fn fragments(gaps: &mut Gaps) -> Checked {
 
 // ---- long files
 
-/// A trace that is full of records, made one after another by their numbers.
-fn full(datalink: u32, record: &dyn Fn(&mut Trace, u32)) -> Vec<u8> {
+/// Makes a record by its number.
+type Record = fn(&mut Trace, u32);
+
+/// A trace that is full of records.
+fn full(datalink: u32, record: Record) -> Vec<u8> {
     let mut trace = Trace::new(datalink);
     for i in 0.. {
         record(&mut trace, i);
@@ -321,28 +328,38 @@ fn full(datalink: u32, record: &dyn Fn(&mut Trace, u32)) -> Vec<u8> {
     trace.file
 }
 
-/// Files of 1,048,576 bytes at most with as many signs as there can be: of one kind, of all links, or far from each other.
+/// A packet in one of 8,192 ways: half as many links, and two directions.
+fn sent(trace: &mut Trace, way: u32, flag: u16, data: &[u8]) {
+    let flags = way % 2 + if trace.datalink == 2001 { 4 } else { 0 };
+    let packet = typed(trace.datalink, &acl_packet((way / 2) as u16, flag, data));
+    trace.row(packet.len() as u32, flags, 0, 1, &packet);
+}
+
+/// 1 from the number `from` on, and 2 before: starts, then continuations.
+fn flag(i: u32, from: u32) -> u16 {
+    if i < from {
+        2
+    } else {
+        1
+    }
+}
+
+/// Files of 1,048,576 bytes at most with as many signs as there can be: of one kind, in all ways, or far from each other.
 fn long(gaps: &mut Gaps) -> Checked {
-    let packet = |trace: &mut Trace, link: u32, flag: u16, data: &[u8]| {
-        let flags = link % 2 | if trace.datalink == 2001 { 4 } else { 0 };
-        let packet = typed(trace.datalink, &acl_packet((link / 2) as u16, flag, data));
-        trace.row(packet.len() as u32, flags, 0, 1, &packet);
-    };
-    let kinds: [&dyn Fn(&mut Trace, u32); 11] = [
-        &|trace, _| trace.row(0, 0, 0, 0, &[]),
-        &|trace, i| trace.row(1 + i % 2, 2, 0, 1, &[9]),
-        &|trace, i| trace.row(0, 2, if i % 2 == 0 { u32::MAX } else { 0 }, 1, &[]),
-        &|trace, i| trace.row(0, if trace.datalink == 2001 { 4 } else { 0 }, i, 1, if i % 2 == 0 { &[] } else { &[2] }),
-        &|trace, _| packet(trace, 9, 1, &[]),
-        &|trace, _| packet(trace, 9, 2, &[]),
-        &|trace, i| packet(trace, i, 2, &[1]),
-        &|trace, i| packet(trace, i.wrapping_mul(2_654_435_761) % 8192, if i < 12_000 { 2 } else { 1 }, &[0]),
-        // One PDU that stays open to the end, and one that takes all links in turn.
-        &|trace, i| packet(trace, 9, if i == 5 { 2 } else { 1 }, &[0xFF]),
-        &|trace, i| packet(trace, i % 64, if i < 64 { 2 } else { 1 }, &[0xFF, 0x00]),
-        &|trace, i| {
-            packet(trace, i % 8192, if i / 8192 % 2 == 0 { 2 } else { 1 }, &[0, 0, 0x41, 0][..3 - i as usize % 2])
-        },
+    let kinds: [Record; 11] = [
+        |trace, _| trace.row(0, 0, 0, 0, &[]),
+        |trace, i| trace.row(1 + i % 2, 2, 0, 1, &[9]),
+        // Drops that are over 32 bits in all.
+        |trace, i| trace.row(0, 2, [u32::MAX, 0][i as usize % 2], 1, &[]),
+        |trace, i| trace.row(0, if trace.datalink == 2001 { 4 } else { 0 }, i, 1, &[2][..i as usize % 2]),
+        |trace, _| sent(trace, 9, 1, &[]),
+        |trace, _| sent(trace, 9, 2, &[]),
+        |trace, i| sent(trace, i, 2, &[1]),
+        |trace, i| sent(trace, i.wrapping_mul(2_654_435_761) % 8192, flag(i, 12_000), &[0]),
+        // One PDU that is open to the end; PDUs of some hundred packets; PDUs of two.
+        |trace, i| sent(trace, 9, flag(i, 6), &[0xFF]),
+        |trace, i| sent(trace, i % 64, flag(i, 64), &[0xFF, 0x00]),
+        |trace, i| sent(trace, i % 8192, flag(i / 8192 % 2, 1), &[0, 0, 0x41][..3 - i as usize % 2]),
     ];
     for datalink in DATALINKS {
         for kind in kinds {
@@ -404,7 +421,10 @@ pub fn run(subject: &dyn Subject, options: &Options) -> Checked {
     log.line("random bytes", &gaps.lender);
     import::random(&mut gaps, &mut rng, size / 5)?;
     import::damaged(&mut gaps, &mut rng, size / 5)?;
-    log.line("random traces of import, whole and damaged", &gaps.lender);
+    for trace in hard::traces() {
+        trace.file(16).map_or(Ok(()), |file| gaps.file(&file, NO_CHANNEL))?;
+    }
+    log.line("random traces of import, whole and damaged, and those of its bench", &gaps.lender);
     tolerant::each_cut(&mut rng, size / 500, &mut |recording, n| gaps.file(&recording.file[..n], NO_CHANNEL))?;
     log.line("every cut of honest recordings", &gaps.lender);
     drops(&mut gaps)?;
