@@ -45,6 +45,7 @@ pub const MADE: &str = "gaps, made traces";
 pub const MIXTURES: &str = "gaps, every mixture of signs";
 pub const SHORT_PACKETS: &str = "gaps, every short packet";
 pub const FOUR: &str = "gaps, every four fragments";
+pub const LONG: &str = "gaps, long files";
 pub const LAW: &str = "gaps, the law of starts";
 
 /// A fault with its label and the group, or part of one, that has to report it.
@@ -131,6 +132,7 @@ fn of_records() -> Vec<Fault> {
         (MADE, "gaps: a rise over the highest count so far", rises(over_the_highest)),
         (MADE, "gaps: a fall counts as a rise", rises(any_change)),
         (MADE, "gaps: drops in 32 bits", finds(|found, _| found.dropped %= 1 << 32)),
+        (LONG, "gaps: drops in 32 bits, long files", finds(|found, _| found.dropped %= 1 << 32)),
         ("gaps", "gaps: a count of 0 is passed over", rises(without_zeros)),
         (
             "gaps",
@@ -396,7 +398,7 @@ fn of_calls() -> Vec<Fault> {
         ("gaps", "gaps: the tolerant rule is strict", rule(|f, w, _, r| gaps::answer(f, w, false, r))),
         ("gaps", "gaps: work one byte short is enough", rule(|f, w, t, r| gaps::answer(f, w + 1, t, r))),
         (
-            "gaps",
+            LONG,
             "gaps: 2 before 1",
             rule(|f, w, t, r| match w < 8 * f.len() {
                 true => Answer::refused(2, &[]),
@@ -462,7 +464,7 @@ fn of_calls() -> Vec<Fault> {
             "gaps: where there is none, the first is at 16",
             answers(|answer, _| answer.values.iter_mut().skip(1).step_by(2).for_each(|first| *first = 16.max(*first))),
         ),
-        ("gaps", "gaps: work is touched by 1", spoils(|number| number == 1)),
+        (LONG, "gaps: work is touched by 1", spoils(|number| number == 1)),
         ("gaps", "gaps: work is touched by 2", spoils(|number| number == 2)),
         (
             "gaps",

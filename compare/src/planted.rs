@@ -174,7 +174,7 @@ const FIXED: &str = "import, fixed traces";
 const FRAGMENTS: &str = "import, every three fragments of two PDUs";
 const CID_1: &str = "import, every four PDUs on CID 1";
 const STRICT: &str = "tolerant, switched to strict";
-const PARTS: [(&str, Group); 10] = [
+const PARTS: [(&str, Group); 11] = [
     (RANDOM, import::run_random),
     (FIXED, import::run_fixed),
     (FRAGMENTS, import::run_excess),
@@ -184,6 +184,7 @@ const PARTS: [(&str, Group); 10] = [
     (misread::MIXTURES, signs::run_mixtures),
     (misread::SHORT_PACKETS, signs::run_packets),
     (misread::FOUR, signs::run_fragments),
+    (misread::LONG, signs::run_long),
     (misread::LAW, signs::run_law),
 ];
 

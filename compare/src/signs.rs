@@ -80,8 +80,9 @@ impl<'a> Gaps<'a> {
         for tolerant in [0, [1, 2, 1 << 31, u32::MAX][self.files % 4]] {
             let expected = expected(file, tolerant != 0, found.as_ref());
             self.call(file, 8 * n + [0, 0, 1, 64][self.files % 4], tolerant, &expected)?;
-            if self.files.is_multiple_of(7) && n > 0 {
-                let short = if expected.number == 1 { expected } else { Answer::refused(2, &[]) };
+            let long = expected.number == 1;
+            if (long || self.files.is_multiple_of(7)) && n > 0 {
+                let short = if long { expected } else { Answer::refused(2, &[]) };
                 for less in [8 * n - 1, self.files % (8 * n), 0] {
                     self.call(file, less, tolerant, &short)?;
                 }
@@ -471,6 +472,12 @@ pub fn run_packets(subject: &dyn Subject, _: &Options) -> Checked {
 
 pub fn run_fragments(subject: &dyn Subject, _: &Options) -> Checked {
     fragments(&mut Gaps::new(subject))
+}
+
+pub fn run_long(subject: &dyn Subject, options: &Options) -> Checked {
+    let mut gaps = Gaps::new(subject);
+    import::large(&mut gaps, &mut Rng::new(options.seed))?;
+    long(&mut gaps)
 }
 
 pub fn run_law(subject: &dyn Subject, options: &Options) -> Checked {
