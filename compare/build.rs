@@ -3,7 +3,7 @@
 use std::env;
 use std::path::PathBuf;
 
-const GROUPS: [&str; 7] = ["CODEC", "NAMES", "PLAN", "ORDER", "IMPORT", "TOLERANT", "STRETCHES"];
+const GROUPS: [&str; 8] = ["CODEC", "NAMES", "PLAN", "ORDER", "IMPORT", "TOLERANT", "STRETCHES", "GAPS"];
 
 fn main() {
     println!("cargo:rerun-if-env-changed=LUMBRYTH_LIB_DIR");

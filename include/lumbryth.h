@@ -23,7 +23,8 @@
  *   lumbryth_is_command_name returns a yes or no instead.
  * - At the front of `values` it stores what it answers or, after a refusal, what
  *   the refusal carries: as many as `values_len` has room for. LUMBRYTH_VALUES
- *   places are room for all. Places past those stay as they were.
+ *   places are room for all, but for lumbryth_gaps, which stores LUMBRYTH_GAPS.
+ *   Places past those stay as they were.
  * - What it writes goes to the front of `out`; the bytes of `out` behind that stay
  *   as they were, and after a refusal all of them do.
  * - An output that is too short is refusal 7 (LUMBRYTH_OUT_SHORT), which carries the
@@ -76,7 +77,7 @@ extern "C" {
 #define LUMBRYTH_LIST_MAX 16777216   /* the longest list that is read */
 #define LUMBRYTH_NAME_MAX 118        /* the longest name that is given */
 #define LUMBRYTH_PACKET_MAX 65540    /* the longest packet that there is; a record that says more is damaged */
-#define LUMBRYTH_VALUES 5            /* the most values that a call stores */
+#define LUMBRYTH_VALUES 5            /* the most values that a call stores, but for lumbryth_gaps */
 
 /* A channel that stands for: any. So does every other number over 255. */
 #define LUMBRYTH_ANY_CHANNEL 256
@@ -268,6 +269,49 @@ uint32_t lumbryth_import_stretches(const uint8_t *file, size_t file_len,
  */
 uint32_t lumbryth_records(const uint8_t *file, size_t file_len,
     uint64_t *starts, size_t starts_len, uint64_t *values, size_t values_len);
+
+/*
+ * A sign that something is not in a trace: how many there are, and the byte of the file
+ * at which the record starts that shows it first; 0 if there is none, as no record
+ * starts there.
+ */
+struct lumbryth_gap {
+    uint64_t count;
+    uint64_t first;
+};
+
+/* What lumbryth_gaps stores in `values`, with room for LUMBRYTH_GAPS. */
+struct lumbryth_signs {
+    struct lumbryth_gap stored_short; /* records whose original length is over the included one */
+    struct lumbryth_gap dropped;      /* packets that the recorder says it dropped */
+    struct lumbryth_gap skipped;      /* ACL packets without one of their fields, or their data */
+    struct lumbryth_gap zeros;        /* records of zeros */
+    struct lumbryth_gap stray;        /* continuations with nothing open */
+    struct lumbryth_gap given_up;     /* partial PDUs given up because another starts */
+    struct lumbryth_gap open;         /* PDUs open at the end */
+};
+#define LUMBRYTH_GAPS (sizeof(struct lumbryth_signs) / sizeof(uint64_t))
+
+/*
+ * Finds the signs in a trace that something is not in it. Which DLCI they are of is not
+ * asked: they are those of the whole records of the file. Without any, something may be
+ * missing all the same, as what leaves no sign cannot be seen.
+ *
+ * The packets dropped are by how much the drops field rises from record to record, from
+ * 0; where it falls nothing is counted, and the first is the first record where it rises.
+ * A partial PDU is given up at the record of the packet that starts another; one that is
+ * open at the end is told by the record of the packet that began it.
+ *
+ * `tolerant` and `work` are as for lumbryth_import. For example
+ *
+ *   struct lumbryth_signs signs;
+ *   number = lumbryth_gaps(file, file_len, work, work_len, 1, (uint64_t *)&signs, LUMBRYTH_GAPS);
+ *
+ * Values: the fields of struct lumbryth_signs, two for each sign.
+ * Refusals: 1 to 5, in this order.
+ */
+uint32_t lumbryth_gaps(const uint8_t *file, size_t file_len,
+    uint8_t *work, size_t work_len, uint32_t tolerant, uint64_t *values, size_t values_len);
 
 #ifdef __cplusplus
 }

@@ -76,6 +76,8 @@ pub trait Subject {
         let (channel, tolerant) = chosen(options);
         self.import(file, work, out, channel, u32::from(tolerant), values)
     }
+    /// The signs that something is not in a file: how many of each, and where the first is.
+    fn gaps(&self, file: &[u8], work: &mut [u8], tolerant: u32, values: &mut [u64]) -> u32;
     /// Whether the call with stretches is linked.
     fn has_stretches(&self) -> bool {
         true
@@ -223,7 +225,7 @@ impl Lender {
             }
         }
         let more = needed + [1, 0, 2, 9, 64][self.turn % 5];
-        let lent = if self.turn % 7 == 0 { 0 } else { more };
+        let lent = if self.turn.is_multiple_of(7) { 0 } else { more };
         let room = self.room(expected);
         self.call(expected, lent, room, call, case)
     }

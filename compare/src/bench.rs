@@ -11,6 +11,7 @@ use std::path::Path;
 
 use crate::answer::{Answer, Case, Checked, Difference, Lender, Subject, NO_CHANNEL};
 use crate::expected;
+use crate::gaps;
 use crate::hard::{self, Hard};
 use crate::import::ack;
 use crate::items::{self, Span};
@@ -47,7 +48,7 @@ struct Row<'a> {
 
 impl Bench<'_> {
     fn wants(&self, label: &str) -> bool {
-        self.options.only.as_ref().map_or(true, |text| label.contains(text.as_str()))
+        self.options.only.as_ref().is_none_or(|text| label.contains(text.as_str()))
     }
 
     fn head(&self, what: &str, copies: bool) {
@@ -401,6 +402,43 @@ fn import_row(bench: &mut Bench, trace: &Hard, files: Vec<Vec<u8>>) -> Checked {
     Ok(())
 }
 
+/// The time of the signs as a part of that of import, on the typical trace.
+fn gaps(bench: &mut Bench) -> Checked {
+    println!("{:64} {:>10} {:>10} {:>10} {:>7} {:>7}", "gaps", "bytes", "gaps", "import", "ratio", "least");
+    for trace in hard::traces() {
+        if !trace.label.starts_with("typical") || !bench.wants(&trace.label) {
+            continue;
+        }
+        for kib in bench.options.kib.as_deref().unwrap_or(&[16, 128, 1024]) {
+            if let Some(files) = trace.files(*kib) {
+                gaps_row(bench.subject, &trace.label, files)?;
+            }
+        }
+    }
+    Ok(())
+}
+
+fn gaps_row(subject: &dyn Subject, label: &str, files: Vec<Vec<u8>>) -> Checked {
+    let mut imports = Files::checked(subject, label, files.clone())?;
+    let (mut work, mut values) = (imports.work.clone(), [0; gaps::VALUES]);
+    for file in &files {
+        let expected = gaps::answer(file, work.len(), false, gaps::RIGHT);
+        check(label, &expected, &mut |_, values| subject.gaps(file, &mut work, 0, values))?;
+    }
+    let times = times::turns(&mut [
+        &mut || {
+            for file in &files {
+                black_box(subject.gaps(black_box(file), &mut work, 0, &mut values));
+            }
+        },
+        &mut || imports.import(subject),
+    ]);
+    let (ratio, least) = (times::ratio(&times[0], &times[1]), times::least(&times[0]) / times::least(&times[1]));
+    let [gaps, import] = [0, 1].map(|i| times::shown(times::median(times[i].clone()) / files.len() as f64));
+    println!("{label:64} {:>10} {gaps:>10} {import:>10} {ratio:>7.3} {least:>7.3}", files[0].len());
+    Ok(())
+}
+
 /// How the times of each trace grow from 128 KiB to 1 MiB, divided by the growth of the bytes.
 fn growth(bench: &mut Bench) -> Checked {
     println!(
@@ -447,6 +485,7 @@ pub fn run(group: &str, subject: &dyn Subject, options: &Options) -> Option<Chec
         "order" => order,
         "import" => import,
         "growth" => growth,
+        "gaps" => gaps,
         _ => return None,
     };
     times::keep_memory();

@@ -15,8 +15,11 @@ use oracle::capture::BTSNOOP_EPOCH_DELTA_US as EPOCH;
 /// The DLCI of all pieces.
 const DLCI: u8 = 18;
 
-pub fn traces() -> impl Iterator<Item = (&'static str, fn(usize) -> Vec<u8>)> {
-    let all: [(&str, fn(usize) -> Vec<u8>); 13] = [
+/// Makes a trace of at most so many bytes.
+type Maker = fn(usize) -> Vec<u8>;
+
+pub fn traces() -> impl Iterator<Item = (&'static str, Maker)> {
+    let all: [(&str, Maker); 13] = [
         ("long paths: a channel for every request", |most| many_channels(most, &request)),
         ("long paths: a channel for every response", |most| many_channels(most, &response)),
         ("long paths: requests for one channel", |most| few_channels(most, &[FIRST], &request)),

@@ -423,7 +423,7 @@ fn sabms(most: usize) -> Vec<u8> {
 /// the handle, and 1 for Rx) and a number under 16.
 fn name_channels(filler: &mut Filler, i: u32, psm: u16, cid: fn(u32, u32) -> u16) -> bool {
     let handle = i % 4096;
-    let (direction, side) = if i / 4096 % 2 == 0 { (Tx, 2 * handle + 1) } else { (Rx, 2 * handle) };
+    let (direction, side) = if (i / 4096).is_multiple_of(2) { (Tx, 2 * handle + 1) } else { (Rx, 2 * handle) };
     let payload: Vec<u8> = (0..16).flat_map(|k| trace::request(psm, cid(side, k))).collect();
     filler.pdu(direction, handle as u16, 1, &payload)
 }

@@ -43,6 +43,11 @@ impl By {
     }
 }
 
+/// Takes the files that generators make, each with a channel to import it by.
+pub trait Taker {
+    fn file(&mut self, file: &[u8], channel: u32) -> Checked;
+}
+
 pub struct Import<'a> {
     subject: &'a dyn Subject,
     rule: Rule,
@@ -104,28 +109,6 @@ impl<'a> Import<'a> {
         }
     }
 
-    /// The file held to the oracle. A difference is reported for the smallest file
-    /// that leaving out records finds.
-    pub fn file(&mut self, file: &[u8], channel: u32) -> Checked {
-        self.once(file, channel).map_err(|found| {
-            let mut found = found;
-            let mut file = file.to_vec();
-            let mut bounds = bounds(&file);
-            let mut i = bounds.len();
-            while i > 1 && file.len() < 100_000 {
-                i -= 1;
-                let mut fewer = file.clone();
-                fewer.drain(bounds[i - 1]..bounds[i]);
-                if let Err(difference) = self.once(&fewer, channel) {
-                    (found, file) = (difference, fewer);
-                    bounds = self::bounds(&file);
-                    i = i.min(bounds.len());
-                }
-            }
-            found
-        })
-    }
-
     fn once(&mut self, file: &[u8], channel: u32) -> Checked {
         let expected = match self.rule {
             Rule::Tolerant => expected::import_tolerant(file, channel),
@@ -156,7 +139,7 @@ impl<'a> Import<'a> {
             self.guards(enough, file, channel, by)?;
             if expected.number == 1 {
                 self.unworked(lender, file, channel, expected, enough, by)?;
-            } else if self.files % 7 == 0 && !file.is_empty() {
+            } else if self.files.is_multiple_of(7) && !file.is_empty() {
                 self.unworked(lender, file, channel, &Answer::refused(2, &[]), 8 * file.len() - 1, by)?;
                 self.unworked(lender, file, channel, &Answer::refused(2, &[]), self.files % (8 * file.len()), by)?;
             }
@@ -193,7 +176,7 @@ impl<'a> Import<'a> {
     ) -> Checked {
         let places = file.len() / 24;
         let needed = expected.written.len();
-        let lent = if self.files % 3 == 0 { needed.saturating_sub(1) } else { needed + self.files % 2 };
+        let lent = if self.files.is_multiple_of(3) { needed.saturating_sub(1) } else { needed + self.files % 2 };
         let room = lender.room(expected);
         self.lend(enough, fill);
         self.lend_stretches(places);
@@ -327,6 +310,34 @@ impl<'a> Import<'a> {
     }
 }
 
+impl Taker for Import<'_> {
+    /// The file held to the oracle.
+    fn file(&mut self, file: &[u8], channel: u32) -> Checked {
+        smallest(file, &mut |file| self.once(file, channel))
+    }
+}
+
+/// Checks a file. A difference is reported for the smallest file that leaving out records finds.
+pub fn smallest(file: &[u8], check: &mut dyn FnMut(&[u8]) -> Checked) -> Checked {
+    check(file).map_err(|found| {
+        let mut found = found;
+        let mut file = file.to_vec();
+        let mut bounds = bounds(&file);
+        let mut i = bounds.len();
+        while i > 1 && file.len() < 100_000 {
+            i -= 1;
+            let mut fewer = file.clone();
+            fewer.drain(bounds[i - 1]..bounds[i]);
+            if let Err(difference) = check(&fewer) {
+                (found, file) = (difference, fewer);
+                bounds = self::bounds(&file);
+                i = i.min(bounds.len());
+            }
+        }
+        found
+    })
+}
+
 /// Where the records of a file begin and end.
 fn bounds(file: &[u8]) -> Vec<usize> {
     let mut bounds = vec![16];
@@ -381,26 +392,26 @@ pub fn small(datalink: u32) -> Trace {
 }
 
 /// Headers and what little may follow them, and every beginning of good traces.
-fn short(import: &mut Import, rng: &mut Rng) -> Checked {
+pub fn short(taker: &mut dyn Taker, rng: &mut Rng) -> Checked {
     let bare = Trace::new(1002).file;
     for n in 0..=bare.len() {
-        import.file(&bare[..n], NO_CHANNEL)?;
+        taker.file(&bare[..n], NO_CHANNEL)?;
     }
     for at in 0..bare.len() {
         for byte in 0..=255 {
             for good in [&bare, &example().file] {
                 let mut file = good.clone();
                 file[at] = byte;
-                import.file(&file, NO_CHANNEL)?;
+                taker.file(&file, NO_CHANNEL)?;
             }
         }
     }
     for datalink in [0, 1000, 1003, 2000, 2002, 1001 << 8, u32::MAX, 1001u32.swap_bytes(), 1 << 31 | 1001] {
-        import.file(&Trace::new(datalink).file, NO_CHANNEL)?;
+        taker.file(&Trace::new(datalink).file, NO_CHANNEL)?;
     }
     for n in 1..=2 {
         let all: Vec<u8> = (0..=255).collect();
-        each_string(n, &all, &mut |tail| import.file(&[&bare[..], tail].concat(), NO_CHANNEL))?;
+        each_string(n, &all, &mut |tail| taker.file(&[&bare[..], tail].concat(), NO_CHANNEL))?;
     }
     // A record whose included length is anything about what is there.
     for there in 0..=40usize {
@@ -410,32 +421,32 @@ fn short(import: &mut Import, rng: &mut Rng) -> Checked {
             file.extend(included.to_be_bytes());
             file.extend([0; 16]);
             file.extend(vec![0; there]);
-            import.file(&file, NO_CHANNEL)?;
+            taker.file(&file, NO_CHANNEL)?;
         }
     }
     for datalink in trace::DATALINKS {
         let good = small(datalink).file;
         for n in 0..=good.len() {
-            import.file(&good[..n], NO_CHANNEL)?;
+            taker.file(&good[..n], NO_CHANNEL)?;
         }
     }
     for _ in 0..20 {
         let (trace, channel) = trace::structured(rng, 20);
         for n in 0..=trace.file.len().min(4000) {
-            import.file(&trace.file[..n], channel)?;
+            taker.file(&trace.file[..n], channel)?;
         }
     }
     Ok(())
 }
 
 /// Every change of one byte in small traces.
-fn one_byte(import: &mut Import) -> Checked {
+pub fn one_byte(taker: &mut dyn Taker) -> Checked {
     for good in trace::DATALINKS.map(small).into_iter().chain([example()]) {
         for at in 0..good.file.len() {
             for byte in 0..=255 {
                 let mut file = good.file.clone();
                 file[at] = byte;
-                import.file(&file, NO_CHANNEL)?;
+                taker.file(&file, NO_CHANNEL)?;
             }
         }
     }
@@ -444,7 +455,7 @@ fn one_byte(import: &mut Import) -> Checked {
 
 /// Every sequence of `n` steps out of `alphabet`, each appended to the trace in turn
 /// by its function, followed by `end`.
-fn sequences<T>(
+pub fn sequences<T>(
     n: usize,
     alphabet: &[T],
     start: &Trace,
@@ -463,7 +474,7 @@ fn sequences<T>(
 
 /// Every sequence of four fragments out of fifteen: parts of one PDU as starts and
 /// as continuations.
-fn fragments(import: &mut Import) -> Checked {
+pub fn fragments(taker: &mut dyn Taker) -> Checked {
     let pdu = trace::l2cap(0x41, &trace::uih(18, &ack(0), None, false));
     let cuts = [0, 1, 3, 5, pdu.len()];
     let mut alphabet: Vec<(u16, &[u8])> = Vec::new();
@@ -479,12 +490,12 @@ fn fragments(import: &mut Import) -> Checked {
         let stamp = EPOCH + trace.file.len() as u64 * 1000;
         trace.fragment(Rx, stamp, 0x40, *flag, data);
     };
-    sequences(4, &alphabet, &Trace::new(2001), &step, &mut |trace| import.file(&trace.file, NO_CHANNEL))
+    sequences(4, &alphabet, &Trace::new(2001), &step, &mut |trace| taker.file(&trace.file, NO_CHANNEL))
 }
 
 /// Every three fragments out of twenty: parts of two PDUs in a row, as starts and as
 /// continuations, so that one may have bytes of the other in excess.
-fn excess(import: &mut Import) -> Checked {
+pub fn excess(taker: &mut dyn Taker) -> Checked {
     let one = trace::l2cap(0x41, &trace::uih(18, &ack(0), None, false));
     let both = [&one[..], &trace::l2cap(0x41, &trace::uih(18, &ack(1), None, false))].concat();
     let cuts = [0, 5, one.len(), one.len() + 2, one.len() + 9, both.len()];
@@ -501,7 +512,7 @@ fn excess(import: &mut Import) -> Checked {
         let stamp = EPOCH + trace.file.len() as u64 * 1000;
         trace.fragment(Rx, stamp, 0x40, *flag, data);
     };
-    sequences(3, &alphabet, &Trace::new(1001), &step, &mut |trace| import.file(&trace.file, NO_CHANNEL))
+    sequences(3, &alphabet, &Trace::new(1001), &step, &mut |trace| taker.file(&trace.file, NO_CHANNEL))
 }
 
 /// One step on a link: direction, CID, payload.
@@ -669,7 +680,7 @@ fn rfcomm(import: &mut Import) -> Checked {
 
 /// Every ACL packet of up to six bytes over the bytes that matter, between the
 /// fragments of a PDU.
-fn packets(import: &mut Import) -> Checked {
+pub fn packets(taker: &mut dyn Taker) -> Checked {
     let pdu = trace::l2cap(0x41, &trace::uih(18, &ack(1), None, false));
     for datalink in trace::DATALINKS {
         let mut start = Trace::new(datalink);
@@ -680,27 +691,27 @@ fn packets(import: &mut Import) -> Checked {
                 trace.acl(Rx, EPOCH + 1000, 0, packet);
                 trace.fragment(Rx, EPOCH + 2000, 0x40, 1, &pdu[9..]);
                 trace.pdu(Tx, EPOCH + 3000, 0x40, 0x41, &trace::uih(18, &ack(2), None, false));
-                import.file(&trace.file, NO_CHANNEL)
+                taker.file(&trace.file, NO_CHANNEL)
             })?;
         }
     }
     Ok(())
 }
 
-fn random(import: &mut Import, rng: &mut Rng, size: u64) -> Checked {
+pub fn random(taker: &mut dyn Taker, rng: &mut Rng, size: u64) -> Checked {
     for i in 0..size {
         let (trace, channel) = trace::structured(rng, if i % 100 == 0 { 600 } else { 60 });
-        import.file(&trace.file, channel)?;
+        taker.file(&trace.file, channel)?;
     }
     Ok(())
 }
 
-fn damaged(import: &mut Import, rng: &mut Rng, size: u64) -> Checked {
+pub fn damaged(taker: &mut dyn Taker, rng: &mut Rng, size: u64) -> Checked {
     for _ in 0..size / 4 {
         let (trace, channel) = trace::structured(rng, 30);
         for _ in 0..4 {
             let file = trace::damaged(rng, &trace);
-            import.file(&file, channel)?;
+            taker.file(&file, channel)?;
         }
     }
     Ok(())
@@ -761,15 +772,15 @@ pub fn filled(rng: &mut Rng, length: usize) -> (Trace, u32) {
     (trace, channel)
 }
 
-fn large(import: &mut Import, rng: &mut Rng) -> Checked {
+pub fn large(taker: &mut dyn Taker, rng: &mut Rng) -> Checked {
     for round in 0..4 {
         for length in [LONGEST_FILE - 1, LONGEST_FILE, LONGEST_FILE + 1] {
             let (trace, channel) = filled(rng, length);
-            import.file(&trace.file, if round % 2 == 0 { NO_CHANNEL } else { channel })?;
+            taker.file(&trace.file, if round % 2 == 0 { NO_CHANNEL } else { channel })?;
         }
     }
-    import.file(&vec![0; LONGEST_FILE + 1], NO_CHANNEL)?;
-    import.file(&vec![0; LONGEST_FILE], NO_CHANNEL)
+    taker.file(&vec![0; LONGEST_FILE + 1], NO_CHANNEL)?;
+    taker.file(&vec![0; LONGEST_FILE], NO_CHANNEL)
 }
 
 pub fn run_rule(subject: &dyn Subject, options: &Options, group: &'static str, rule: Rule, size: u64) -> Checked {

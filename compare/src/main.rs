@@ -5,11 +5,14 @@ mod bench;
 mod codec;
 mod deep;
 mod expected;
+mod gaps;
 mod hard;
 mod honest;
 mod import;
 mod items;
+mod lacking;
 mod misprint;
+mod misread;
 mod model;
 mod names;
 mod order;
@@ -18,6 +21,7 @@ mod planted;
 mod proved;
 mod rng;
 mod sample;
+mod signs;
 mod stats;
 mod times;
 mod tolerant;
@@ -38,11 +42,12 @@ usage: compare GROUP [--seed N] [--size N] [--against proved|model]
        compare sample GROUP FILE
        compare stats import|honest|bench [--seed N] [--size N]
 
-GROUP is codec, names, plan, order, import or tolerant. --size is the number of
-random cases; what is exhaustive stays whole. `all` runs every group that this
-build links. PROGRAM is the built traceprint.
+GROUP is codec, names, plan, order, import, tolerant or gaps. --size is the number
+of random cases; what is exhaustive stays whole. `all` runs every group that this
+build links. There is no sample of gaps. PROGRAM is the built traceprint.
 
-`bench` times the rows of a group, `bench growth` how the times of import grow.
+`bench` times the rows of a group, `bench growth` how the times of import grow,
+`bench gaps` how long the signs take as a part of import.
 --only takes the rows whose label has TEXT, --kib the sizes of the files of import
 (16 to 1024), and --judge says at the end which rows are over their limit. `once`
 imports the trace of a row --times times and does nothing else.";
@@ -111,13 +116,14 @@ fn cases(counts: &[u64]) -> String {
 
 pub type Group = fn(&dyn Subject, &Options) -> Checked;
 
-const GROUPS: [(&str, Group); 6] = [
+const GROUPS: [(&str, Group); 7] = [
     ("codec", codec::run),
     ("names", names::run),
     ("plan", plan::run),
     ("order", order::run),
     ("import", import::run),
     ("tolerant", tolerant::run),
+    ("gaps", signs::run),
 ];
 
 /// Prints a difference; an input too long to print is left in a file.

@@ -7,6 +7,7 @@ use std::collections::BTreeMap;
 
 use crate::answer::{self, Answer, Subject, NO_CHANNEL};
 use crate::expected::{LONGEST_FILE, LONGEST_PAYLOAD};
+use crate::gaps;
 use oracle::capture;
 use oracle::mdr::DataType;
 
@@ -87,6 +88,10 @@ impl Subject for Model {
             fill(stretches, &open(file, answer.values[0]));
         }
         number
+    }
+
+    fn gaps(&self, file: &[u8], work: &mut [u8], tolerant: u32, values: &mut [u64]) -> u32 {
+        store(&gaps::answer(file, work.len(), tolerant != 0, gaps::RIGHT), &mut [], values)
     }
 }
 
@@ -375,7 +380,7 @@ fn le16(bytes: &[u8], at: usize) -> Option<u16> {
     Some(u16::from(*bytes.get(at)?) + u16::from(*bytes.get(at + 1)?) * 256)
 }
 
-fn be(bytes: &[u8]) -> u64 {
+pub fn be(bytes: &[u8]) -> u64 {
     bytes.iter().fold(0, |n, &b| n * 256 + u64::from(b))
 }
 
@@ -416,6 +421,12 @@ fn fragment(packet: &[u8]) -> Option<(u16, u16, &[u8])> {
     let field = le16(packet, 0)?;
     let length = le16(packet, 2)?;
     Some((field % 4096, field / 4096 % 4, packet.get(4..4 + usize::from(length))?))
+}
+
+/// How many packets start a PDU.
+pub fn starts(datalink: u64, rows: &[&[u8]]) -> usize {
+    let fragments = rows.iter().filter_map(|row| packet(datalink, row)).filter_map(|(_, _, bytes)| fragment(bytes));
+    fragments.filter(|(_, flag, _)| *flag != 1).count()
 }
 
 pub fn pdus(datalink: u64, rows: &[&[u8]], reading: Reading) -> Vec<Pdu> {
@@ -642,25 +653,32 @@ pub fn dlcis(pieces: &[Piece]) -> Vec<u8> {
     dlcis
 }
 
-pub fn import(file: &[u8], work: usize, channel: u32, tolerant: bool, reading: Reading) -> Answer {
+/// The refusals of a file that come before its packets are looked at.
+pub fn refusal(file: &[u8], work: usize, tolerant: bool) -> Option<Answer> {
     if file.len() > LONGEST_FILE {
-        return Answer::refused(1, &[]);
+        return Some(Answer::refused(1, &[]));
     }
     if work < 8 * file.len() {
-        return Answer::refused(2, &[]);
+        return Some(Answer::refused(2, &[]));
     }
     if file.len() < 16 || file[..12] != *b"btsnoop\0\0\0\0\x01" {
-        return Answer::refused(3, &[]);
+        return Some(Answer::refused(3, &[]));
     }
     let datalink = be(&file[12..16]);
     if ![1001, 1002, 2001].contains(&datalink) {
-        return Answer::refused(4, &[datalink]);
+        return Some(Answer::refused(4, &[datalink]));
     }
+    let tail = 16 + records(&file[16..]).1;
+    (!tolerant && tail < file.len()).then(|| Answer::refused(5, &[tail as u64]))
+}
+
+pub fn import(file: &[u8], work: usize, channel: u32, tolerant: bool, reading: Reading) -> Answer {
+    if let Some(refusal) = refusal(file, work, tolerant) {
+        return refusal;
+    }
+    let datalink = be(&file[12..16]);
     let (rows, taken) = records(&file[16..]);
     let tail = 16 + taken;
-    if !tolerant && tail < file.len() {
-        return Answer::refused(5, &[tail as u64]);
-    }
     let pieces = pieces(&pdus(datalink, &rows, reading), reading);
     for dlci in dlcis(&pieces) {
         if channel != NO_CHANNEL && channel != u32::from(dlci / 2) {

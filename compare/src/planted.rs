@@ -3,9 +3,9 @@
 
 use crate::answer::{chosen, Answer, Stretch, Subject, NO_CHANNEL};
 use crate::expected::LONGEST_FILE;
-use crate::import;
+use crate::misread::{self, Misread};
 use crate::model::{self, Reading, RIGHT};
-use crate::{tolerant, Group, Options};
+use crate::{import, signs, tolerant, Group, Options};
 
 /// The model with some of its calls replaced.
 #[derive(Clone, Copy)]
@@ -30,6 +30,7 @@ struct Planted {
     store_with: fn(&Answer, &mut [u8], &mut [u64]) -> u32,
     /// Changes work in the call with options, whatever the answer.
     spoils_with: bool,
+    gaps: Misread,
 }
 
 fn read(file: &[u8], work: usize, channel: u32, tolerant: bool, reading: Reading) -> Answer {
@@ -58,6 +59,7 @@ const NONE: Planted = Planted {
     import_with: |file, work, options| by_options(file, work, chosen(options)),
     store_with: model::store,
     spoils_with: false,
+    gaps: misread::NONE,
 };
 
 fn by_options(file: &[u8], work: usize, (channel, tolerant): (u32, bool)) -> Answer {
@@ -147,6 +149,10 @@ impl Subject for Planted {
         }
         (self.store_with)(&(self.import_with)(file, work.len(), options), out, values)
     }
+
+    fn gaps(&self, file: &[u8], work: &mut [u8], tolerant: u32, values: &mut [u64]) -> u32 {
+        self.gaps.call(file, work, tolerant != 0, values)
+    }
 }
 
 fn swap(text: &[u8], from: &str, to: &str) -> Vec<u8> {
@@ -168,12 +174,18 @@ const FIXED: &str = "import, fixed traces";
 const FRAGMENTS: &str = "import, every three fragments of two PDUs";
 const CID_1: &str = "import, every four PDUs on CID 1";
 const STRICT: &str = "tolerant, switched to strict";
-const PARTS: [(&str, Group); 5] = [
+const PARTS: [(&str, Group); 11] = [
     (RANDOM, import::run_random),
     (FIXED, import::run_fixed),
     (FRAGMENTS, import::run_excess),
     (CID_1, import::run_doubled),
     (STRICT, tolerant::run_strict),
+    (misread::MADE, signs::run_made),
+    (misread::MIXTURES, signs::run_mixtures),
+    (misread::SHORT_PACKETS, signs::run_packets),
+    (misread::FOUR, signs::run_fragments),
+    (misread::LONG, signs::run_long),
+    (misread::LAW, signs::run_law),
 ];
 
 const EXCESS: Planted =
@@ -920,6 +932,8 @@ pub fn unreported(groups: &[(&'static str, Group)], options: &Options) -> (usize
     let mut missed = Vec::new();
     let mut faults = faults();
     faults.extend(faults_of_options());
+    let misread = misread::faults().into_iter();
+    faults.extend(misread.map(|(group, label, gaps)| (group, label, Planted { gaps, ..NONE })));
     for (name, label, planted) in &faults {
         let (_, group) = groups.iter().chain(&PARTS).find(|(group, _)| group == name).expect("a group");
         if group(planted, options).is_ok() {

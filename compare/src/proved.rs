@@ -12,16 +12,17 @@ pub struct Proved;
 
 /// The groups that this build links.
 pub fn has(group: &str) -> bool {
-    match group {
-        "codec" => cfg!(feature = "codec"),
-        "names" => cfg!(feature = "names"),
-        "plan" => cfg!(feature = "plan"),
-        "order" => cfg!(feature = "order"),
-        "import" => cfg!(feature = "import"),
-        "tolerant" => cfg!(feature = "tolerant"),
-        "stretches" => cfg!(feature = "stretches"),
-        _ => false,
-    }
+    let groups = [
+        ("codec", cfg!(feature = "codec")),
+        ("names", cfg!(feature = "names")),
+        ("plan", cfg!(feature = "plan")),
+        ("order", cfg!(feature = "order")),
+        ("import", cfg!(feature = "import")),
+        ("tolerant", cfg!(feature = "tolerant")),
+        ("stretches", cfg!(feature = "stretches")),
+        ("gaps", cfg!(feature = "gaps")),
+    ];
+    groups.contains(&(group, true))
 }
 
 /// Declares one call behind its feature: with the feature the library's, and
@@ -65,6 +66,9 @@ call!("tolerant", lumbryth_import_with(
 call!("stretches", lumbryth_import_stretches(
     file: *const u8, file_len: usize, work: *mut u8, work_len: usize, stretches: *mut Stretch, stretches_len: usize,
     out: *mut u8, out_len: usize, channel: u32, tolerant: u32, values: *mut u64, values_len: usize));
+call!("gaps", lumbryth_gaps(
+    file: *const u8, file_len: usize, work: *mut u8, work_len: usize, tolerant: u32, values: *mut u64,
+    values_len: usize));
 
 // Safety, of each call: the pointers and lengths are those of slices that live
 // through it, and the slices written do not overlap any other.
@@ -226,6 +230,20 @@ impl Subject for Proved {
                 out.len(),
                 options.as_ptr(),
                 options.len(),
+                values.as_mut_ptr(),
+                values.len(),
+            )
+        }
+    }
+
+    fn gaps(&self, file: &[u8], work: &mut [u8], tolerant: u32, values: &mut [u64]) -> u32 {
+        unsafe {
+            lumbryth_gaps(
+                file.as_ptr(),
+                file.len(),
+                work.as_mut_ptr(),
+                work.len(),
+                tolerant,
                 values.as_mut_ptr(),
                 values.len(),
             )

@@ -51,7 +51,7 @@ impl Sample {
         if answer.number == 0 && needed > 0 {
             self.case(op, numbers, inputs, needed - 1, answer);
         }
-        if self.cases % 3 == 0 {
+        if self.cases.is_multiple_of(3) {
             self.case(op, numbers, inputs, needed + 1, answer);
         }
     }

@@ -4,7 +4,7 @@
 use crate::answer::{Answer, Checked, Difference, Subject};
 use crate::expected;
 use crate::honest::{self, Honest, Scale};
-use crate::import::{self, Import, Rule};
+use crate::import::{self, Import, Rule, Taker};
 use crate::rng::Rng;
 use crate::Options;
 

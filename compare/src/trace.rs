@@ -31,11 +31,15 @@ impl Trace {
     /// A record; original length and drops are told from the rest, so that nothing
     /// can lean on them.
     pub fn record(&mut self, flags: u32, stamp: u64, packet: &[u8]) {
-        let included = packet.len() as u32;
-        self.file.extend((included ^ (stamp as u32 & 0xFF)).to_be_bytes());
-        self.file.extend(included.to_be_bytes());
-        self.file.extend(flags.to_be_bytes());
-        self.file.extend((stamp as u32).rotate_left(7).to_be_bytes());
+        let original = packet.len() as u32 ^ (stamp as u32 & 0xFF);
+        self.row(original, flags, (stamp as u32).rotate_left(7), stamp, packet);
+    }
+
+    /// A record of these fields; the included length is the packet's.
+    pub fn row(&mut self, original: u32, flags: u32, drops: u32, stamp: u64, packet: &[u8]) {
+        for word in [original, packet.len() as u32, flags, drops] {
+            self.file.extend(word.to_be_bytes());
+        }
         self.file.extend(stamp.to_be_bytes());
         self.file.extend(packet);
         self.ends.push(self.file.len());

@@ -98,6 +98,15 @@ extern "C" {
         values: *mut u64,
         values_len: usize,
     ) -> u32;
+    fn lumbryth_gaps(
+        file: *const u8,
+        file_len: usize,
+        work: *mut u8,
+        work_len: usize,
+        tolerant: u32,
+        values: *mut u64,
+        values_len: usize,
+    ) -> u32;
 }
 
 pub fn unpack(wire: &[u8], out: &mut [u8], values: &mut [u64]) -> u32 {
@@ -233,6 +242,21 @@ pub fn records(file: &[u8], starts: &mut [u64], values: &mut [u64]) -> u32 {
             file.len(),
             starts.as_mut_ptr(),
             starts.len(),
+            values.as_mut_ptr(),
+            values.len(),
+        )
+    }
+}
+
+pub fn gaps(file: &[u8], work: &mut [u8], tolerant: u32, values: &mut [u64]) -> u32 {
+    // Safety: as for `unpack`; `work` too is borrowed for the call alone.
+    unsafe {
+        lumbryth_gaps(
+            file.as_ptr(),
+            file.len(),
+            work.as_mut_ptr(),
+            work.len(),
+            tolerant,
             values.as_mut_ptr(),
             values.len(),
         )

@@ -50,8 +50,10 @@ pub const PACKET_MAX: u32 = 65_540;
 
 /// A channel number that stands for any.
 const ANY_CHANNEL: u32 = 256;
-/// The most values that a call stores.
+/// The most values that a call stores, but for that of the gaps.
 const VALUES: usize = 5;
+/// The values of the gaps: two for each sign.
+const GAPS: usize = 14;
 
 /// Which way a frame went. There is no third.
 #[derive(Debug, Clone, Copy, PartialEq, Eq, PartialOrd, Ord, Hash)]
@@ -237,6 +239,37 @@ pub struct Records {
     pub starts: Vec<usize>,
     /// The file's length, or where the record starts that passes its end.
     pub tail: usize,
+}
+
+/// A sign that something is not in a trace.
+#[derive(Debug, Clone, PartialEq, Eq, Default)]
+#[non_exhaustive]
+pub struct Gap {
+    /// How many there are.
+    pub count: u64,
+    /// The byte at which the record starts that shows it first.
+    pub first: Option<usize>,
+}
+
+/// The signs in a trace that something is not in it, as [`gaps`] finds them. If none is seen, something may be missing all the
+/// same.
+#[derive(Debug, Clone, PartialEq, Eq, Default)]
+#[non_exhaustive]
+pub struct Gaps {
+    /// Records stored short: their original length is over the included one.
+    pub short: Gap,
+    /// Packets that the recorder says it dropped: by how much the drops field rises from record to record, from 0.
+    pub dropped: Gap,
+    /// ACL packets that were skipped because a field or data is not there.
+    pub skipped: Gap,
+    /// Records of zeros.
+    pub zeros: Gap,
+    /// Continuations with nothing open.
+    pub stray: Gap,
+    /// Partial PDUs given up because another starts; the record is that of the start.
+    pub given_up: Gap,
+    /// PDUs open at the end; the record is that of the packet that began the first of them.
+    pub open: Gap,
 }
 
 /// A file that ends inside a record.
@@ -505,6 +538,53 @@ pub fn records(file: &[u8]) -> Result<Records, Refusal> {
             Ok(Records { starts: starts.into_iter().map(|start| start as usize).collect(), tail: values[1] as usize })
         }
         number => Err(Refusal::of(number, &values)),
+    }
+}
+
+/// The signs in a trace that something is not in it: how many of each there are, and where the first is. They are those of the
+/// whole records of the file, whatever DLCI they are of. Refuses as [`import`] does, but for [`Refusal::NoStream`].
+///
+/// ```
+/// use lumbryth::{gaps, Gaps, TailRule};
+///
+/// // A record of zeros, and one that was stored short and does not hold a packet's header.
+/// let mut file = b"btsnoop\0\0\0\0\x01\0\0\x03\xEA".to_vec();
+/// file.extend([0; 24]);
+/// file.extend([0, 0, 0, 9, 0, 0, 0, 2, 0, 0, 0, 1, 0, 0, 0, 0, 0, 0, 0, 0, 0, 0, 0, 0, 0x02, 0x40]);
+/// let found = gaps(&file, TailRule::Strict)?;
+/// assert_eq!((found.zeros.count, found.zeros.first), (1, Some(16)));
+/// assert_eq!((found.short.count, found.short.first), (1, Some(40)));
+/// assert_eq!((found.skipped.count, found.skipped.first), (1, Some(40)));
+/// assert_eq!((found.open.count, found.open.first), (0, None));
+///
+/// // Nothing is seen to be missing in the example.
+/// let headset = std::fs::read("../../examples/headset.btsnoop")?;
+/// assert_eq!(gaps(&headset, TailRule::Strict)?, Gaps::default());
+/// # Ok::<(), Box<dyn std::error::Error>>(())
+/// ```
+pub fn gaps(file: &[u8], tail: TailRule) -> Result<Gaps, Refusal> {
+    let mut work = vec![0; 8 * lent(file)];
+    let mut values = [0; GAPS];
+    match ffi::gaps(file, &mut work, u32::from(tail == TailRule::Tolerant), &mut values) {
+        0 => Ok(found(&values)),
+        number => Err(Refusal::of(number, &values)),
+    }
+}
+
+/// The signs by their values, two for each.
+fn found(values: &[u64; GAPS]) -> Gaps {
+    let gap = |i: usize| {
+        let (count, first) = (values[2 * i], values[2 * i + 1]);
+        Gap { count, first: (count > 0).then_some(first as usize) }
+    };
+    Gaps {
+        short: gap(0),
+        dropped: gap(1),
+        skipped: gap(2),
+        zeros: gap(3),
+        stray: gap(4),
+        given_up: gap(5),
+        open: gap(6),
     }
 }
 

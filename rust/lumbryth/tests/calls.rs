@@ -1,8 +1,8 @@
 //! The calls by document 01's examples: each refusal with its number, values and words, and what is empty, long or full.
 
 use lumbryth::{
-    capture_order, fixture_name, import, import_stretches, is_command_name, pack, plan, records, unpack, Direction,
-    Fixture, Frame, FrameType, Records, Refusal, Span, TailRule,
+    capture_order, fixture_name, gaps, import, import_stretches, is_command_name, pack, plan, records, unpack,
+    Direction, Fixture, Frame, FrameType, Gap, Gaps, Records, Refusal, Span, TailRule,
 };
 
 /// Document 01's worked example.
@@ -184,4 +184,114 @@ fn stretches_that_are_open() {
         }
     }
     refused(import_stretches(&[0; 16], None, TailRule::Strict), Refusal::NotBtsnoop, 3, &[]);
+}
+
+/// A file of these records, of datalink 1002: original length, flags, drops and packet.
+fn recorded(records: &[(u32, u32, u32, &[u8])]) -> Vec<u8> {
+    let mut file = EXAMPLE[..16].to_vec();
+    for (original, flags, drops, packet) in records {
+        for word in [*original, packet.len() as u32, *flags, *drops] {
+            file.extend(word.to_be_bytes());
+        }
+        file.extend(&EXAMPLE[32..40]);
+        file.extend(*packet);
+    }
+    file
+}
+
+/// How many there are and where the first is; 0 and 0 if there is none.
+fn told(gap: &Gap) -> (u64, usize) {
+    assert_eq!(gap.count > 0, gap.first.is_some());
+    (gap.count, gap.first.unwrap_or(0))
+}
+
+/// The signs of a file, in the order of the fields.
+#[track_caller]
+fn signs(file: &[u8]) -> [(u64, usize); 7] {
+    let found = gaps(file, TailRule::Strict).unwrap();
+    assert_eq!(gaps(file, TailRule::Tolerant), Ok(found.clone()));
+    let Gaps { short, dropped, skipped, zeros, stray, given_up, open, .. } = found;
+    [short, dropped, skipped, zeros, stray, given_up, open].map(|gap| told(&gap))
+}
+
+/// Each sign once: the first record, of 33 bytes, has none, so the one that shows it starts at byte 49.
+#[test]
+fn each_gap_once() {
+    // A whole PDU of no payload, the beginning of one, its end, and a packet without its data.
+    let whole: &[u8] = &[2, 0x40, 0x20, 4, 0, 0, 0, 0x41, 0];
+    let begun: &[u8] = &[2, 0x40, 0x20, 1, 0, 0];
+    let ended: &[u8] = &[2, 0x40, 0x10, 3, 0, 0, 0x41, 0];
+    let lacking: &[u8] = &[2, 0x40, 0x20, 4, 0, 0, 0];
+    let first = (9, 1, 0, whole);
+    let none = [(0, 0); 7];
+    let only = |sign: usize, count, at| {
+        let mut signs = none;
+        signs[sign] = (count, at);
+        signs
+    };
+    assert_eq!(signs(&recorded(&[])), none);
+    assert_eq!(signs(&recorded(&[first])), none);
+    assert_eq!(signs(&recorded(&[first, (6, 1, 0, begun), (8, 1, 0, ended)])), none);
+    assert_eq!(signs(&recorded(&[first, (10, 1, 0, whole), (8, 1, 0, whole)])), only(0, 1, 49));
+    // The recorder's count rises by 3 and 4, and falls between.
+    assert_eq!(signs(&recorded(&[first, (9, 1, 3, whole), (9, 1, 1, whole), (9, 1, 5, whole)])), only(1, 7, 49));
+    assert_eq!(signs(&recorded(&[first, (7, 1, 0, lacking)])), only(2, 1, 49));
+    assert_eq!(signs(&recorded(&[first, (4, 1, 0, &lacking[..4])])), only(2, 1, 49));
+    let zeros = [&recorded(&[first])[..], &[0; 24]].concat();
+    assert_eq!(signs(&zeros), only(3, 1, 49));
+    assert_eq!(signs(&recorded(&[first, (8, 1, 0, ended)])), only(4, 1, 49));
+    // Another starts where one is open; the first record's PDU is whole, so nothing of it is given up.
+    let again = [first, (6, 1, 0, begun), (9, 1, 0, whole)];
+    assert_eq!(signs(&recorded(&again)), only(5, 1, 49 + 30));
+    // Open at the end, by the record that began it; what came the other way is whole.
+    let open = [first, (6, 1, 0, begun), (6, 0, 0, begun), (8, 0, 0, ended)];
+    assert_eq!(signs(&recorded(&open)), only(6, 1, 49));
+    // Commands, events and other types are not ACL data.
+    let others = [first, (1, 2, 0, &[2][..]), (2, 3, 0, &[4, 0]), (1, 0, 0, &[3])];
+    assert_eq!(signs(&recorded(&others)), none);
+}
+
+/// All signs in one file: most come more than once, and the first is told.
+#[test]
+fn gaps_together() {
+    let begun: &[u8] = &[2, 0x40, 0x20, 1, 0, 9];
+    let stray: &[u8] = &[2, 0x41, 0x10, 0, 0];
+    let records = [(9, 1, 1, stray), (6, 1, 1, begun), (9, 1, 5, begun), (5, 0, 5, stray), (6, 1, 0, begun)];
+    let zeros = [0; 48];
+    let lacking = recorded(&[(2, 4, 0, &[2, 0])]).split_off(16);
+    let file = [recorded(&records), zeros.to_vec(), lacking].concat();
+    assert_eq!(signs(&file), [(2, 16), (5, 16), (1, 212), (2, 164), (2, 16), (2, 75), (1, 134)]);
+}
+
+#[test]
+fn gaps_refused() {
+    use TailRule::{Strict, Tolerant};
+    for tail in [Strict, Tolerant] {
+        refused(gaps(&[0; 1_048_577], tail), Refusal::FileLong, 1, &[]);
+        refused(gaps(&[], tail), Refusal::NotBtsnoop, 3, &[]);
+        refused(gaps(&EXAMPLE[..15], tail), Refusal::NotBtsnoop, 3, &[]);
+        let mut other = EXAMPLE;
+        other[15] = 0xEB;
+        refused(gaps(&other, tail), Refusal::Datalink(1003), 4, &["1003"]);
+        // No stream is no refusal here.
+        assert_eq!(gaps(&EXAMPLE[..16], tail), Ok(Gaps::default()));
+    }
+    for n in 17..62 {
+        refused(gaps(&EXAMPLE[..n], Strict), Refusal::Truncated { offset: 16 }, 5, &["byte 16"]);
+        assert_eq!(gaps(&EXAMPLE[..n], Tolerant), Ok(Gaps::default()));
+    }
+    // As many records of zeros as there can be, and a cut one.
+    let full = [&EXAMPLE[..16], &[0; 24 * 43_690][..]].concat();
+    assert_eq!(gaps(&full, Strict).map(|found| told(&found.zeros)), Ok((43_690, 16)));
+    assert_eq!(gaps(&full[..full.len() - 1], Tolerant).map(|found| told(&found.zeros)), Ok((43_689, 16)));
+}
+
+/// The shipped traces: nothing is seen to be missing in the whole one, nor before the end of the one that is cut.
+#[test]
+fn gaps_of_the_examples() {
+    let headset: &[u8] = include_bytes!("../../../examples/headset.btsnoop");
+    assert_eq!(gaps(headset, TailRule::Strict), Ok(Gaps::default()));
+    let cut: &[u8] = include_bytes!("../../../examples/cut.btsnoop");
+    assert_eq!(gaps(cut, TailRule::Tolerant), Ok(Gaps::default()));
+    assert!(matches!(gaps(cut, TailRule::Strict), Err(Refusal::Truncated { .. })));
 }

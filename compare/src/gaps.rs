@@ -1,0 +1,240 @@
+//! The signs in a file that something is not in it, written plainly from their definitions (Places, Recorded, Partial and
+//! Gaps in `crates/signs/specs`) and not from any code: what the call is held to, and what planted faults are made of.
+
+use std::collections::BTreeMap;
+
+use crate::answer::Answer;
+use crate::model;
+
+/// How many values the call answers: two for each sign.
+pub const VALUES: usize = 14;
+
+/// The signs in the order of their values.
+pub const SIGNS: [&str; 7] = ["short", "dropped", "skipped", "zeros", "stray", "given up", "open"];
+
+/// Four bytes, highest first; one that is not there is 0.
+pub fn be32(bytes: &[u8], at: usize) -> u64 {
+    (at..at + 4).fold(0, |n, i| n * 256 + u64::from(bytes.get(i).copied().unwrap_or(0)))
+}
+
+/// Two bytes, lowest first; one that is not there is 0.
+pub fn le16(bytes: &[u8], at: usize) -> usize {
+    let byte = |i: usize| usize::from(bytes.get(i).copied().unwrap_or(0));
+    byte(at) + 256 * byte(at + 1)
+}
+
+// ---- records
+
+/// The whole records with their places: the byte of the file at which each starts.
+fn records(file: &[u8]) -> Vec<(usize, &[u8])> {
+    let mut records = Vec::new();
+    let mut at = 16;
+    while file.len() - at >= 24 && (file.len() - at - 24) as u64 >= be32(&file[at..], 4) {
+        let size = 24 + be32(&file[at..], 4) as usize;
+        records.push((at, &file[at..at + size]));
+        at += size;
+    }
+    records
+}
+
+/// Stored short: the original length is over the included one.
+fn is_short(record: &[u8]) -> bool {
+    be32(record, 4) < be32(record, 0)
+}
+
+fn is_zeros(record: &[u8]) -> bool {
+    record.iter().all(|byte| *byte == 0)
+}
+
+/// ACL data by its flags and, of 1002, by its first byte.
+pub fn is_acl(datalink: u64, record: &[u8]) -> bool {
+    let flags = be32(record, 8);
+    match datalink {
+        2001 => [4, 5].contains(&(flags % 65536)),
+        1002 => flags / 2 % 2 != 1 && record.get(24) == Some(&2),
+        _ => flags / 2 % 2 != 1,
+    }
+}
+
+/// By how much the recorder's count of drops rises at each record over what it was before, from 0.
+pub fn rises(drops: &[u64]) -> Vec<u64> {
+    let before = std::iter::once(&0).chain(drops);
+    drops.iter().zip(before).map(|(now, before)| now.saturating_sub(*before)).collect()
+}
+
+// ---- packets
+
+/// An ACL packet with its place, all of whose fields are there.
+#[derive(Clone, Copy)]
+pub struct Packet<'a> {
+    pub at: usize,
+    pub link: usize,
+    pub rx: bool,
+    pub start: bool,
+    pub bytes: &'a [u8],
+}
+
+/// A packet's fields. One that is not there, or data, skips it; bytes past the data are ignored.
+fn fragment(at: usize, rx: bool, bytes: &[u8]) -> Option<Packet<'_>> {
+    let (field, length) = (le16(bytes, 0), le16(bytes, 2));
+    let start = field / 4096 % 4 != 1;
+    (4 + length <= bytes.len()).then(|| Packet { at, link: field % 4096, rx, start, bytes: &bytes[4..4 + length] })
+}
+
+/// The packet of a record.
+pub fn packet_of(datalink: u64, at: usize, record: &[u8]) -> Option<Packet<'_>> {
+    let (flags, bytes) = (be32(record, 8), &record[24..]);
+    let rx = flags % 2 == 1;
+    match datalink {
+        2001 if [4, 5].contains(&(flags % 65536)) => fragment(at, rx, bytes),
+        1001 if flags / 2 % 2 != 1 => fragment(at, rx, bytes),
+        1002 if flags / 2 % 2 != 1 => fragment(at, rx, bytes.strip_prefix(&[2])?),
+        _ => None,
+    }
+}
+
+/// What is open: the bytes at hand, and the place of the packet that began them.
+#[derive(Clone)]
+pub struct Begun {
+    pub at: usize,
+    pub bytes: Vec<u8>,
+}
+
+/// What stays open of the bytes at hand: none if a PDU is complete, else all of them.
+fn still_open(bytes: Vec<u8>) -> Option<Vec<u8>> {
+    (bytes.len() < 4 + le16(&bytes, 0)).then_some(bytes)
+}
+
+// ---- the definitions together
+
+/// The definitions, each of which a fault may replace. Only `RIGHT` is the model.
+#[derive(Clone, Copy)]
+pub struct Reading {
+    pub is_short: fn(&[u8]) -> bool,
+    pub is_zeros: fn(&[u8]) -> bool,
+    pub is_acl: fn(u64, &[u8]) -> bool,
+    pub rises: fn(&[u64]) -> Vec<u64>,
+    pub packet_of: for<'a> fn(u64, usize, &'a [u8]) -> Option<Packet<'a>>,
+    /// A continuation with nothing open.
+    pub is_stray: fn(Option<&Begun>, &Packet) -> bool,
+    /// A start where a PDU is open.
+    pub gives_up: fn(Option<&Begun>, &Packet) -> bool,
+    /// The place at which what is open after a packet began.
+    pub began: fn(Option<&Begun>, &Packet) -> usize,
+    pub still_open: fn(Vec<u8>) -> Option<Vec<u8>>,
+    /// The place that is told of all those where a sign shows; 0 if there is none.
+    pub first: fn(&[usize]) -> usize,
+    /// Changes what was found.
+    pub change: fn(&mut Found, &[u8]),
+}
+
+pub const RIGHT: Reading = Reading {
+    is_short,
+    is_zeros,
+    is_acl,
+    rises,
+    packet_of,
+    is_stray: |open, packet| open.is_none() && !packet.start,
+    gives_up: |open, packet| open.is_some() && packet.start,
+    began: |open, packet| match open {
+        Some(begun) if !packet.start => begun.at,
+        _ => packet.at,
+    },
+    still_open,
+    first: |places| places.first().copied().unwrap_or(0),
+    change: |_, _| (),
+};
+
+/// The places where each sign shows.
+#[derive(Default)]
+pub struct Found {
+    pub short: Vec<usize>,
+    /// How many packets were dropped in all.
+    pub dropped: u64,
+    pub dropped_at: Vec<usize>,
+    pub skipped: Vec<usize>,
+    pub zeros: Vec<usize>,
+    pub stray: Vec<usize>,
+    pub given_up: Vec<usize>,
+    pub open: Vec<usize>,
+    /// Packets that start a PDU. No sign; faults are made of it.
+    pub starts: Vec<usize>,
+}
+
+/// The signs of a file with a good header.
+pub fn find(file: &[u8], reading: Reading) -> Found {
+    let datalink = be32(file, 12);
+    let records = records(file);
+    let places = |test: &dyn Fn(&[u8]) -> bool| -> Vec<usize> {
+        records.iter().filter(|(_, record)| test(record)).map(|(at, _)| *at).collect()
+    };
+    let packets: Vec<Packet> =
+        records.iter().filter_map(|(at, record)| (reading.packet_of)(datalink, *at, record)).collect();
+    let drops: Vec<u64> = records.iter().map(|(_, record)| be32(record, 12)).collect();
+    let rises = (reading.rises)(&drops);
+    let mut found = Found {
+        short: places(&reading.is_short),
+        dropped: rises.iter().sum(),
+        dropped_at: records.iter().zip(&rises).filter(|(_, by)| **by > 0).map(|((at, _), _)| *at).collect(),
+        skipped: places(&|record| {
+            (reading.is_acl)(datalink, record) && (reading.packet_of)(datalink, 0, record).is_none()
+        }),
+        zeros: places(&reading.is_zeros),
+        ..Found::default()
+    };
+    follow(&packets, reading, &mut found);
+    (reading.change)(&mut found, file);
+    found
+}
+
+/// Follows the packets of each link and direction, by what is open when each comes.
+fn follow(packets: &[Packet], reading: Reading, found: &mut Found) {
+    let mut open: BTreeMap<(usize, bool), Begun> = BTreeMap::new();
+    for packet in packets {
+        let before = open.remove(&(packet.link, packet.rx));
+        if packet.start {
+            found.starts.push(packet.at);
+        }
+        if (reading.is_stray)(before.as_ref(), packet) {
+            found.stray.push(packet.at);
+        }
+        if (reading.gives_up)(before.as_ref(), packet) {
+            found.given_up.push(packet.at);
+        }
+        let at = (reading.began)(before.as_ref(), packet);
+        let joined = match before {
+            _ if packet.start => Some(packet.bytes.to_vec()),
+            Some(Begun { mut bytes, .. }) => {
+                bytes.extend(packet.bytes);
+                Some(bytes)
+            }
+            None => None,
+        };
+        if let Some(bytes) = joined.and_then(reading.still_open) {
+            open.insert((packet.link, packet.rx), Begun { at, bytes });
+        }
+    }
+    let began = |packet: &&Packet| open.get(&(packet.link, packet.rx)).is_some_and(|begun| begun.at == packet.at);
+    found.open = packets.iter().filter(began).map(|packet| packet.at).collect();
+}
+
+impl Found {
+    /// The places where each sign shows.
+    pub fn places(&self) -> [&[usize]; SIGNS.len()] {
+        [&self.short, &self.dropped_at, &self.skipped, &self.zeros, &self.stray, &self.given_up, &self.open]
+    }
+
+    /// The values: for each sign how many, and where the first is.
+    pub fn values(&self, reading: Reading) -> [u64; VALUES] {
+        let places = self.places();
+        let mut many = places.map(|places| places.len() as u64);
+        many[1] = self.dropped;
+        std::array::from_fn(|i| if i % 2 == 0 { many[i / 2] } else { (reading.first)(places[i / 2]) as u64 })
+    }
+}
+
+/// The call.
+pub fn answer(file: &[u8], work: usize, tolerant: bool, reading: Reading) -> Answer {
+    model::refusal(file, work, tolerant)
+        .unwrap_or_else(|| Answer::done(&find(file, reading).values(reading), Vec::new()))
+}
