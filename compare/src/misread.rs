@@ -240,6 +240,7 @@ fn without_zeros(drops: &[u64]) -> Vec<u64> {
 fn of_packets() -> Vec<Fault> {
     let stray = |is_stray| reads(Reading { is_stray, ..RIGHT });
     let gives_up = |gives_up| reads(Reading { gives_up, ..RIGHT });
+    let began = |began| reads(Reading { began, ..RIGHT });
     let still_open = |still_open| reads(Reading { still_open, ..RIGHT });
     vec![
         ("gaps", "gaps: a start is stray", stray(|open, _| open.is_none())),
@@ -284,8 +285,8 @@ fn of_packets() -> Vec<Fault> {
         (FOUR, "gaps: open counts a complete PDU", finds(complete_open)),
         (LAW, "gaps: open counts a complete PDU, by the law", finds(complete_open)),
         (LAW, "gaps: nothing is open, by the law", finds(|found, _| found.open.clear())),
-        (FOUR, "gaps: open is told by its last packet", finds(last_packets)),
-        (MIXTURES, "gaps: open is told by its last packet, every mixture", finds(last_packets)),
+        (FOUR, "gaps: open is told by its last packet", began(|_, packet| packet.at)),
+        (MIXTURES, "gaps: open is told by its last packet, every mixture", began(|_, packet| packet.at)),
         ("gaps", "gaps: open from the last to the first", finds(|found, _| found.open.reverse())),
         ("gaps", "gaps: open in the order of links", finds(by_links)),
         (
@@ -364,28 +365,17 @@ fn complete_open(found: &mut Found, _: &[u8]) {
     }
 }
 
-fn last_packets(found: &mut Found, file: &[u8]) {
-    found.open = opened(found, file).into_iter().map(|(_, last)| last).collect();
-    found.open.sort();
-}
-
+/// What is open at the end, in the order of links and directions.
 fn by_links(found: &mut Found, file: &[u8]) {
-    found.open = opened(found, file).into_iter().map(|(began, _)| began).collect();
-}
-
-/// What is open at the end, in the order of links and directions: where it began, and its last packet.
-fn opened(found: &Found, file: &[u8]) -> Vec<(usize, usize)> {
-    let mut last: BTreeMap<(usize, bool), (usize, usize)> = BTreeMap::new();
+    let mut last: BTreeMap<(usize, bool), usize> = BTreeMap::new();
     let mut at = 16;
     for record in model::records(&file[16..]).0 {
-        if let Some(packet) = packet_of(be32(file, 12), at, record) {
-            let key = (packet.link, packet.rx);
-            let began = last.get(&key).filter(|_| !packet.start).map_or(at, |(began, _)| *began);
-            last.insert(key, (began, at));
+        if let Some(packet) = packet_of(be32(file, 12), at, record).filter(|packet| packet.start) {
+            last.insert((packet.link, packet.rx), at);
         }
         at += record.len();
     }
-    last.into_values().filter(|(began, _)| found.open.contains(began)).collect()
+    found.open = last.into_values().filter(|began| found.open.contains(began)).collect();
 }
 
 /// In refusals, in what is stored, and in work.
