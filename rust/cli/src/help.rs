@@ -4,6 +4,7 @@ pub const USAGE: &str = "\
 usage: lumbryth import TRACE --out DIR [options]
        lumbryth frames TRACE [options]
        lumbryth records TRACE [options]
+       lumbryth channels TRACE [options]
        lumbryth check DIR [TRACE] [options]
        lumbryth COMMAND --help
 ";
@@ -15,6 +16,7 @@ Bluetooth trace (a btsnoop file of at most 1048576 bytes)
 usage: lumbryth import TRACE --out DIR [options]   write each frame to a file
        lumbryth frames TRACE [options]             list the frames
        lumbryth records TRACE [options]            list the records that carry them
+       lumbryth channels TRACE [options]           list the channels, and which have frames
        lumbryth check DIR [TRACE] [options]        check what import wrote
        lumbryth COMMAND --help                     more about a command
        lumbryth --version
@@ -64,7 +66,8 @@ no end marker: handle, direction (received is from the headset), DLCI and how ma
 held. A file that ends inside a record is listed up to there.
 
   --channel N      only RFCOMM channel N, 0 to 31; else the first that carries frames
-  --json           an object a line: import, unfinished, then frame
+  --json           an object a line: import, unfinished, frame, then other, for each other
+                   DLCI that has frames
   --               what follows is no option
 ";
 
@@ -76,6 +79,30 @@ controller), number, length of the packet, the byte that the record starts at, t
 A file that ends inside a record is listed up to there.
 
   --json           an object a line: file, then record
+  --               what follows is no option
+";
+
+pub const CHANNELS: &str = "\
+usage: lumbryth channels TRACE [options]
+
+Lists what TRACE has inside, and what import makes of it, a line for each fact. First each
+handle, with packets and PDUs each way (rx is from the headset). Under it its channels: CID,
+direction, what it is, PSM if a request tells it, PDUs. Then each DLCI, in the order in
+which import looks at them: its RFCOMM channel, frames (spans that unpack), spans (bytes
+from 3E through 3C), pieces, and how many are unfinished; why spans do not unpack; and how
+import takes it. If import takes none, the last line says why.
+
+A channel is one of these:
+  admitted       signals say that it is RFCOMM, PSM 0x0003: it is tried
+  guessed        nothing names it, and its CID is 0x0040 or more: it is tried
+  named          signals name it, and not as RFCOMM: it is passed over
+  signals        CID 0x0001, where channels are named
+  passed over    any other
+
+A file that ends inside a record is looked at up to there. What is shown here is the
+program's own reading and is not proved; what import gives is proved.
+
+  --json           an object a line: file; then handle, channel; then dlci, refused
   --               what follows is no option
 ";
 

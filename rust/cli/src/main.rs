@@ -4,6 +4,7 @@
 #![deny(unsafe_code)]
 
 mod args;
+mod channels;
 mod check;
 mod help;
 #[allow(unsafe_code)]
@@ -83,6 +84,7 @@ fn run(args: &[OsString]) -> Result<(), Failure> {
         Command::Import(options) => run_import(&options),
         Command::Frames(look, json) => run_frames(&look, json),
         Command::Records(trace, json) => run_records(&trace, json),
+        Command::Channels(trace, json) => run_channels(&trace, json),
         Command::Check(options) => run_check(&options),
     }
 }
@@ -136,9 +138,17 @@ fn refused(trace: &Path, channel: Option<u8>, file: &[u8], refusal: Refusal) -> 
             "\nlumbryth: record a shorter log; a file that is trimmed by hand loses frames and does not tell"
         }
         Refusal::Truncated { .. } => "\nlumbryth: --tolerant keeps what was complete before that",
+        Refusal::NoStream => "\nlumbryth: the command channels shows what there is, and why it is not taken",
         _ => "",
     };
-    format!("refused ({}): {words}: {}{hint}", refusal.number(), shown(trace))
+    // On another channel than the one asked for there may be frames.
+    let others: String = match refusal {
+        Refusal::NoStream => {
+            channels::other_lines(file, None).iter().map(|line| format!("\nlumbryth: {line}")).collect()
+        }
+        _ => String::new(),
+    };
+    format!("refused ({}): {words}: {}{others}{hint}", refusal.number(), shown(trace))
 }
 
 /// The fixtures of an import, and the list of their set.
@@ -150,11 +160,17 @@ fn planned(look: &Look, exclude: &[String], found: &Found) -> Result<(Vec<Fixtur
     Ok((fixtures, set))
 }
 
+/// The other DLCIs that carry frames, a line each.
+fn others(file: &[u8], imported: &Imported) -> String {
+    channels::other_lines(file, Some(imported.dlci)).iter().map(|line| format!("{line}\n")).collect()
+}
+
 fn run_import(options: &Import) -> Result<(), Failure> {
     let found = found(&options.look)?;
     let (fixtures, set) = planned(&options.look, &options.exclude, &found)?;
     let Found { file, imported, open } = &found;
     let mut findings = report::findings(file, imported, open, options.look.channel.is_some(), "among the fixtures");
+    findings += &others(file, imported);
     let excluded = imported.frames - report::broken(imported) - fixtures.len();
     if !options.exclude.is_empty() {
         findings += &format!("{} left out by --exclude.\n", count(excluded, "frame", "frames"));
@@ -172,16 +188,23 @@ fn run_import(options: &Import) -> Result<(), Failure> {
 fn run_frames(look: &Look, json: bool) -> Result<(), Failure> {
     let Found { file, imported, open } = found(look)?;
     if json {
-        return print(&report::frame_objects(&file, &imported, &open));
+        let others = channels::other_objects(&file, imported.dlci);
+        return print(&(report::frame_objects(&file, &imported, &open) + &others));
     }
     let findings = report::findings(&file, &imported, &open, look.channel.is_some(), "listed");
-    print(&(findings + &report::frames(&imported)))
+    print(&(findings + &others(&file, &imported) + &report::frames(&imported)))
 }
 
 fn run_records(trace: &Path, json: bool) -> Result<(), Failure> {
     let file = source::read(trace).map_err(Failure::Refused)?;
     let found = records(&file).map_err(|refusal| Failure::Refused(refused(trace, None, &file, refusal)))?;
     print(&if json { report::record_objects(&file, &found) } else { report::records(&file, &found) })
+}
+
+fn run_channels(trace: &Path, json: bool) -> Result<(), Failure> {
+    let file = source::read(trace).map_err(Failure::Refused)?;
+    let seen = look::look(&file).map_err(|refusal| Failure::Refused(refused(trace, None, &file, refusal)))?;
+    print(&if json { channels::objects(&file, &seen) } else { channels::text(&file, &seen) })
 }
 
 fn run_check(options: &Check) -> Result<(), Failure> {
