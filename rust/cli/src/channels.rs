@@ -41,8 +41,10 @@ fn reason(channel: &Channel) -> Option<String> {
         Standing::Service => Some("no request for it has PSM 0x0003, RFCOMM".to_string()),
         Standing::Unasked => Some("a response names it, and the request is not in the file before that".to_string()),
         Standing::Refused => Some(match channel.result {
-            Some(result) => format!("no response is a success, and the last has result {result}"),
-            None => "no response is a success, and the last has no result".to_string(),
+            Some(result) => {
+                format!("no response to a request for RFCOMM is a success, and the last has result {result}")
+            }
+            None => "no response to a request for RFCOMM is a success, and the last has no result".to_string(),
         }),
         Standing::Fixed => Some("nothing names it, and its CID is under 0x0040".to_string()),
     }

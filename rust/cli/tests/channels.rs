@@ -318,13 +318,24 @@ fn no_stream_is_explained() {
     let lines = said(&files[2].0);
     assert_eq!(lines[2], "1 packet was recorded in part and is passed over.");
     let lines = said(&files[4].0);
-    let told = "CID 0x0041 tx, named, PSM 0x0003, 1 PDU, handle 6: passed over, for no response is a success, and the last has result 2.";
+    let told = "CID 0x0041 tx, named, PSM 0x0003, 1 PDU, handle 6: passed over, for no response to a request for RFCOMM is a success, and the last has result 2.";
     assert!(lines.iter().any(|line| line == told), "{lines:?}");
     let short = [&files[2].0[..], &files[2].0[16..]].concat();
     assert_eq!(said(&short)[2], "2 packets were recorded in part and are passed over.");
+    // Nor is a success that answers another request, or comes before the one for RFCOMM.
+    let file = trace_of_pdus(&[
+        (6, Rx, signal(3, 1, &[0x41, 0x45, 0, 0])),
+        (6, Tx, signal(2, 1, &[3, 0x45])),
+        (6, Rx, signal(3, 1, &[0x41, 0x45, 1, 0])),
+        (6, Tx, signal(2, 2, &[0x1001, 0x46])),
+        (6, Rx, signal(3, 2, &[0x41, 0x46, 0, 0])),
+    ]);
+    let told = "CID 0x0041 tx, named, PSM 0x0003 then 0x1001, 0 PDUs, handle 6: passed over, \
+        for no response to a request for RFCOMM is a success, and the last has result 1.";
+    assert!(said(&file).iter().any(|line| line == told), "{:?}", said(&file));
     // A response that has no result either.
     let file = trace_of_pdus(&[(6, Tx, signal(2, 1, &[3, 0x45])), (6, Rx, signal(3, 1, &[0x41, 0x45]))]);
-    let told = "CID 0x0041 tx, named, PSM 0x0003, 0 PDUs, handle 6: passed over, for no response is a success, and the last has no result.";
+    let told = "CID 0x0041 tx, named, PSM 0x0003, 0 PDUs, handle 6: passed over, for no response to a request for RFCOMM is a success, and the last has no result.";
     assert!(said(&file).iter().any(|line| line == told), "{:?}", said(&file));
 }
 

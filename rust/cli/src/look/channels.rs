@@ -42,7 +42,7 @@ pub struct Channel {
     pub named: bool,
     /// Whether one of them admits it, so that it is RFCOMM.
     pub admitted: bool,
-    /// The result of the last response that names it.
+    /// The result of the last response to a request for RFCOMM that names it.
     pub result: Option<u16>,
     /// The PSM of the last request that names it, and whether any such request has RFCOMM's.
     asked: Option<u16>,
@@ -169,15 +169,15 @@ impl Channels {
                 channel.asked_rfcomm |= psm == RFCOMM;
                 channel.tell(psm);
             }
-            // Any request for RFCOMM with that source lets a success admit; the PSM is that of the last request with it.
+            // Any earlier request for RFCOMM with that source counts; else the PSM is that of the last request with it.
             Signal::Response(key, answered, result) => {
                 let request = self.find(handle, answered);
                 let (psm, rfcomm) = request.map_or((None, false), |request| (request.asked, request.asked_rfcomm));
                 let channel = self.channel(handle, key);
                 channel.named = true;
-                channel.result = result;
-                if result == Some(0) && rfcomm {
-                    channel.admitted = true;
+                if rfcomm {
+                    channel.admitted |= result == Some(0);
+                    channel.result = result;
                     channel.tell(RFCOMM);
                 }
                 psm.into_iter().for_each(|psm| channel.tell(psm));

@@ -37,6 +37,9 @@ impl Rng {
     }
 }
 
+/// A boundary flag, and data.
+type Fragment = (u16, Vec<u8>);
+
 struct Maker<'a> {
     rng: &'a mut Rng,
     trace: Trace,
@@ -47,8 +50,8 @@ struct Maker<'a> {
     dlcis: Vec<u8>,
     /// What is left of a frame of which a piece was sent, for each handle, direction, CID and DLCI.
     rest: BTreeMap<(u16, bool, u16, u8), Vec<u8>>,
-    /// Fragments that wait, for each handle and direction: the boundary flag, and the data.
-    waiting: BTreeMap<(u16, bool), VecDeque<(u16, Vec<u8>)>>,
+    /// Fragments that wait, for each handle and direction.
+    waiting: BTreeMap<(u16, bool), VecDeque<Fragment>>,
 }
 
 impl Maker<'_> {
