@@ -138,7 +138,7 @@ fn refused(trace: &Path, channel: Option<u8>, file: &[u8], refusal: Refusal) -> 
             "\nlumbryth: record a shorter log; a file that is trimmed by hand loses frames and does not tell"
         }
         Refusal::Truncated { .. } => "\nlumbryth: --tolerant keeps what was complete before that",
-        Refusal::NoStream => "\nlumbryth: the command channels shows what there is, and why it is not taken",
+        Refusal::NoStream => "\nlumbryth: see lumbryth channels, which shows what there is and why it is not taken",
         _ => "",
     };
     // On another channel than the one asked for there may be frames.

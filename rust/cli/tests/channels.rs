@@ -309,7 +309,7 @@ fn no_stream_is_explained() {
             if command == "import" {
                 all.push(&"--dry-run");
             }
-            let told = "trace\nlumbryth: the command channels shows what there is, and why it is not taken\n";
+            let told = "trace\nlumbryth: see lumbryth channels, which shows what there is and why it is not taken\n";
             fails(&words(&all), 1, &["refused (6): nothing in the trace unpacks as a frame; ", told]);
         }
         agrees(&file);
@@ -525,6 +525,28 @@ fn the_look_agrees_with_the_import() {
     // The traces are of many kinds.
     assert!(counts.iter().all(|count| *count >= 200), "{counts:?}");
     assert_eq!(hit.len(), 7, "{hit:?}");
+}
+
+/// Whatever a file has, it is read as the import reads it, or refused as it refuses.
+#[test]
+fn damaged_files_agree() {
+    let mut rng = made::Rng(2);
+    let whole = fs::read(example("headset.btsnoop")).unwrap();
+    let (mut read, mut refused) = (0, 0);
+    for _ in 0..2_000 {
+        let file = rng.damaged(&whole);
+        match look(&file) {
+            Ok(_) => {
+                agrees(&file);
+                read += 1;
+            }
+            Err(refusal) => {
+                assert_eq!(import(&file, None, TailRule::Tolerant), Err(refusal));
+                refused += 1;
+            }
+        }
+    }
+    assert!(read >= 1_000 && refused >= 20, "{read} {refused}");
 }
 
 #[test]

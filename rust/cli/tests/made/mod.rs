@@ -32,6 +32,16 @@ impl Rng {
         self.next() as u8
     }
 
+    /// A file with some of its bytes changed, anywhere.
+    pub fn damaged(&mut self, file: &[u8]) -> Vec<u8> {
+        let mut file = file.to_vec();
+        for _ in 0..self.within(1, 8) {
+            let at = self.within(0, file.len() - 1);
+            file[at] = if self.percent(50) { self.byte() } else { file[at] ^ 1 << self.within(0, 7) };
+        }
+        file
+    }
+
     fn pick<T: Copy>(&mut self, from: &[T]) -> T {
         from[self.within(0, from.len() - 1)]
     }
