@@ -51,6 +51,9 @@ also where the program is interrupted.
 
 Whether a file that ends at a record's end was longer once cannot be seen in it.
 
+Other DLCIs that have frames are named, with the --channel that takes them. If nothing has
+frames, lumbryth channels TRACE shows why.
+
 Unfinished are bytes at the end that have no end marker: told by handle, direction
 (received is from the headset), DLCI and how many are held. They make no file. Packets
 that were not complete are not counted there.
@@ -63,7 +66,8 @@ Lists the frames of TRACE: command, direction (rx is from the headset), counter,
 sequence number, length on the wire, command and type as numbers, time (UTC); or why the
 frame does not unpack. Before them stands what is unfinished, bytes at the end that have
 no end marker: handle, direction (received is from the headset), DLCI and how many are
-held. A file that ends inside a record is listed up to there.
+held; then other DLCIs that have frames, with the --channel that takes them. A file that
+ends inside a record is listed up to there.
 
   --channel N      only RFCOMM channel N, 0 to 31; else the first that carries frames
   --json           an object a line: import, unfinished, frame, then other, for each other
@@ -89,8 +93,8 @@ Lists what TRACE has inside, and what import makes of it, a line for each fact. 
 handle, with packets and PDUs each way (rx is from the headset). Under it its channels: CID,
 direction, what it is, PSM if a request tells it, PDUs. Then each DLCI, in the order in
 which import looks at them: its RFCOMM channel, frames (spans that unpack), spans (bytes
-from 3E through 3C), pieces, and how many are unfinished; why spans do not unpack; and how
-import takes it. If import takes none, the last line says why.
+from 3E through 3C), pieces, and how many are unfinished; how import takes it; and why spans
+do not unpack. If import takes none, the last line says why.
 
 A channel is one of these:
   admitted       signals say that it is RFCOMM, PSM 0x0003: it is tried
