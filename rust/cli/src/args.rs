@@ -38,6 +38,7 @@ pub enum Command {
     /// With `true`, an object a line.
     Frames(Look, bool),
     Records(PathBuf, bool),
+    Channels(PathBuf, bool),
     Check(Check),
     /// Print this and nothing else.
     Say(String),
@@ -54,6 +55,7 @@ const IMPORT: Takes =
     Takes { command: "import", values: &["--out", "--channel", "--exclude"], flags: &["--tolerant", "--dry-run"] };
 const RECORDS: Takes = Takes { command: "records", values: &[], flags: &["--json"] };
 const FRAMES: Takes = Takes { command: "frames", values: &["--channel"], flags: &["--tolerant", "--json"] };
+const CHANNELS: Takes = Takes { command: "channels", values: &[], flags: &["--json"] };
 const CHECK: Takes = Takes { command: "check", values: &[], flags: &["--json"] };
 
 /// What was given: the trace, and options with their values.
@@ -106,6 +108,9 @@ pub fn parse(args: &[OsString]) -> Result<Command, String> {
         }),
         Some("records") => command(&RECORDS, help::RECORDS, rest, |given| {
             given.look().map(|look| Command::Records(look.trace, given.has("--json")))
+        }),
+        Some("channels") => command(&CHANNELS, help::CHANNELS, rest, |given| {
+            given.look().map(|look| Command::Channels(look.trace, given.has("--json")))
         }),
         Some("check") => command(&CHECK, help::CHECK, rest, check),
         Some("--help" | "-h") => Ok(Command::Say(help::ALL.to_string())),

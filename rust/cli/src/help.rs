@@ -4,6 +4,7 @@ pub const USAGE: &str = "\
 usage: lumbryth import TRACE --out DIR [options]
        lumbryth frames TRACE [options]
        lumbryth records TRACE [options]
+       lumbryth channels TRACE [options]
        lumbryth check DIR [TRACE] [options]
        lumbryth COMMAND --help
 ";
@@ -15,6 +16,7 @@ Bluetooth trace (a btsnoop file of at most 1048576 bytes)
 usage: lumbryth import TRACE --out DIR [options]   write each frame to a file
        lumbryth frames TRACE [options]             list the frames
        lumbryth records TRACE [options]            list the records that carry them
+       lumbryth channels TRACE [options]           list the channels, and which have frames
        lumbryth check DIR [TRACE] [options]        check what import wrote
        lumbryth COMMAND --help                     more about a command
        lumbryth --version
@@ -49,6 +51,9 @@ also where the program is interrupted.
 
 Whether a file that ends at a record's end was longer once cannot be seen in it.
 
+Other DLCIs that have frames are named, with the --channel that takes them. If nothing has
+frames, lumbryth channels TRACE shows why.
+
 Unfinished are bytes at the end that have no end marker: told by handle, direction
 (received is from the headset), DLCI and how many are held. They make no file. Packets
 that were not complete are not counted there.
@@ -66,11 +71,12 @@ Lists the frames of TRACE: command, direction (rx is from the headset), counter,
 sequence number, length on the wire, command and type as numbers, time (UTC); or why the
 frame does not unpack. Before them stands what is unfinished, bytes at the end that have
 no end marker: handle, direction (received is from the headset), DLCI and how many are
-held; and the losses and hints that import tells. A file that ends inside a record is
-listed up to there.
+held; the losses and hints that import tells; and other DLCIs that have frames, with the
+--channel that takes them. A file that ends inside a record is listed up to there.
 
   --channel N      only RFCOMM channel N, 0 to 31; else the first that carries frames
-  --json           an object a line: import, unfinished, hint, then frame
+  --json           an object a line: import, unfinished, hint, frame, then other, for each
+                   other DLCI that has frames
   --               what follows is no option
 ";
 
@@ -83,6 +89,30 @@ Before them stand the losses that the file shows. A file that ends inside a reco
 listed up to there.
 
   --json           an object a line: file, then record
+  --               what follows is no option
+";
+
+pub const CHANNELS: &str = "\
+usage: lumbryth channels TRACE [options]
+
+Lists what TRACE has inside, and what import makes of it, a line for each fact. First each
+handle, with packets and PDUs each way (rx is from the headset). Under it its channels: CID,
+direction, what it is, PSM if a request tells it, PDUs. Then each DLCI, in the order in
+which import looks at them: its RFCOMM channel, frames (spans that unpack), spans (bytes
+from 3E through 3C), pieces, and how many are unfinished; how import takes it; and why spans
+do not unpack. If import takes none, the last line says why.
+
+A channel is one of these:
+  admitted       signals say that it is RFCOMM, PSM 0x0003: it is tried
+  guessed        nothing names it, and its CID is 0x0040 or more: it is tried
+  named          signals name it, and not as RFCOMM: it is passed over
+  signals        CID 0x0001, where channels are named
+  passed over    any other
+
+A file that ends inside a record is looked at up to there. What is shown here is the
+program's own reading and is not proved; what import gives is proved.
+
+  --json           an object a line: file; then handle, channel; then dlci, refused
   --               what follows is no option
 ";
 

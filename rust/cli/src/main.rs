@@ -4,6 +4,7 @@
 #![deny(unsafe_code)]
 
 mod args;
+mod channels;
 mod check;
 mod help;
 mod hints;
@@ -85,6 +86,7 @@ fn run(args: &[OsString]) -> Result<(), Failure> {
         Command::Import(options) => run_import(&options),
         Command::Frames(look, json) => run_frames(&look, json),
         Command::Records(trace, json) => run_records(&trace, json),
+        Command::Channels(trace, json) => run_channels(&trace, json),
         Command::Check(options) => run_check(&options),
     }
 }
@@ -140,13 +142,18 @@ fn refused(trace: &Path, channel: Option<u8>, file: &[u8], refusal: Refusal) -> 
             "\nlumbryth: record a shorter log; a file that is trimmed by hand loses frames and does not tell"
         }
         Refusal::Truncated { .. } => "\nlumbryth: --tolerant keeps what was complete before that",
+        Refusal::NoStream => "\nlumbryth: see lumbryth channels, which shows what there is and why it is not taken",
         _ => "",
     };
-    // Why nothing is found may be that it is not in the file.
-    let lost = if refusal == Refusal::NoStream { gaps(file, TailRule::Tolerant).ok() } else { None };
-    let lost: String =
-        losses::seen(&lost.unwrap_or_default()).iter().map(|loss| format!("\nlumbryth: {}", loss.sentence())).collect();
-    format!("refused ({}): {words}: {}{hint}{lost}", refusal.number(), shown(trace))
+    // On another channel than the one asked for there may be frames; and why nothing is found may be that it is not in the file.
+    let mut more: Vec<String> = Vec::new();
+    if refusal == Refusal::NoStream {
+        more.extend(channels::other_lines(file, None));
+        let lost = gaps(file, TailRule::Tolerant).unwrap_or_default();
+        more.extend(losses::seen(&lost).iter().map(|loss| loss.sentence()));
+    }
+    let more: String = more.iter().map(|line| format!("\nlumbryth: {line}")).collect();
+    format!("refused ({}): {words}: {}{more}{hint}", refusal.number(), shown(trace))
 }
 
 /// The fixtures of an import, and the list of their set.
@@ -158,12 +165,18 @@ fn planned(look: &Look, exclude: &[String], found: &Found) -> Result<(Vec<Fixtur
     Ok((fixtures, set))
 }
 
+/// The other DLCIs that carry frames, a line each.
+fn others(file: &[u8], imported: &Imported) -> String {
+    channels::other_lines(file, Some(imported.dlci)).iter().map(|line| format!("{line}\n")).collect()
+}
+
 fn run_import(options: &Import) -> Result<(), Failure> {
     let found = found(&options.look)?;
     let (fixtures, set) = planned(&options.look, &options.exclude, &found)?;
     let Found { file, imported, open, gaps } = &found;
     let mut findings = report::findings(file, imported, open, options.look.channel.is_some(), "among the fixtures");
     findings += &report::missing(file, imported, gaps);
+    findings += &others(file, imported);
     let excluded = imported.frames - report::broken(imported) - fixtures.len();
     if !options.exclude.is_empty() {
         findings += &format!("{} left out by --exclude.\n", count(excluded, "frame", "frames"));
@@ -181,10 +194,12 @@ fn run_import(options: &Import) -> Result<(), Failure> {
 fn run_frames(look: &Look, json: bool) -> Result<(), Failure> {
     let Found { file, imported, open, gaps } = found(look)?;
     if json {
-        return print(&report::frame_objects(&file, &imported, &open, &gaps));
+        let others = channels::other_objects(&file, imported.dlci);
+        return print(&(report::frame_objects(&file, &imported, &open, &gaps) + &others));
     }
     let mut findings = report::findings(&file, &imported, &open, look.channel.is_some(), "listed");
     findings += &report::missing(&file, &imported, &gaps);
+    findings += &others(&file, &imported);
     print(&(findings + &report::frames(&imported)))
 }
 
@@ -193,6 +208,13 @@ fn run_records(trace: &Path, json: bool) -> Result<(), Failure> {
     let told = |refusal| Failure::Refused(refused(trace, None, &file, refusal));
     let (found, gaps) = (records(&file).map_err(told)?, gaps(&file, TailRule::Tolerant).map_err(told)?);
     print(&if json { report::record_objects(&file, &found, &gaps) } else { report::records(&file, &found, &gaps) })
+}
+
+fn run_channels(trace: &Path, json: bool) -> Result<(), Failure> {
+    let file = source::read(trace).map_err(Failure::Refused)?;
+    let told = |refusal| Failure::Refused(refused(trace, None, &file, refusal));
+    let (seen, gaps) = (look::look(&file).map_err(told)?, gaps(&file, TailRule::Tolerant).map_err(told)?);
+    print(&if json { channels::objects(&file, &seen, &gaps) } else { channels::text(&file, &seen, &gaps) })
 }
 
 fn run_check(options: &Check) -> Result<(), Failure> {

@@ -54,7 +54,7 @@ pub fn end_of(file: &[u8]) -> Option<(String, bool)> {
 }
 
 /// A text with a capital and a full stop.
-fn sentence(words: &str) -> String {
+pub fn sentence(words: &str) -> String {
     let mut chars = words.chars();
     chars.next().map_or(String::new(), |first| format!("{}{}.", first.to_ascii_uppercase(), chars.as_str()))
 }
@@ -156,7 +156,7 @@ pub fn frames(imported: &Imported) -> String {
 }
 
 /// How the file ends, as fields of an object.
-fn end_fields(file: &[u8]) -> Vec<(&'static str, String)> {
+pub fn end_fields(file: &[u8]) -> Vec<(&'static str, String)> {
     let (name, mut fields) = match ending(file) {
         Ok(Ending::Inside(cut)) => {
             let missing = cut.missing.map_or("null".to_string(), |n| n.to_string());

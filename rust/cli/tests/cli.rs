@@ -21,6 +21,7 @@ fn help_and_version() {
         &["import", "--help"],
         &["frames", "--help"],
         &["records", "--help"],
+        &["channels", "--help"],
         &["check", "--help"],
         &["import", "x", "-h"],
     ] {
@@ -607,7 +608,7 @@ fn a_failure_midway_leaves_nothing() {
 #[test]
 fn nobody_listens() {
     let trace = example("headset.btsnoop");
-    for command in ["frames", "records", "import"] {
+    for command in ["frames", "records", "channels", "import"] {
         let (reader, writer) = pipe().unwrap();
         drop(reader);
         let mut program = Command::new(PROGRAM);

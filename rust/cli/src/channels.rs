@@ -1,0 +1,268 @@
+//! What a look inside a trace found, in words, and as objects for other programs.
+
+use std::fmt::Write;
+
+use crate::losses;
+use crate::report::{end_fields, end_of, sentence};
+use crate::words::{count, object, string, way};
+use look::{Channel, Dlci, Handle, Seen, Standing};
+use lumbryth::Gaps;
+
+/// How import is asked to read the file: one that ends inside a record is read by the tolerant rule only.
+fn import(file: &[u8], seen: &Seen) -> &'static str {
+    if seen.tail < file.len() {
+        "import --tolerant"
+    } else {
+        "import"
+    }
+}
+
+fn datalink(file: &[u8]) -> u32 {
+    u32::from_be_bytes([file[12], file[13], file[14], file[15]])
+}
+
+fn channels(seen: &Seen) -> usize {
+    seen.handles.iter().map(|handle| handle.channels.len()).sum()
+}
+
+/// One word for what a channel is.
+fn name(standing: Standing) -> &'static str {
+    match standing {
+        Standing::Admitted => "admitted",
+        Standing::Guessed => "guessed",
+        Standing::Signals => "signals",
+        Standing::Service | Standing::Unasked | Standing::Refused => "named",
+        Standing::Fixed => "passed over",
+    }
+}
+
+/// Why a channel's PDUs are passed over.
+fn reason(channel: &Channel) -> Option<String> {
+    match channel.standing() {
+        Standing::Admitted | Standing::Guessed | Standing::Signals => None,
+        Standing::Service => Some("no request for it has PSM 0x0003, RFCOMM".to_string()),
+        Standing::Unasked => Some("a response names it, and the request is not in the file before that".to_string()),
+        Standing::Refused => Some(match channel.result {
+            Some(result) => {
+                format!("no response to a request for RFCOMM is a success, and the last has result {result}")
+            }
+            None => "no response to a request for RFCOMM is a success, and the last has no result".to_string(),
+        }),
+        Standing::Fixed => Some("nothing names it, and its CID is under 0x0040".to_string()),
+    }
+}
+
+fn channel_line(handle: u16, channel: &Channel) -> String {
+    let standing = channel.standing();
+    let mut line = format!("CID 0x{:04x} {}, {}", channel.cid, way(channel.direction), name(standing));
+    if !channel.psms.is_empty() {
+        let psms: Vec<String> = channel.psms.iter().map(|psm| format!("0x{psm:04x}")).collect();
+        line += &format!(", PSM {}", psms.join(" then "));
+    }
+    line += &format!(", {}, handle {handle}", count(channel.pdus, "PDU", "PDUs"));
+    let over = if standing == Standing::Fixed { "" } else { "passed over, for " };
+    reason(channel).into_iter().for_each(|words| line += &format!(": {over}{words}"));
+    line + ".\n"
+}
+
+fn handle_lines(handle: &Handle) -> String {
+    let ways = [("rx", handle.packets.rx, handle.pdus.rx), ("tx", handle.packets.tx, handle.pdus.tx)];
+    let line = |(way, packets, pdus)| {
+        let (packets, pdus) = (count(packets, "packet", "packets"), count(pdus, "PDU", "PDUs"));
+        format!("Handle {} {way}: {packets}, {pdus}.\n", handle.handle)
+    };
+    let channels = handle.channels.iter().map(|channel| channel_line(handle.handle, channel));
+    ways.map(line).into_iter().chain(channels).collect()
+}
+
+/// The DLCI that a channel gives in place of this one, if it is another.
+fn before<'a>(seen: &'a Seen, dlci: &Dlci) -> Option<&'a Dlci> {
+    seen.taken(Some(dlci.channel())).filter(|first| first.dlci != dlci.dlci)
+}
+
+/// Whether and how import takes a DLCI, without a full stop.
+fn taking(import: &str, seen: &Seen, dlci: &Dlci) -> String {
+    let channel = dlci.channel();
+    match before(seen, dlci) {
+        _ if dlci.spans == 0 => format!("{import} does not take it, for it has no span"),
+        _ if dlci.frames == 0 => format!("{import} does not take it, for no span unpacks"),
+        Some(first) => {
+            format!(
+                "no channel asks for it, for {import} --channel {channel} takes DLCI {}, which comes first",
+                first.dlci
+            )
+        }
+        None if seen.taken(None) == Some(dlci) => format!("{import} takes it, with --channel {channel} or without"),
+        None => format!("{import} --channel {channel} takes it"),
+    }
+}
+
+fn dlci_lines(import: &str, seen: &Seen, dlci: &Dlci) -> String {
+    let mut text = format!(
+        "DLCI {}, channel {}: {}, {}, {}, {} unfinished.\n",
+        dlci.dlci,
+        dlci.channel(),
+        count(dlci.frames, "frame", "frames"),
+        count(dlci.spans, "span", "spans"),
+        count(dlci.pieces, "piece", "pieces"),
+        dlci.unfinished,
+    );
+    let _ = writeln!(text, "DLCI {}: {}.", dlci.dlci, taking(import, seen, dlci));
+    for refused in &dlci.refused {
+        let spans = count(refused.spans, "span does not unpack", "spans do not unpack");
+        let first = if refused.spans == 1 { "" } else { "the first: " };
+        let (number, words) = (refused.refusal.number(), refused.refusal);
+        let _ = writeln!(text, "DLCI {}: {spans}, refusal {number}, {first}{words}.", dlci.dlci);
+    }
+    text
+}
+
+/// Why there is no frame, if there is none.
+fn none(seen: &Seen) -> Option<&'static str> {
+    let pdus: usize = seen.handles.iter().map(|handle| handle.pdus.rx + handle.pdus.tx).sum();
+    match seen {
+        _ if seen.taken(None).is_some() => None,
+        _ if seen.handles.is_empty() && seen.skipped == 0 => Some("there is no packet with data"),
+        _ if seen.handles.is_empty() => Some("no packet with data was recorded whole"),
+        _ if pdus == 0 => Some("no PDU is whole"),
+        _ if seen.tried() == 0 => Some("nothing came on a channel that is admitted or guessed to be RFCOMM"),
+        _ if seen.dlcis.is_empty() => Some("PDUs came on RFCOMM, and no piece of information"),
+        _ if seen.dlcis.iter().all(|dlci| dlci.spans == 0) => Some("pieces came, and no span"),
+        _ => Some("spans came, and none unpacks"),
+    }
+}
+
+/// Handles, channels and DLCIs, a line for each fact.
+pub fn text(file: &[u8], seen: &Seen, gaps: &Gaps) -> String {
+    let import = import(file, seen);
+    let mut text = format!(
+        "{}, {}, {}: datalink {}.\n",
+        count(seen.handles.len(), "handle", "handles"),
+        count(channels(seen), "channel", "channels"),
+        count(seen.dlcis.len(), "DLCI", "DLCIs"),
+        datalink(file),
+    );
+    let (words, ends) = end_of(file).unwrap_or_default();
+    let _ = writeln!(text, "{}", sentence(&words));
+    if ends {
+        text += "Whatever came later is missing.\n";
+    }
+    text += &losses::lines(gaps);
+    text.extend(seen.handles.iter().map(handle_lines));
+    text.extend(seen.dlcis.iter().map(|dlci| dlci_lines(import, seen, dlci)));
+    if let Some(words) = none(seen) {
+        let _ = writeln!(text, "{} refuses the trace (6): {words}.", import.replace("import", "Import"));
+    }
+    text
+}
+
+fn null_or(number: Option<impl ToString>) -> String {
+    number.map_or("null".to_string(), |number| number.to_string())
+}
+
+/// What `text` says, an object a line.
+pub fn objects(file: &[u8], seen: &Seen, gaps: &Gaps) -> String {
+    let mut fields = vec![
+        ("kind", string("file")),
+        ("datalink", datalink(file).to_string()),
+        ("records", seen.records.to_string()),
+        ("taken", null_or(seen.taken(None).map(|dlci| dlci.dlci))),
+        ("reason", none(seen).map_or("null".to_string(), string)),
+    ];
+    fields.extend(end_fields(file));
+    fields.push(("losses", losses::fields(gaps)));
+    let mut text = object(&fields);
+    for handle in &seen.handles {
+        text += &object(&[
+            ("kind", string("handle")),
+            ("handle", handle.handle.to_string()),
+            ("rx_packets", handle.packets.rx.to_string()),
+            ("rx_pdus", handle.pdus.rx.to_string()),
+            ("tx_packets", handle.packets.tx.to_string()),
+            ("tx_pdus", handle.pdus.tx.to_string()),
+        ]);
+        text.extend(handle.channels.iter().map(|channel| channel_object(handle.handle, channel)));
+    }
+    text.extend(seen.dlcis.iter().map(|dlci| dlci_objects(seen, dlci)));
+    text
+}
+
+fn channel_object(handle: u16, channel: &Channel) -> String {
+    let psms: Vec<String> = channel.psms.iter().map(|psm| psm.to_string()).collect();
+    object(&[
+        ("kind", string("channel")),
+        ("handle", handle.to_string()),
+        ("direction", string(way(channel.direction))),
+        ("cid", channel.cid.to_string()),
+        ("psms", format!("[{}]", psms.join(","))),
+        ("standing", string(name(channel.standing()))),
+        ("tried", channel.standing().is_tried().to_string()),
+        ("pdus", channel.pdus.to_string()),
+        ("reason", reason(channel).map_or("null".to_string(), |words| string(&words))),
+    ])
+}
+
+fn dlci_objects(seen: &Seen, dlci: &Dlci) -> String {
+    let asked = (dlci.frames > 0 && before(seen, dlci).is_none()).then(|| dlci.channel());
+    let mut text = object(&[
+        ("kind", string("dlci")),
+        ("dlci", dlci.dlci.to_string()),
+        ("channel", dlci.channel().to_string()),
+        ("pieces", dlci.pieces.to_string()),
+        ("spans", dlci.spans.to_string()),
+        ("frames", dlci.frames.to_string()),
+        ("unfinished", dlci.unfinished.to_string()),
+        ("asked_by", null_or(asked)),
+    ]);
+    for refused in &dlci.refused {
+        text += &object(&[
+            ("kind", string("refused")),
+            ("dlci", dlci.dlci.to_string()),
+            ("refusal", refused.refusal.number().to_string()),
+            ("spans", refused.spans.to_string()),
+            ("reason", string(&refused.refusal.to_string())),
+        ]);
+    }
+    text
+}
+
+/// The DLCIs with frames but for the one taken, if one is.
+fn others(seen: &Seen, taken: Option<u8>) -> impl Iterator<Item = &Dlci> {
+    seen.dlcis.iter().filter(move |dlci| dlci.frames > 0 && Some(dlci.dlci) != taken)
+}
+
+/// What other DLCIs have frames than the one taken, if one is: a sentence each.
+pub fn other_lines(file: &[u8], taken: Option<u8>) -> Vec<String> {
+    let Ok(seen) = look::look(file) else { return Vec::new() };
+    let line = |dlci: &Dlci| {
+        let (number, channel) = (dlci.dlci, dlci.channel());
+        let frames = count(dlci.frames, "frame that unpacks", "frames that unpack");
+        let too = if taken.is_some() { " too" } else { "" };
+        match before(&seen, dlci) {
+            None => format!("DLCI {number}, channel {channel}, has {frames}{too}: --channel {channel}."),
+            Some(first) => {
+                let first = first.dlci;
+                format!(
+                    "DLCI {number}, channel {channel}, has {frames}{too}, and no channel asks for it: \
+                     --channel {channel} takes DLCI {first}, which comes first."
+                )
+            }
+        }
+    };
+    others(&seen, taken).map(line).collect()
+}
+
+/// What `other_lines` says, an object a line.
+pub fn other_objects(file: &[u8], taken: u8) -> String {
+    let Ok(seen) = look::look(file) else { return String::new() };
+    let other = |dlci: &Dlci| {
+        object(&[
+            ("kind", string("other")),
+            ("dlci", dlci.dlci.to_string()),
+            ("channel", dlci.channel().to_string()),
+            ("frames", dlci.frames.to_string()),
+            ("asked_by", null_or(before(&seen, dlci).is_none().then(|| dlci.channel()))),
+        ])
+    };
+    others(&seen, Some(taken)).map(other).collect()
+}

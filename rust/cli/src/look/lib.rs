@@ -1,0 +1,85 @@
+//! A look inside a trace: handles, channels and DLCIs, what is tried as RFCOMM, and what is found there.
+//!
+//! It is the program's own reading, plain and not proved; what import gives is proved. The rules are those of docs/FORMATS.md, and
+//! the tests hold what is found here against the import.
+//!
+//! The records are walked twice, each time with little in memory: a channel is judged by all signals of the file, also by those that
+//! come after its data. The first walk reads the signals, the second the data of the channels that are tried.
+
+#![deny(unsafe_code)]
+
+mod channels;
+mod packets;
+mod pdus;
+mod rfcomm;
+mod signals;
+
+pub use channels::{Channel, Handle, Standing, Ways};
+pub use rfcomm::{Dlci, Refused};
+
+use channels::Channels;
+use lumbryth::{records, Refusal};
+use packets::Held;
+use pdus::Joining;
+use rfcomm::Lines;
+
+/// What a trace has inside.
+#[derive(Debug, Clone, PartialEq, Eq)]
+pub struct Seen {
+    /// How many whole records there are.
+    pub records: usize,
+    /// Where the reading stopped: the file's length, or where the record starts that passes its end.
+    pub tail: usize,
+    /// How many packets with data are skipped, because a part of each is not in the file.
+    pub skipped: usize,
+    /// The handles, in the order of their first packets.
+    pub handles: Vec<Handle>,
+    /// The DLCIs, in the order of their first pieces, which is the order in which import looks at them.
+    pub dlcis: Vec<Dlci>,
+}
+
+impl Seen {
+    /// The DLCI that import takes: the first that has a frame, on the channel if one is asked for.
+    pub fn taken(&self, channel: Option<u8>) -> Option<&Dlci> {
+        self.dlcis.iter().find(|dlci| dlci.frames > 0 && channel.is_none_or(|channel| channel == dlci.channel()))
+    }
+
+    /// How many PDUs are tried as RFCOMM.
+    pub fn tried(&self) -> usize {
+        let channels = self.handles.iter().flat_map(|handle| &handle.channels);
+        channels.filter(|channel| channel.standing().is_tried()).map(|channel| channel.pdus).sum()
+    }
+}
+
+/// Looks inside a trace, up to where it ends if that is inside a record. Refuses as [`records`] does.
+pub fn look(file: &[u8]) -> Result<Seen, Refusal> {
+    let found = records(file)?;
+    let (mut channels, mut joining, mut skipped) = (Channels::default(), Joining::default(), 0);
+    for held in packets::each(file, &found.starts) {
+        match held {
+            Held::Packet(packet) => {
+                channels.packet(&packet);
+                if let Some(pdu) = joining.join(&packet) {
+                    channels.pdu(&pdu);
+                }
+            }
+            Held::Short => skipped += 1,
+            Held::Other => {}
+        }
+    }
+    let (mut lines, mut joining) = (Lines::default(), Joining::default());
+    for held in packets::each(file, &found.starts) {
+        if let Held::Packet(packet) = held {
+            if let Some(pdu) = joining.join(&packet) {
+                lines.pdu(&pdu, channels.is_tried(&pdu));
+            }
+        }
+    }
+    Ok(Seen {
+        records: found.starts.len(),
+        tail: found.tail,
+        skipped,
+        handles: channels.handles(),
+        dlcis: lines.dlcis(),
+    })
+}

@@ -1,0 +1,40 @@
+//! PDUs, put together from packets for each handle and direction.
+
+use std::collections::HashMap;
+
+use crate::packets::{le16, Packet};
+use lumbryth::Direction;
+
+/// A PDU.
+pub struct Pdu {
+    pub handle: u16,
+    pub direction: Direction,
+    pub cid: u16,
+    pub payload: Vec<u8>,
+}
+
+/// The PDUs under way.
+#[derive(Default)]
+pub struct Joining {
+    open: HashMap<(u16, Direction), Vec<u8>>,
+}
+
+impl Joining {
+    /// Takes a packet, and gives the PDU that it completes. A start gives up what is not complete, a packet that goes on with nothing
+    /// is passed over, and bytes in excess are dropped.
+    pub fn join(&mut self, packet: &Packet) -> Option<Pdu> {
+        let key = (packet.handle, packet.direction);
+        if packet.starts {
+            self.open.insert(key, Vec::new());
+        }
+        let bytes = self.open.get_mut(&key)?;
+        bytes.extend(packet.data);
+        let end = 4 + usize::from(le16(bytes, 0)?);
+        let cid = le16(bytes, 2)?;
+        if bytes.len() < end {
+            return None;
+        }
+        let bytes = self.open.remove(&key)?;
+        Some(Pdu { handle: packet.handle, direction: packet.direction, cid, payload: bytes[4..end].to_vec() })
+    }
+}

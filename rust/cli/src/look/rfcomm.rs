@@ -1,0 +1,169 @@
+//! RFCOMM: the pieces on each DLCI, the spans in them, and those that are frames.
+
+use std::collections::HashMap;
+
+use crate::pdus::Pdu;
+use crate::signals::{asks_session, Key};
+use lumbryth::{unpack, Refusal};
+
+/// The most bytes that wait for their end marker.
+const HELD_MAX: usize = 65_536;
+
+/// A DLCI, and what came on it.
+#[derive(Debug, Clone, PartialEq, Eq)]
+pub struct Dlci {
+    pub dlci: u8,
+    pub pieces: usize,
+    /// From 3E through 3C.
+    pub spans: usize,
+    /// The spans that unpack.
+    pub frames: usize,
+    /// How many stretches and directions hold bytes without an end marker at the end.
+    pub unfinished: usize,
+    /// The spans that do not unpack, by the number of the refusal.
+    pub refused: Vec<Refused>,
+}
+
+impl Dlci {
+    /// Its RFCOMM channel.
+    pub fn channel(&self) -> u8 {
+        self.dlci / 2
+    }
+}
+
+/// Spans that do not unpack for one reason.
+#[derive(Debug, Clone, PartialEq, Eq)]
+pub struct Refused {
+    /// Of the first of them.
+    pub refusal: Refusal,
+    pub spans: usize,
+}
+
+enum Frame<'a> {
+    /// Opens a DLCI.
+    Sabm(u8),
+    /// Carries information on a DLCI.
+    Uih(u8, &'a [u8]),
+}
+
+/// The frame of a PDU, if it opens something or carries something.
+fn frame(bytes: &[u8]) -> Option<Frame<'_>> {
+    let (dlci, control) = (bytes.first()? / 4, *bytes.get(1)?);
+    if matches!(control, 0x2F | 0x3F) {
+        return Some(Frame::Sabm(dlci));
+    }
+    if !matches!(control, 0xEF | 0xFF) {
+        return None;
+    }
+    let low = usize::from(*bytes.get(2)?);
+    let (length, start) = match low % 2 {
+        1 => (low / 2, 3),
+        _ => (low / 2 + 128 * usize::from(*bytes.get(3)?), 4),
+    };
+    let start = start + usize::from(control == 0xFF);
+    // The check byte has to be there too.
+    let information = bytes.get(start..start + length + 1)?.split_last()?.1;
+    (dlci != 0 && !information.is_empty()).then_some(Frame::Uih(dlci, information))
+}
+
+/// How often a handle's session, and the link of each DLCI, was opened.
+#[derive(Default)]
+struct Opened {
+    sessions: usize,
+    links: HashMap<u8, usize>,
+}
+
+/// What is held for a handle, channel and DLCI, since a session and link were opened. Both only grow, so that what was held before is
+/// never gone on with.
+#[derive(Default)]
+struct Buffer {
+    opened: (usize, usize),
+    held: Vec<u8>,
+}
+
+/// What is known so far.
+#[derive(Default)]
+pub struct Lines {
+    opened: HashMap<u16, Opened>,
+    dlcis: Vec<Dlci>,
+    buffers: HashMap<(u16, Key, u8), Buffer>,
+}
+
+impl Lines {
+    /// Takes a PDU, which is tried as RFCOMM or not.
+    pub fn pdu(&mut self, pdu: &Pdu, tried: bool) {
+        let opened = self.opened.entry(pdu.handle).or_default();
+        if asks_session(pdu) {
+            opened.sessions += 1;
+            return;
+        }
+        match frame(&pdu.payload).filter(|_| tried) {
+            Some(Frame::Sabm(0)) => opened.sessions += 1,
+            Some(Frame::Sabm(dlci)) => *opened.links.entry(dlci).or_default() += 1,
+            Some(Frame::Uih(dlci, information)) => {
+                let opened = (opened.sessions, opened.links.get(&dlci).copied().unwrap_or(0));
+                self.piece(pdu, dlci, opened, information);
+            }
+            None => {}
+        }
+    }
+
+    fn piece(&mut self, pdu: &Pdu, dlci: u8, opened: (usize, usize), information: &[u8]) {
+        let place = self.dlcis.iter().position(|line| line.dlci == dlci).unwrap_or_else(|| {
+            self.dlcis.push(Dlci { dlci, pieces: 0, spans: 0, frames: 0, unfinished: 0, refused: Vec::new() });
+            self.dlcis.len() - 1
+        });
+        let line = &mut self.dlcis[place];
+        line.pieces += 1;
+        let buffer = self.buffers.entry((pdu.handle, (pdu.direction, pdu.cid), dlci)).or_default();
+        if buffer.opened != opened {
+            line.unfinished += usize::from(!buffer.held.is_empty());
+            *buffer = Buffer { opened, held: Vec::new() };
+        }
+        buffer.take(information, |wire| line.span(wire));
+    }
+
+    pub fn dlcis(mut self) -> Vec<Dlci> {
+        for ((_, _, dlci), buffer) in &self.buffers {
+            let line = self.dlcis.iter_mut().find(|line| line.dlci == *dlci).filter(|_| !buffer.held.is_empty());
+            line.into_iter().for_each(|line| line.unfinished += 1);
+        }
+        for line in &mut self.dlcis {
+            line.refused.sort_by_key(|refused| refused.refusal.number());
+        }
+        self.dlcis
+    }
+}
+
+impl Buffer {
+    /// Takes the bytes of a piece, and gives each span that they complete.
+    fn take(&mut self, bytes: &[u8], mut span: impl FnMut(&[u8])) {
+        for &byte in bytes {
+            if self.held.is_empty() && byte != 0x3E {
+                continue;
+            }
+            self.held.push(byte);
+            if byte == 0x3C {
+                span(&self.held);
+                self.held.clear();
+            }
+        }
+        if self.held.len() > HELD_MAX {
+            self.held.clear();
+        }
+    }
+}
+
+impl Dlci {
+    fn span(&mut self, wire: &[u8]) {
+        self.spans += 1;
+        let Err(refusal) = unpack(wire) else {
+            self.frames += 1;
+            return;
+        };
+        match self.refused.iter_mut().find(|refused| refused.refusal.number() == refusal.number()) {
+            Some(refused) => refused.spans += 1,
+            None => self.refused.push(Refused { refusal, spans: 1 }),
+        }
+    }
+}
