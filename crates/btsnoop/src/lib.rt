@@ -273,7 +273,7 @@ fn read_hci(file: &[u8], lo: usize, end: usize, datalink: u32, flags: u32) -> Ac
 }
 
 // The packet of the record from one place up to another.
-pub fn read_packet(file: &[u8], at: usize, end: usize, datalink: u32) -> Acl
+fn read_packet(file: &[u8], at: usize, end: usize, datalink: u32) -> Acl
     requires { ⌜ RecordPre (now file) at end ⌝ }
     ensures { λ r. ⌜ RecordIs (now (file .entry)) at end datalink r ⌝ }
 {

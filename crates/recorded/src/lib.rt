@@ -1,16 +1,15 @@
 // What the whole records of a btsnoop file show of what is not in it, in one pass.
 ghost use mathlib.Core.Path.{_≡_};
-ghost use mathlib.Core.Bool.{_||_};
-ghost use Prim.Native.Nat.{_+_, _%_, _≤_};
-ghost use lib.Dec.{eqb};
-ghost use lib.ListN.{length, getD};
+ghost use Prim.Native.Nat.{_+_, _≤_};
+ghost use lib.ListN.{length};
 ghost use Rattle.btsnoop.specs.Reading.{between, RecordPre};
-ghost use Rattle.signs.specs.Recorded.{isAcl, isSkipped, isZeros};
+ghost use Rattle.signs.specs.Recorded.{isSkipped, isZeros};
 ghost use Rattle.signs.specs.Gaps.{recordGaps};
 ghost use Rattle.recorded.specs.Looking.{recordedOf, Readable, ShortIs, DropsIs, notedIf, GapPre, Risen, LookPre, Looks};
 use btsnoop::Step;
 use btsnoop::read_at;
 use signs::Gap;
+use signs::is_acl;
 use signs::lacks_packet;
 use signs::note;
 use words::get_be32;
@@ -43,46 +42,6 @@ fn drops_of(file: &[u8], at: usize) -> u32
     ensures { λ r. ⌜ DropsIs (now (file .entry)) at r ⌝ }
 {
     get_be32(file, at + 12)
-}
-
-// Whether a monitor's flags say ACL data.
-fn is_monitor_acl(flags: u32) -> bool
-    ensures { λ r. ⌜ r ≡ (eqb (flags % 65536) 4 || eqb (flags % 65536) 5) ⌝ }
-{
-    let op = flags % 65536;
-    if op == 4 {
-        return true;
-    }
-    op == 5
-}
-
-// Whether an H4 packet's first byte is there and says ACL data.
-fn is_h4_acl(file: &[u8], lo: usize, end: usize) -> bool
-    requires { ⌜ end ≤ length (now file) ⌝ }
-    ensures { λ r. ⌜ r ≡ eqb (getD (between (now (file .entry)) lo end) 0 0) 2 ⌝ }
-{
-    if lo < end {
-        return file[lo] == 2;
-    }
-    false
-}
-
-// Whether the record from one place up to another is ACL data by its flags.
-fn is_acl(file: &[u8], at: usize, end: usize, datalink: u32) -> bool
-    requires { ⌜ RecordPre (now file) at end ⌝ }
-    ensures { λ r. ⌜ r ≡ isAcl datalink (between (now (file .entry)) at end) ⌝ }
-{
-    let flags = get_be32(file, at + 8);
-    if datalink == 2001 {
-        return is_monitor_acl(flags);
-    }
-    if flags / 2 % 2 == 1 {
-        return false;
-    }
-    if datalink == 1002 {
-        return is_h4_acl(file, at + 24, end);
-    }
-    true
 }
 
 // Whether it is ACL data and holds no packet that import takes.

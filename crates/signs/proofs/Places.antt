@@ -1,7 +1,7 @@
 -- Walking the records of a btsnoop file with their places.
 use Prim.Native.Nat.{ℕ, _+_, _-_, _<_, _≤_}
 use mathlib.Core.Path.{_≡_, refl, sym, ap, _∙_}
-use mathlib.Core.Bool.{true, false}
+use mathlib.Core.Bool.{false}
 use mathlib.Core.List.{List, [], _∷_, _++_, map}
 use mathlib.Core.Option.{Option, none, some}
 use native.Mathlib.Omega.{arith}
@@ -13,15 +13,12 @@ use Rattle.container.specs.Packets.{Packet, orNone, packets}
 use Rattle.btsnoop.specs.Header.{datalink}
 use Rattle.btsnoop.specs.Records.{btsnoop, recordsIn}
 use Rattle.btsnoop.specs.Packets.{packetOf}
-use Rattle.btsnoop.specs.Reading.{between, shown, RecordIs}
+use Rattle.btsnoop.specs.Reading.{between}
 use Rattle.btsnoop.specs.Reader.{stepOf, isRecord}
 use Rattle.btsnoop.specs.Walk.{RecordAt}
 use Rattle.btsnoop.proofs.ReaderLaws.{record-told, none-told}
 use Rattle.btsnoop.specs.declared.Step.{Step}
 use Rattle.btsnoop.specs.declared.Step.the-variants.{Record, Cut, End}
-use Rattle.btsnoop.specs.declared.Acl.{Acl}
-use Rattle.btsnoop.specs.declared.Fragment.{Fragment}
-use Rattle.btsnoop.specs.declared.Acl.the-variants.{Packet as Read, Skipped}
 use Rattle.signs.specs.Places.{Placed, placed, placedPacket, placedPackets, recordsAt, packetsAt}
 use Rattle.signs.specs.Recorded.{isNone}
 
@@ -91,14 +88,3 @@ packets-are read (r ∷ rs) = go (packets-are read rs) (read (r .is)) where
 pub file-packets : (C : Container) (f : List ℕ) → map (λ (a : Placed Packet). a .is) (packetsAt C f) ≡ packetsIn C f
 unfolding packetsAt recordsAt packetsIn
 file-packets C f = packets-are (C .packet f) (placed (C .head) (container.records C f)) ∙ rw (placed-are (C .head) (container.records C f))
-
--- ---- whether a record holds a packet
-
-module _ (f : List ℕ) (at e datalink : ℕ) (x : Acl) (i : RecordIs f at e datalink x) where
-  pub holds-one : (g : Fragment) → x ≡ Read g → false ≡ isNone (packetOf datalink (between f at e))
-  unfolding isNone shown
-  holds-one g q = rw (i .shows, q)
-
-  pub holds-none : x ≡ Skipped → true ≡ isNone (packetOf datalink (between f at e))
-  unfolding isNone shown
-  holds-none q = rw (i .shows, q)

@@ -4,3 +4,4 @@ pub mod Partial
 pub mod Gaps
 pub mod Counting
 pub mod Following
+pub mod Reading

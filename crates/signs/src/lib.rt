@@ -1,11 +1,18 @@
 // Signs in a trace that something is not in it: what they are, and one of them counted.
 ghost use mathlib.Core.Path.{_≡_};
+ghost use mathlib.Core.Bool.{_||_};
+ghost use Prim.Native.Nat.{_%_, _≤_};
+ghost use lib.Dec.{eqb};
+ghost use lib.ListN.{length, getD};
 ghost use Rattle.btsnoop.specs.Packets.{packetOf};
 ghost use Rattle.btsnoop.specs.Reading.{between, RecordPre};
 ghost use Rattle.signs.specs.Counting.{noted, NotePre};
-ghost use Rattle.signs.specs.Recorded.{isNone};
-use btsnoop::Acl;
-use btsnoop::read_packet;
+ghost use Rattle.signs.specs.Recorded.{isAcl, isNone};
+ghost use Rattle.signs.specs.Reading.{lacksData, beforePacket};
+use words::Field;
+use words::field16;
+use words::get_be32;
+use words::wide16;
 
 // How often a sign comes, and the byte at which the record starts that shows it first; 0 if none does.
 pub struct Gap {
@@ -30,14 +37,75 @@ pub fn note(g: Gap, by: u64, at: usize) -> Gap
     }
 }
 
-// Whether the record from one place up to another holds no ACL packet that import takes.
+// Whether a monitor's flags say ACL data.
+fn is_monitor_acl(flags: u32) -> bool
+    ensures { λ r. ⌜ r ≡ (eqb (flags % 65536) 4 || eqb (flags % 65536) 5) ⌝ }
+{
+    let op = flags % 65536;
+    if op == 4 {
+        return true;
+    }
+    op == 5
+}
+
+// Whether an H4 packet's first byte is there and says ACL data.
+fn is_h4_acl(file: &[u8], lo: usize, end: usize) -> bool
+    requires { ⌜ end ≤ length (now file) ⌝ }
+    ensures { λ r. ⌜ r ≡ eqb (getD (between (now (file .entry)) lo end) 0 0) 2 ⌝ }
+{
+    if lo < end {
+        return file[lo] == 2;
+    }
+    false
+}
+
+// Whether the record from one place up to another is ACL data by its flags.
+pub fn is_acl(file: &[u8], at: usize, end: usize, datalink: u32) -> bool
+    requires { ⌜ RecordPre (now file) at end ⌝ }
+    ensures { λ r. ⌜ r ≡ isAcl datalink (between (now (file .entry)) at end) ⌝ }
+{
+    let flags = get_be32(file, at + 8);
+    if datalink == 2001 {
+        return is_monitor_acl(flags);
+    }
+    if flags / 2 % 2 == 1 {
+        return false;
+    }
+    if datalink == 1002 {
+        return is_h4_acl(file, at + 24, end);
+    }
+    true
+}
+
+// Whether a field of an ACL packet, or its data, is not all there between two places.
+fn lacks_data(file: &[u8], lo: usize, end: usize) -> bool
+    requires { ⌜ (lo ≤ end) × (end ≤ length (now file)) ⌝ }
+    ensures { λ r. ⌜ r ≡ lacksData (between (now (file .entry)) lo end) ⌝ }
+{
+    let b = &file[lo..end];
+    let Field::Value(n) = field16(b, 2) else {
+        return true;
+    };
+    b.len() < 4 + wide16(n)
+}
+
+// How many bytes of a record of ACL data stand before its packet.
+fn before_packet(datalink: u32) -> usize
+    ensures { λ r. ⌜ r ≡ beforePacket datalink ⌝ }
+{
+    if datalink == 1002 {
+        return 25;
+    }
+    24
+}
+
+// Whether the record from one place up to another holds no ACL packet that import takes. It does not read the packet.
 pub fn lacks_packet(file: &[u8], at: usize, end: usize, datalink: u32) -> bool
     requires { ⌜ RecordPre (now file) at end ⌝ }
     ensures { λ r. ⌜ r ≡ isNone (packetOf datalink (between (now (file .entry)) at end)) ⌝ }
 {
-    let x = read_packet(file, at, end, datalink);
-    match x {
-        Acl::Packet(_) => false,
-        Acl::Skipped => true,
+    if is_acl(file, at, end, datalink) {
+        return lacks_data(file, at + before_packet(datalink), end);
     }
+    true
 }

@@ -5,7 +5,7 @@ use Rattle.recorded.proofs.is_skipped.Statement.{statement}
 use Rattle.recorded.proofs.is_skipped.Tie as tie
 use Rattle.recorded.proofs.is_skipped.Reads as reads
 use Rattle.recorded.proofs.is_skipped.Lts as lts
-use Rattle.recorded.proofs.is_acl.Reads as is-acl-reads
+use Rattle.signs.proofs.is_acl.Reads as is-acl-reads
 use Rattle.signs.proofs.lacks_packet.Reads as lacks-packet-reads
 
 -- src/lib.rt:93:8

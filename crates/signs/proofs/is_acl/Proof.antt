@@ -1,12 +1,12 @@
-use Rattle.recorded.proofs.Records.{acl-monitor, acl-not, acl-h4, acl-plain}
+use Rattle.signs.proofs.Acl.{acl-monitor, acl-not, acl-h4, acl-plain}
 use native.Mathlib.Omega.{arith}
 use borrow.Author.Needs.{needs}
-use Rattle.recorded.proofs.is_acl.Statement.{statement}
-use Rattle.recorded.proofs.is_acl.Tie as tie
-use Rattle.recorded.proofs.is_acl.Reads as reads
-use Rattle.recorded.proofs.is_acl.Lts as lts
-use Rattle.recorded.proofs.is_h4_acl.Reads as is-h4-acl-reads
-use Rattle.recorded.proofs.is_monitor_acl.Reads as is-monitor-acl-reads
+use Rattle.signs.proofs.is_acl.Statement.{statement}
+use Rattle.signs.proofs.is_acl.Tie as tie
+use Rattle.signs.proofs.is_acl.Reads as reads
+use Rattle.signs.proofs.is_acl.Lts as lts
+use Rattle.signs.proofs.is_h4_acl.Reads as is-h4-acl-reads
+use Rattle.signs.proofs.is_monitor_acl.Reads as is-monitor-acl-reads
 use Rattle.words.proofs.get_be32.Reads as get-be32-reads
 
 -- src/lib.rt:75:32

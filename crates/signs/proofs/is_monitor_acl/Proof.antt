@@ -1,10 +1,10 @@
-use Rattle.recorded.proofs.Records.{monitor-sent, monitor-else}
+use Rattle.signs.proofs.Acl.{monitor-sent, monitor-else}
 use borrow.Author.Needs.{needs}
 use native.Mathlib.Omega.{arith}
-use Rattle.recorded.proofs.is_monitor_acl.Statement.{statement}
-use Rattle.recorded.proofs.is_monitor_acl.Tie as tie
-use Rattle.recorded.proofs.is_monitor_acl.Reads as reads
-use Rattle.recorded.proofs.is_monitor_acl.Lts as lts
+use Rattle.signs.proofs.is_monitor_acl.Statement.{statement}
+use Rattle.signs.proofs.is_monitor_acl.Tie as tie
+use Rattle.signs.proofs.is_monitor_acl.Reads as reads
+use Rattle.signs.proofs.is_monitor_acl.Lts as lts
 
 -- src/lib.rt:54:9
 returns : tie.Need-returns

@@ -1,10 +1,10 @@
-use Rattle.recorded.proofs.Records.{h4-some, h4-none}
+use Rattle.signs.proofs.Acl.{h4-some, h4-none}
 use native.Mathlib.Omega.{arith}
 use borrow.Author.Needs.{needs}
-use Rattle.recorded.proofs.is_h4_acl.Statement.{statement}
-use Rattle.recorded.proofs.is_h4_acl.Tie as tie
-use Rattle.recorded.proofs.is_h4_acl.Reads as reads
-use Rattle.recorded.proofs.is_h4_acl.Lts as lts
+use Rattle.signs.proofs.is_h4_acl.Statement.{statement}
+use Rattle.signs.proofs.is_h4_acl.Tie as tie
+use Rattle.signs.proofs.is_h4_acl.Reads as reads
+use Rattle.signs.proofs.is_h4_acl.Lts as lts
 
 -- src/lib.rt:65:16
 shared-slice-read-result : tie.Need-shared-slice-read-result
