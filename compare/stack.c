@@ -14,18 +14,19 @@ enum { FILE_MOST = 1 << 20, OUT = 1 << 24, STACK = 1 << 20, FILL = 0xA5 };
 
 static uint8_t *file, *work, *spans, *plan, *names;
 static size_t file_len, spans_len, names_len;
-static uint64_t values[5];
+static uint64_t values[LUMBRYTH_GAPS];
 
 static void import_trace(void) {
     if (lumbryth_import(file, file_len, work, 8 * file_len, spans, OUT, 256, 1, values, 5) == 0) spans_len = values[4];
 }
+static void find_gaps(void) { lumbryth_gaps(file, file_len, work, 8 * file_len, 1, values, LUMBRYTH_GAPS); }
 static void make_plan(void) { lumbryth_plan(spans, spans_len, spans, 0, plan, OUT, values, 5); }
 static void order_names(void) { lumbryth_capture_order(names, names_len, plan, OUT, values, 5); }
 static void pack_frame(void) { lumbryth_pack(12, 1, file, file_len < 32760 ? file_len : 32760, plan, OUT, values, 5); }
 static void unpack_frame(void) { lumbryth_unpack(plan, values[0], spans, OUT, values, 5); }
 
 static const struct { const char *name; void (*call)(void); } calls[] = {
-    {"import", import_trace}, {"plan", make_plan}, {"order", order_names},
+    {"import", import_trace}, {"gaps", find_gaps}, {"plan", make_plan}, {"order", order_names},
     {"pack", pack_frame}, {"unpack", unpack_frame},
 };
 
