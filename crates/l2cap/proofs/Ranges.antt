@@ -38,10 +38,6 @@ module _ (f w : List ℕ) (q : ℕ) (t : Tables) (i upto : ℕ) (p : Run f w q t
     };
   }
 
--- a step is a range of one packet
-pub step-run : (f w : List ℕ) (q : ℕ) (t : Tables) (i : ℕ) → Step f w q t i → Run f w q t i (i + 1)
-step-run f w q t i p = record { within = omega arith; ready = p .ready; tabled = p .tabled; linked = p .linked; seats = p .seats }
-
 -- ---- the steps from one packet up to another
 
 module _ (f : List ℕ) (q : ℕ) (w : List ℕ) (t : Tables) (from : ℕ) where
