@@ -10,11 +10,12 @@ use Rattle.laws.proofs.Choice.{no-way}
 use Rattle.words.specs.Words.{word}
 use Rattle.btsnoop.specs.Packets.{packetOf}
 use Rattle.btsnoop.specs.Reading.{between}
-use Rattle.l2cap.specs.Steps.{rowAt, openIn, Stepped}
+use Rattle.l2cap.specs.Steps.{rowAt, openIn, Ran}
 use Rattle.l2cap.specs.declared.Open.{Open}
 use Rattle.l2cap.specs.declared.Open.the-variants.{Closed, From}
 use Rattle.l2cap.specs.declared.Tables.{Tables}
 use Rattle.l2cap.proofs.Stepping.{step-row, at-room}
+use Rattle.l2cap.proofs.Ranges.{ran-one}
 use Rattle.signs.specs.Recorded.{isNone}
 use Rattle.signs.specs.Counting.{noted}
 use Rattle.signs.specs.declared.Gap.{Gap}
@@ -62,11 +63,12 @@ turn-show f w q s p = record {
   given = record { small = omega (arith, p .given, p .step .tabled .total, p .step .tabled .small) };
 }
 
+-- its step was a range of one packet
 pub turn-done :
     (f w : List ℕ) (q at : ℕ) (s : Pass) (g : Partial) →
     g ≡ shownBy (openIn w (rowAt w q (s .count))) (eqb (word w (6 * s .count + 1)) 1) at (s .signs) →
-    (u : List ℕ) (t : Tables) → Stepped f w q (s .tables) (s .count) u t → Turned f w q at s u (record { count = s .count + 1; tables = t; signs = g })
-turn-done f w q at s g ge u t st = record { count = refl; stepped = st; signs = ge }
+    (u : List ℕ) (t : Tables) → Ran f q w (s .tables) (s .count) u t (s .count + 1) → Turned f w q at s u (record { count = s .count + 1; tables = t; signs = g })
+turn-done f w q at s g ge u t ran = record { count = refl; stepped = ran-one f q w (s .tables) (s .count) u t ran; signs = ge }
 
 -- ---- one record
 

@@ -27,9 +27,9 @@ use Rattle.fragments.specs.Bytes.{numberOf}
 use Rattle.fragments.specs.Links.{LinkedTo}
 use Rattle.fragments.proofs.Walking.{number-at}
 use Rattle.l2cap.specs.Pdus.{packetKey}
-use Rattle.l2cap.specs.Steps.{openAt, openIn, rowAt, heldOf, mapOf, Run}
+use Rattle.l2cap.specs.Steps.{openAt, openIn, rowAt, heldOf, mapOf}
 use Rattle.l2cap.specs.declared.Open.the-variants.{From}
-use Rattle.l2cap.proofs.Running.{going-start, going-low, going-row, going-room, going-open, run-closed, link-run}
+use Rattle.l2cap.proofs.Running.{Fresh, going-start, going-low, going-row, going-room, going-open, run-closed, link-fresh}
 use Rattle.signs.specs.Places.{Placed, placedPacket, placedPackets, packetsAt}
 use Rattle.signs.specs.Recorded.{isNone}
 use Rattle.signs.specs.Partial.{Begun, begunAt, nothing, strayOut, strays, givenUpOut, givenUp, atEnd}
@@ -54,8 +54,8 @@ coming-start f = packets-start f
 
 module _ (f w : List ℕ) (count : ℕ) (pre : Read f w count) (q : ℕ) (e : q ≡ length f / 4) where
   module _ (v : List ℕ) (n : ℕ) (l : LinkedTo w q count v n) where
-    begun : Run f v q n count
-    begun = link-run f w count (pre .tabled) q e v n l
+    begun : Fresh f v q n count
+    begun = link-fresh f w count (pre .tabled) q e v n l
 
     list-start : packetsFrom f v 0 count ≡ packetsIn btsnoop f
     unfolding packetsIn
@@ -114,7 +114,7 @@ module _
     pub follow-pre : RecordTurn f w q at e dl s
     unfolding isNone
     follow-pre = record {
-      here = record { least = here .least; most = here .most; small = v .going .tabled .small };
+      here = record { least = here .least; most = here .most; small = v .going .run .tabled .small };
       turn = rw (link-is f dl de) (split-none (packetOf (datalink f) (between f at e))
           (λ o m. no-way (rw o) m)
           (λ p o m. turn-pre f w₀ q count w s (record { at = at; is = p }) (coming f e) (rw (coming-some f at e here p o) at v)));
@@ -138,7 +138,7 @@ module _ (f w₀ : List ℕ) (q count : ℕ) (w : List ℕ) (s : Pass) (v : Foll
   all-read : s .count ≡ count
   all-read =
       split≤ count (s .count)
-      (λ h. omega (arith, v .going .within))
+      (λ h. omega (arith, v .going .run .within))
       (λ h. let z : 0 ≡ suc (length (packetsFrom f w₀ (s .count + 1) (count - (s .count + 1)))) = ap length (v .packets ∙ packets-next f w₀ (s .count) count h) in absurd (omega arith))
 
   end-states : (k : Key) → atEnd (packetsAt btsnoop f) k ≡ v .states k
@@ -160,17 +160,17 @@ module _ (f w₀ : List ℕ) (q count : ℕ) (w : List ℕ) (s : Pass) (v : Foll
         ) (begun-place f w (packetsAt btsnoop f) (word w (6 * j)) (s .count) (openAt w (3 * q) (s .tables .live) (word w (6 * j))))
 
     end-known : (a g : ℕ) → openIn w (rowAt w q j) ≡ From a g → a < count
-    end-known a g e = omega (arith, v .going .ready .sound .sound (word w (6 * j)) a g (end-open ∙ e) .0, all-read)
+    end-known a g e = omega (arith, v .going .run .ready .sound .sound (word w (6 * j)) a g (end-open ∙ e) .0, all-read)
 
   end-followed : Followed f w count
   end-followed = record {
-    small = v .going .tabled .small;
-    tabled = v .going .tabled;
+    small = v .going .run .tabled .small;
+    tabled = v .going .run .tabled;
     list = packets-front (4 * q) f w w₀ 0 count (omega (arith, going-low f w₀ q count w (s .tables) (s .count) (v .going))) (v .going .front) ∙ v .list;
-    rows = rw (← v .going .ready .quarter) (going-row f w₀ q count w (s .tables) (s .count) (v .going));
-    room = rw (← v .going .ready .quarter) (going-room f w₀ q count w (s .tables) (s .count) (v .going));
-    opened = rw (← v .going .ready .quarter) end-begun;
-    known = rw (← v .going .ready .quarter) (λ j a g h e. end-known j h a g e);
+    rows = rw (← v .going .run .ready .quarter) (going-row f w₀ q count w (s .tables) (s .count) (v .going));
+    room = rw (← v .going .run .ready .quarter) (going-room f w₀ q count w (s .tables) (s .count) (v .going));
+    opened = rw (← v .going .run .ready .quarter) end-begun;
+    known = rw (← v .going .run .ready .quarter) (λ j a g h e. end-known j h a g e);
   }
 
   ended : FollowedTo f count w (s .signs)

@@ -14,7 +14,7 @@ use l2cap::Open;
 use l2cap::Tables;
 use l2cap::look;
 use l2cap::row_of;
-use l2cap::step;
+use l2cap::run;
 use signs::Gap;
 use signs::lacks_packet;
 use signs::note;
@@ -74,7 +74,7 @@ fn follow_packet(file: &[u8], w: &mut [u8], q: usize, at: usize, s: Pass) -> Pas
     let tables = s.tables;
     let signs = s.signs;
     let g = show(w, q, i, at, signs);
-    let t = step(file, w, q, tables, i);
+    let t = run(file, w, q, tables, i, i + 1);
     Pass {
         count: i + 1,
         tables: t,

@@ -17,7 +17,7 @@ use Rattle.l2cap.specs.Pdus.{joined, stillOpen, completed, pduOf}
 use Rattle.l2cap.specs.PduTable.{pdusFrom, paysOf}
 use Rattle.l2cap.specs.PduFrames.{Placed}
 use Rattle.l2cap.specs.Rekeyed.{putBy}
-use Rattle.fragments.specs.Links.{Linked, Seats, Blank}
+use Rattle.fragments.specs.Links.{Linked, Seats}
 use Rattle.fragments.specs.Bytes.{numberOf, since, begun, Walk}
 use Rattle.l2cap.specs.declared.Open.{Open}
 use Rattle.l2cap.specs.declared.Open.the-variants.{Closed, From}
@@ -156,13 +156,17 @@ pub record Stepped (f w : List ℕ) (q : ℕ) (t : Tables) (i : ℕ) (u : List �
   pub own : (openAt u (3 * q) (r .live) (word w (6 * i)) ≡ Closed) ⊎ (openAt u (3 * q) (r .live) (word w (6 * i)) ≡ nextAt w (3 * q) (t .live) i)
   pub others : (k : ℕ) → (word w (6 * i) ≡ k → ⊥) → openAt u (3 * q) (r .live) k ≡ openAt w (3 * q) (t .live) k
 
--- ---- all steps
+-- ---- the steps of a range of packets
 
--- a table of packets, linked, and n rows with their keys where nothing is open
-pub record Run (f w : List ℕ) (q n count : ℕ) : Type 0 where
-  pub tabled : Tabled f w count
-  pub quarter : q ≡ length f / 4
-  pub linked : Linked w q count
-  pub seats : Seats w q n count
-  pub few : n ≤ count
-  pub blank : Blank w (3 * q) n
+-- what they need: a step's state before the first of them, and the tables that they read
+pub record Run (f w : List ℕ) (q : ℕ) (t : Tables) (from upto : ℕ) : Type 0 where
+  pub within : from ≤ upto
+  pub ready : Ready f w q t from
+  pub tabled : Tabled f w upto
+  pub linked : Linked w q upto
+  pub seats : Seats w q (t .live) upto
+
+-- work and tables after no step, or after some steps and one more
+pub data Ran (f : List ℕ) (q : ℕ) (w : List ℕ) (t : Tables) (from : ℕ) : List ℕ → Tables → ℕ → Type 0 where
+  stays : Ran f q w t from w t from
+  steps : {v : List ℕ} {s : Tables} {i : ℕ} {u : List ℕ} {r : Tables} → Ran f q w t from v s i → Stepped f v q s i u r → Ran f q w t from u r (i + 1)

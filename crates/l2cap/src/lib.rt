@@ -7,7 +7,7 @@ ghost use Rattle.fragments.specs.Bytes.{begun, Walk};
 ghost use Rattle.l2cap.specs.Pdus.{pdus};
 ghost use Rattle.l2cap.specs.PduTable.{pduAt, Reassembled};
 ghost use Rattle.l2cap.specs.PduFrames.{Lent};
-ghost use Rattle.l2cap.specs.Steps.{Need, rowAt, RowPre, openIn, nextBy, Arrive, putOpen, putPdu, PutPdu, Finish, Finished, Step, Stepped, Run};
+ghost use Rattle.l2cap.specs.Steps.{Need, rowAt, RowPre, openIn, nextBy, Arrive, putOpen, putPdu, PutPdu, Finish, Finished, Step, Stepped, Run, Ran};
 use fragments::gather;
 use fragments::half;
 use fragments::len_of;
@@ -142,7 +142,7 @@ fn finish(
 }
 
 // One packet, with q a quarter of the file's length: PDUs stand from word 2 * q of work, open PDUs from word 3 * q.
-pub fn step(file: &[u8], w: &mut [u8], q: usize, t: Tables, i: usize) -> Tables
+fn step(file: &[u8], w: &mut [u8], q: usize, t: Tables, i: usize) -> Tables
     requires { ⌜ Step (now file) (now w) q t i ⌝ }
     ensures { λ r. ⌜ Stepped (now (file .entry)) (now (w .entry)) q t i (now (w .exit)) r ⌝ }
 {
@@ -167,22 +167,18 @@ pub fn step(file: &[u8], w: &mut [u8], q: usize, t: Tables, i: usize) -> Tables
     t
 }
 
-// The steps of all packets, with so many rows of open PDUs.
-fn run(file: &[u8], w: &mut [u8], q: usize, rows: usize, count: usize) -> Tables
-    requires { ⌜ Run (now file) (now w) q rows count ⌝ }
-    ensures { λ r. ⌜ Reassembled (now (file .entry)) (now (w .exit)) (r .made) (pdus (packetsFrom (now (file .entry)) (now (w .entry)) 0 count)) ⌝ }
+// The steps of the packets from one number up to another.
+pub fn run(file: &[u8], w: &mut [u8], q: usize, t: Tables, from: usize, upto: usize) -> Tables
+    requires { ⌜ Run (now file) (now w) q t from upto ⌝ }
+    ensures { λ r. ⌜ Ran (now (file .entry)) q (now (w .entry)) t from (now (w .exit)) r upto ⌝ }
 {
-    let mut t = Tables {
-        live: rows,
-        made: 0,
-        top: 4 * q,
-    };
-    let mut i = 0;
-    while i < count {
-        t = step(file, w, q, t, i);
+    let mut s = t;
+    let mut i = from;
+    while i < upto {
+        s = step(file, w, q, s, i);
         i += 1;
     }
-    t
+    s
 }
 
 // The PDUs of the packets whose table stands at the start of work: their rows, and the payloads that had to be joined.
@@ -192,7 +188,12 @@ pub fn reassemble(file: &[u8], w: &mut [u8], count: usize) -> Tables
 {
     let q = file.len() / 4;
     let rows = link_packets(w, q, count);
-    run(file, w, q, rows, count)
+    let t = Tables {
+        live: rows,
+        made: 0,
+        top: 4 * q,
+    };
+    run(file, w, q, t, 0, count)
 }
 
 // The payload of the PDU whose row is at word at: a part of the file, or of work if it was joined.

@@ -6,15 +6,19 @@ use Rattle.following.proofs.follow_packet.Tie as tie
 use Rattle.following.proofs.follow_packet.Reads as reads
 use Rattle.following.proofs.follow_packet.Lts as lts
 use Rattle.following.proofs.show.Reads as show-reads
-use Rattle.l2cap.proofs.step.Reads as step-reads
+use Rattle.l2cap.proofs.run.Reads as run-reads
 
 -- src/lib.rt:76:9
 show-requires : tie.Need-show-requires
 show-requires c κs = search turn-show
 
+-- src/lib.rt:77:40
+add-run : tie.Need-add-run
+add-run c = search needs
+
 -- src/lib.rt:77:9
-step-requires : tie.Need-step-requires
-step-requires c κs = search needs
+run-requires : tie.Need-run-requires
+run-requires c κs = search needs
 
 -- src/lib.rt:79:16
 add-t15 : tie.Need-add-t15
@@ -29,4 +33,5 @@ returns : tie.Need-returns
 returns c = search turn-done
 
 pub follow-packet-spec : {M : Type 1} → statement M
-follow-packet-spec = tie.close (tie.spec show-requires step-requires add-t15 same-length returns)
+follow-packet-spec =
+    tie.close (tie.spec show-requires add-run run-requires add-t15 same-length returns)

@@ -1,5 +1,5 @@
 use Prim.Native.Nat.{_-_}
-use Rattle.l2cap.proofs.Running.{Running, run-start, run-step, run-turn, run-end}
+use Rattle.l2cap.proofs.Ranges.{Ranging, ranging-start, ranging-step, ranging-turn, ranging-size, ranging-end}
 use borrow.Author.Needs.{needs}
 use native.Mathlib.Omega.{arith}
 use Rattle.l2cap.proofs.run.Statement.{statement}
@@ -9,42 +9,38 @@ use Rattle.l2cap.proofs.run.Lts as lts
 use Rattle.l2cap.proofs.step.Reads as step-reads
 
 abbrev Inv-loop : tie.InvT-loop
-Inv-loop file w₀ q rows count t₀ i₀ w t i = Running file w₀ q count w t i
+Inv-loop file w₀ q from upto s₀ i₀ w s i = Ranging file w₀ q s₀ from upto w s i
 
 abbrev μ-loop : tie.MeasureT-loop
-μ-loop file w₀ q rows count t₀ i₀ w t i = count - i
+μ-loop file w₀ q from upto s₀ i₀ w s i = upto - i
 
--- src/lib.rt:396:14
-mul-t8 : tie.Need-mul-t8 Inv-loop μ-loop
-mul-t8 c = search needs
-
--- src/lib.rt:399:5
+-- src/lib.rt:177:5
 loop-holds : tie.Need-loop-holds Inv-loop μ-loop
-loop-holds c = search run-start
+loop-holds c = search ranging-start
 
--- src/lib.rt:400:9
+-- src/lib.rt:178:9
 step-requires : tie.Need-step-requires Inv-loop μ-loop
-step-requires c κs = search run-step
+step-requires c κs = search ranging-step
 
--- src/lib.rt:401:9
+-- src/lib.rt:179:9
 add-i : tie.Need-add-i Inv-loop μ-loop
 add-i c = search needs
 
--- src/lib.rt:399:5
+-- src/lib.rt:177:5
 loop-less : tie.Need-loop-less Inv-loop μ-loop
 loop-less c = search needs
 
--- src/lib.rt:399:5
+-- src/lib.rt:177:5
 loop-again : tie.Need-loop-again Inv-loop μ-loop
-loop-again c = search run-turn
+loop-again c = search ranging-turn
 
--- src/lib.rt:389:1
+-- src/lib.rt:171:1
 same-length : tie.Need-same-length Inv-loop μ-loop
-same-length c = c .before .loop .inv .going .size
+same-length c = search ranging-size
 
--- src/lib.rt:389:1
+-- src/lib.rt:171:1
 returns : tie.Need-returns Inv-loop μ-loop
-returns c = search run-end
+returns c = search ranging-end
 
 pub run-spec : {M : Type 1} → statement M
 run-spec =
@@ -52,7 +48,6 @@ run-spec =
     (tie.spec
     Inv-loop
     μ-loop
-    mul-t8
     loop-holds
     step-requires
     add-i
