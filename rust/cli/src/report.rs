@@ -102,11 +102,10 @@ pub fn findings(file: &[u8], imported: &Imported, open: &[Stretch], asked: bool,
         let _ = writeln!(text, "Kept: {}, complete before that.", count(imported.frames, "frame", "frames"));
         let _ = writeln!(text, "Missing: whatever was not complete before that, or came later.");
         let _ = writeln!(text, "A reply that is not {place} may have been sent all the same.");
-        if !asked {
-            let channel = imported.dlci / 2;
-            let _ =
-                writeln!(text, "What is proved of a cut is for a channel that is asked for, here --channel {channel}.");
-        }
+    }
+    if !asked {
+        let channel = imported.dlci / 2;
+        let _ = writeln!(text, "What is proved of a cut is for a channel that is asked for, here --channel {channel}.");
     }
     text
 }

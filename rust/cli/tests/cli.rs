@@ -79,7 +79,8 @@ fn import_writes_the_fixtures() {
     assert_eq!((status(&output), err(&output)), (0, String::new()));
     let found = "31 frames, 1 of which does not unpack: DLCI 18, channel 9.\n\
         Unfinished on DLCI 18: nothing is held without an end marker.\n\
-        The file ends at a record's end, so whether more was recorded cannot be seen.\n";
+        The file ends at a record's end, so whether more was recorded cannot be seen.\n\
+        What is proved of a cut is for a channel that is asked for, here --channel 9.\n";
     assert_eq!(out(&output), format!("{found}30 fixtures written: {}\n", dir.display()));
     let whole = fixtures(&fs::read(&trace).unwrap());
     assert_eq!(whole.len(), 30);
@@ -153,11 +154,11 @@ fn frames_are_listed() {
     let text = out(&output);
     let lines: Vec<&str> = text.lines().collect();
     assert_eq!(
-        lines[3],
+        lines[4],
         "CONNECT_GET_PROTOCOL_INFO tx 1, DATA_MDR, seq 00, 11 bytes, command 00, type 0c, 2024-05-14 09:30:00.133"
     );
     assert_eq!(
-        lines[19],
+        lines[20],
         "does not unpack rx 17, refusal 17, the frame's checksum is 70 where its bytes give B0, 13 bytes, 2024-05-14 09:30:00.261"
     );
 }
