@@ -1,11 +1,11 @@
-// A sample: its cases read, an answer compared, and the line that says how many differ. What lies past the end of the file reads as 0. A
+// A sample: its cases read, and an answer compared. What lies past the end of the file reads as 0. A
 // case is whole if its end lies in the file.
 ghost use mathlib.Core.Path.{_≡_};
-ghost use Prim.Native.Nat.{_≤_, _<_};
-ghost use lib.ListN.{length};
+ghost use Prim.Native.Nat.{_*_, _≤_, _<_};
+ghost use lib.ListN.{length, getD};
 ghost use mathlib.Core.Bool.{true};
+ghost use Rattle.samples.specs.Places.{capped, wordAt, longAt, partAt, countedAt, numbersSize, secondAt, callAt, answerAt};
 ghost use Rattle.samples.specs.Samples.{untouchedOf, Fresh, outputOf, Compared};
-use libc::STDOUT_FILENO;
 
 // Room for a sample.
 pub fn room() -> [u8; 262144]
@@ -15,19 +15,25 @@ pub fn room() -> [u8; 262144]
 }
 
 // The sum, or the largest number if the sum is larger.
-pub fn sum(a: usize, b: usize) -> usize {
+pub fn sum(a: usize, b: usize) -> usize
+    ensures { λ r. ⌜ r ≡ capped a b ⌝ }
+{
     if usize::MAX - b < a {
         return usize::MAX;
     }
     a + b
 }
 
-pub fn byte(s: &[u8], at: usize) -> u8 {
+pub fn byte(s: &[u8], at: usize) -> u8
+    ensures { λ r. ⌜ r ≡ getD (now (s .entry)) at 0 ⌝ }
+{
     if at < s.len() { s[at] } else { 0 }
 }
 
 // The 32-bit number at a place.
-pub fn word(s: &[u8], at: usize) -> u32 {
+pub fn word(s: &[u8], at: usize) -> u32
+    ensures { λ r. ⌜ r ≡ wordAt (now (s .entry)) at ⌝ }
+{
     let n = s.len();
     if n < 4 {
         return 0;
@@ -39,7 +45,9 @@ pub fn word(s: &[u8], at: usize) -> u32 {
 }
 
 // The 64-bit number at a place.
-pub fn long(s: &[u8], at: usize) -> u64 {
+pub fn long(s: &[u8], at: usize) -> u64
+    ensures { λ r. ⌜ r ≡ longAt (now (s .entry)) at ⌝ }
+{
     let n = s.len();
     if n < 8 {
         return 0;
@@ -51,14 +59,17 @@ pub fn long(s: &[u8], at: usize) -> u64 {
 }
 
 // So many bytes at a place, or none if they are not all there.
-pub fn part(s: &[u8], at: usize, size: usize) -> &[u8] {
-    let end = sum(at, size);
-    if s.len() < end {
+pub fn part(s: &[u8], at: usize, size: usize) -> &[u8]
+    ensures { λ r. ⌜ now r ≡ partAt (now (s .entry)) at size ⌝ }
+{
+    let n = s.len();
+    if n < at {
         return &s[0..0];
     }
-    if end < at {
+    if n - at < size {
         return &s[0..0];
     }
+    let end = at + size;
     &s[at..end]
 }
 
@@ -69,7 +80,9 @@ struct Counted {
     end: usize,
 }
 
-fn read_counted(s: &[u8], at: usize) -> Counted {
+fn read_counted(s: &[u8], at: usize) -> Counted
+    ensures { λ r. ⌜ r ≡ countedAt (now (s .entry)) at ⌝ }
+{
     let start = sum(at, 4);
     let size = words::wide32(word(s, at));
     Counted {
@@ -93,17 +106,31 @@ pub struct Call {
 }
 
 // How many bytes the numbers of an op take.
-fn numbers_size(op: u8) -> usize {
-    match op {
-        1 | 2 => 2,
-        3 => 13,
-        7 | 8 => 4,
-        _ => 0,
+fn numbers_size(op: u8) -> usize
+    ensures { λ r. ⌜ r ≡ numbersSize op ⌝ }
+{
+    if op == 3 {
+        return 13;
     }
+    if op == 7 {
+        return 4;
+    }
+    if op == 8 {
+        return 4;
+    }
+    if op == 1 {
+        return 2;
+    }
+    if op == 2 {
+        return 2;
+    }
+    0
 }
 
 // The second input, which the plan alone has.
-fn read_second(s: &[u8], op: u8, at: usize) -> Counted {
+fn read_second(s: &[u8], op: u8, at: usize) -> Counted
+    ensures { λ r. ⌜ r ≡ secondAt (now (s .entry)) op at ⌝ }
+{
     if op == 5 {
         return read_counted(s, at);
     }
@@ -114,7 +141,9 @@ fn read_second(s: &[u8], op: u8, at: usize) -> Counted {
     }
 }
 
-pub fn read_call(s: &[u8], at: usize) -> Call {
+pub fn read_call(s: &[u8], at: usize) -> Call
+    ensures { λ r. ⌜ r ≡ callAt (now (s .entry)) at ⌝ }
+{
     let op = byte(s, at);
     let numbers = sum(at, 1);
     let first = read_counted(s, sum(numbers, numbers_size(op)));
@@ -144,11 +173,15 @@ pub struct Answer {
 }
 
 // How many bytes so many values take.
-fn value_bytes(count: u8) -> usize {
+fn value_bytes(count: u8) -> usize
+    ensures { λ r. ⌜ r ≡ 8 * count ⌝ }
+{
     8 * words::wide(count)
 }
 
-pub fn read_answer(s: &[u8], at: usize) -> Answer {
+pub fn read_answer(s: &[u8], at: usize) -> Answer
+    ensures { λ r. ⌜ r ≡ answerAt (now (s .entry)) at ⌝ }
+{
     let count = byte(s, sum(at, 8));
     let values = sum(at, 9);
     let output = read_counted(s, sum(values, value_bytes(count)));
@@ -262,30 +295,4 @@ pub fn is_answer(s: &[u8], a: Answer, number: u32, values: &[u64], out: &[u8]) -
         return false;
     }
     has_output(part(s, a.output, a.size), out)
-}
-
-// The length of a file's name up to its dot.
-fn stem(name: &[u8]) -> usize {
-    let mut i: usize = 0;
-    while i < name.len() {
-        if name[i] == b'.' {
-            return i;
-        }
-        i += 1;
-    }
-    i
-}
-
-// A number, and the words after it.
-fn print_count(n: u64, words: &[u8]) {
-    io::print_decimal(STDOUT_FILENO, n);
-    io::write_all(STDOUT_FILENO, words);
-}
-
-// The line of a sample: its name up to the dot, how many cases were replayed, and how many differ.
-pub fn print(name: &[u8], cases: u64, differences: u64) {
-    io::write_all(STDOUT_FILENO, part(name, 0, stem(name)));
-    io::write_all(STDOUT_FILENO, b": ");
-    print_count(cases, b" cases replayed, ");
-    print_count(differences, b" differences\n");
 }
