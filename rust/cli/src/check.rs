@@ -8,7 +8,7 @@ use std::path::Path;
 use crate::losses;
 use crate::set::{self, Set};
 use crate::sha256::sum;
-use crate::words::{object, shown, string};
+use crate::words::{count, object, shown, string};
 use lumbryth::FILE_MAX;
 
 /// What is wrong with a set, or with a name of it.
@@ -120,12 +120,20 @@ pub fn lines(faults: &[Fault]) -> String {
     faults.iter().map(|fault| format!("{}: {}\n", fault.kind, what(fault))).collect()
 }
 
-/// How many faults of each kind there are.
-pub fn summary(faults: &[Fault]) -> String {
-    let kinds = ["missing", "changed", "unreadable", "extra", "list", "trace"];
-    let numbers = kinds.map(|kind| (faults.iter().filter(|fault| fault.kind == kind).count(), kind));
-    let parts: Vec<String> = numbers.iter().filter(|(n, _)| *n > 0).map(|(n, kind)| format!("{n} {kind}")).collect();
-    parts.join(", ")
+/// What is wrong in all: with the set itself, or only that the trace gives another; and how many faults of each kind there are.
+pub fn verdict(faults: &[Fault]) -> String {
+    let of = |kind: &str| faults.iter().filter(|fault| fault.kind == kind).count();
+    let of_names = ["missing", "changed", "unreadable", "extra"].map(|kind| (of(kind), format!("{} {kind}", of(kind))));
+    let of_list = (of("list"), count(of("list"), "fault in the list", "faults in the list"));
+    let of_trace = (of("trace"), count(of("trace"), "difference", "differences") + " from the trace");
+    let all = of_names.into_iter().chain([of_list, of_trace]);
+    let parts: Vec<String> = all.filter(|(n, _)| *n > 0).map(|(_, words)| words).collect();
+    let head = if of("trace") == faults.len() {
+        "the set is as its list has it, but not as the trace gives it"
+    } else {
+        "the set is not as it was made"
+    };
+    format!("{head}, {}", parts.join(", "))
 }
 
 /// What a list says of its trace.

@@ -241,7 +241,7 @@ fn run_check(options: &Check) -> Result<(), Failure> {
         return print(&if options.json { text } else { check::told(&there) + &text + &words });
     }
     print(&text)?;
-    Err(Failure::Refused(format!("the set is not as it was made, {}: {}", check::summary(&faults), shown(dir))))
+    Err(Failure::Refused(format!("{}: {}", check::verdict(&faults), shown(dir))))
 }
 
 /// In what a trace, imported as the set was asked for, differs from the set.

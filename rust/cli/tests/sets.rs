@@ -18,7 +18,7 @@ use common::*;
 fn finds(output: &Output, lines: &[&str], told: &str) {
     assert_eq!(status(output), 1, "{}", err(output));
     assert_eq!(out(output).lines().collect::<Vec<_>>(), lines);
-    let words = format!("lumbryth: the set is not as it was made, {told}: ");
+    let words = format!("lumbryth: the set is {told}: ");
     assert!(err(output).starts_with(&words), "{}", err(output));
 }
 
@@ -149,8 +149,8 @@ fn a_set_is_checked() {
         "extra: more-rx.\\x1b.bin".to_string(),
     ];
     let lines: Vec<&str> = lines.iter().map(|line| &**line).collect();
-    finds(&words(&[&"check", &dir]), &lines, "1 missing, 2 changed, 1 unreadable, 1 extra");
-    finds(&words(&[&"check", &dir, &trace]), &lines, "1 missing, 2 changed, 1 unreadable, 1 extra");
+    finds(&words(&[&"check", &dir]), &lines, "not as it was made, 1 missing, 2 changed, 1 unreadable, 1 extra");
+    finds(&words(&[&"check", &dir, &trace]), &lines, "not as it was made, 1 missing, 2 changed, 1 unreadable, 1 extra");
 
     let json = words(&[&"check", &"--json", &dir]);
     assert_eq!(status(&json), 1);
@@ -207,11 +207,16 @@ fn a_set_is_held_against_a_trace() {
     assert_eq!(status(&words(&[&"import", &cut, &"--out", &dry, &"--tolerant", &"--exclude=NO_COMMAND"])), 0);
     assert_eq!(status(&words(&[&"check", &dry, &cut])), 0);
     // A list that says what the trace does not, with a right sum.
+    let another = "as its list has it, but not as the trace gives it";
     let text = fs::read_to_string(dir.join(LIST)).unwrap();
     relist(&place, &dir, &text.replace("# unfinished: 0", "# unfinished: 1"));
     assert_eq!(status(&words(&[&"check", &dir])), 0);
     let lines = ["trace: only the list has unfinished: 1", "trace: only the trace has unfinished: 0"];
-    finds(&words(&[&"check", &dir, &example("headset.btsnoop")]), &lines, "2 trace");
+    finds(
+        &words(&[&"check", &dir, &example("headset.btsnoop")]),
+        &lines,
+        &format!("{another}, 2 differences from the trace"),
+    );
     // A fixture that was changed together with its list.
     let name = &listing(&dir)[4];
     let before = sum(&dir.join(name));
@@ -219,7 +224,11 @@ fn a_set_is_held_against_a_trace() {
     relist(&place, &dir, &text.replace(&format!("{before}  {name}"), &format!("{}  {name}", sum(&dir.join(name)))));
     assert_eq!(status(&words(&[&"check", &dir])), 0);
     let line = format!("trace: other bytes than in the list has {name}");
-    finds(&words(&[&"check", &dir, &example("headset.btsnoop")]), &[&line], "1 trace");
+    finds(
+        &words(&[&"check", &dir, &example("headset.btsnoop")]),
+        &[&line],
+        &format!("{another}, 1 difference from the trace"),
+    );
 }
 
 #[test]
@@ -247,6 +256,11 @@ fn what_is_no_set() {
         assert_eq!(status(&output), 1);
         assert!(format!("{}{}", out(&output), err(&output)).contains("list"), "{}", err(&output));
     }
+    finds(
+        &words(&[&"check", &dir]),
+        &["list: it names 30 fixtures and says another number"],
+        "not as it was made, 1 fault in the list",
+    );
     fs::remove_file(dir.join(LIST)).unwrap();
     fs::create_dir(dir.join(LIST)).unwrap();
     fails(&words(&[&"check", &dir]), 1, &["the list of the set cannot be read: it is not a file: "]);
