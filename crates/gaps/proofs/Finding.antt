@@ -22,6 +22,7 @@ use Rattle.signs.specs.Gaps.{recordGaps, packetGaps, gaps}
 use Rattle.signs.specs.Counting.{gapOf, Counted}
 use Rattle.signs.specs.Following.{Followed}
 use Rattle.signs.proofs.Counting.{counted-gap}
+use Rattle.signs.proofs.PlaceOrder.{places-many}
 use Rattle.signs.specs.declared.Gap.{Gap}
 use Rattle.recorded.specs.Looking.{recordedOf, Readable}
 use Rattle.recorded.specs.declared.Recorded.{Recorded}
@@ -40,8 +41,8 @@ use Rattle.gaps.specs.declared.Gaps.the-variants.{Found, FileLong, WorkS
 pub find-readable : (f w : List ℕ) (count : ℕ) → Read f w count → Readable f
 find-readable f w count r = record { some = omega (arith, r .tabled .total); small = r .tabled .small }
 
-pub find-followed : (f : List ℕ) (count : ℕ) (u : List ℕ) (p : Partial) → FollowedTo f count u p → Followed f u count
-find-followed f count u p t = t .followed
+pub find-followed : (f : List ℕ) (count : ℕ) (u : List ℕ) (p : Partial) → FollowedTo f count u p → Followed f u (length (packetsAt btsnoop f))
+find-followed f count u p t = rw (places-many f u count (t .followed .list)) (t .followed)
 
 join : {a b c d : List ℕ} → a ≡ b → c ≡ d → a ++ c ≡ b ++ d
 join e h = rw (e, h)

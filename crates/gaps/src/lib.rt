@@ -45,7 +45,7 @@ fn find_signs(file: &[u8], work: &mut [u8], count: usize) -> Signs
 {
     let recorded = record_signs(file);
     let partial = follow_packets(file, work, count);
-    let left = left_open(file, work, count);
+    let left = left_open(file, work);
     Signs {
         recorded,
         partial,

@@ -1,5 +1,6 @@
 // What is open at the end of a trace: the packets that began it, counted in one walk over the records.
 ghost use mathlib.Core.Path.{_≡_};
+ghost use lib.ListN.{length};
 ghost use Rattle.btsnoop.specs.Packets.{packetOf};
 ghost use Rattle.btsnoop.specs.Reading.{between};
 ghost use Rattle.btsnoop.specs.Records.{btsnoop};
@@ -67,8 +68,8 @@ fn meet(file: &[u8], w: &[u8], q: usize, datalink: u32, at: usize, end: usize, m
 }
 
 // The PDUs that are open at the end: how many, and where the record starts that holds the first packet of the first.
-pub fn left_open(file: &[u8], w: &[u8], count: usize) -> Gap
-    requires { ⌜ Followed (now file) (now w) count ⌝ }
+pub fn left_open(file: &[u8], w: &[u8]) -> Gap
+    requires { ⌜ Followed (now file) (now w) (length (packetsAt btsnoop (now file))) ⌝ }
     ensures { λ r. ⌜ Counted (leftOpen (packetsAt btsnoop (now (file .entry)))) r ⌝ }
 {
     let q = file.len() / 4;

@@ -12,10 +12,10 @@ use Rattle.leftover.proofs.meet.Reads as meet-reads
 use Rattle.words.proofs.get_be32.Reads as get-be32-reads
 
 abbrev Inv-loop : tie.InvT-loop
-Inv-loop file w count q datalink m₀ at₀ m at = Leaving file at m
+Inv-loop file w q datalink m₀ at₀ m at = Leaving file at m
 
 abbrev μ-loop : tie.MeasureT-loop
-μ-loop file w count q datalink m₀ at₀ m at = length file - at
+μ-loop file w q datalink m₀ at₀ m at = length file - at
 
 -- src/lib.rt:80:9
 get-be32-requires : tie.Need-get-be32-requires Inv-loop μ-loop
