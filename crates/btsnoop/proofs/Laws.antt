@@ -44,15 +44,15 @@ hci-room dl flags time b p e =
     (λ q. not-some (rw q at e))
     (λ q. splitB (eqb dl 1002)
     (λ z. let h = h4-room (flags % 2) time b p (rw (q, z) at e) in omega arith)
-    (λ z. fragment-room (flags % 2) time b p (rw (q, z) at e)))
+    (λ z. fragment-room 0 (flags % 2) time b p (rw (q, z) at e)))
 
 monitor-room : (flags time : ℕ) (b : List ℕ) (p : Packet) → monitorPacket flags time b ≡ some p → 4 + length (p .bytes) ≤ length b
 unfolding monitorPacket
 monitor-room flags time b p e =
     splitB (eqb (flags % 65536) 4)
-    (λ q. fragment-room 0 time b p (rw q at e))
+    (λ q. fragment-room (flags / 65536) 0 time b p (rw q at e))
     (λ q. splitB (eqb (flags % 65536) 5)
-    (λ z. fragment-room 1 time b p (rw (q, z) at e))
+    (λ z. fragment-room (flags / 65536) 1 time b p (rw (q, z) at e))
     (λ z. not-some (rw (q, z) at e)))
 
 -- 28 bytes besides its own

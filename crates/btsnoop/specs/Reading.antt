@@ -1,5 +1,5 @@
 -- Reading the packet of one record.
-use Prim.Native.Nat.{ℕ, _+_, _-_, _/_, _%_, _≤_}
+use Prim.Native.Nat.{ℕ, _+_, _-_, _/_, _%_, _<_, _≤_}
 use mathlib.Core.Path.{_≡_}
 use mathlib.Core.List.{List}
 use mathlib.Core.Option.{Option, none, some}
@@ -27,15 +27,16 @@ abbrev pub Held : ℕ → ℕ → Acl → Type 0
 Held lo end (Read g) = (lo + 4 ≤ g .place) × (g .place + g .len ≤ end)
 Held lo end Skipped = Unit {0}
 
-pub record AclPre (f : List ℕ) (lo end rx : ℕ) : Type 0 where
+pub record AclPre (f : List ℕ) (lo end index rx : ℕ) : Type 0 where
   pub order : lo ≤ end
   pub inside : end ≤ length f
   pub small : length f ≤ 1048576
+  pub adapter : index < 65536
   pub way : rx ≤ 1
 
 -- what reading answers, against a definition for every time
-pub record AclIs (f : List ℕ) (lo end rx : ℕ) (r : Acl) : Type 0 where
-  pub shows : (time : ℕ) → fragment rx time (between f lo end) ≡ shown f time r
+pub record AclIs (f : List ℕ) (lo end index rx : ℕ) (r : Acl) : Type 0 where
+  pub shows : (time : ℕ) → fragment index rx time (between f lo end) ≡ shown f time r
   pub held : Held lo end r
 
 pub record H4Is (f : List ℕ) (lo end rx : ℕ) (r : Acl) : Type 0 where

@@ -4,6 +4,7 @@ ghost use mathlib.Core.Bool.{cond};
 ghost use Prim.Native.Nat.{_+_, _-_, _*_, _/_, _%_, _≤_, _<_};
 ghost use lib.Dec.{eqb};
 ghost use lib.ListN.{length, set, drop};
+ghost use Rattle.container.specs.Packets.{linkOf};
 ghost use Rattle.btsnoop.specs.Header.{isBtsnoop, isDatalink};
 ghost use Rattle.btsnoop.specs.Headers.{headerOf};
 ghost use Rattle.btsnoop.specs.Walk.{NextIs, isEmpty};
@@ -187,12 +188,19 @@ pub enum Acl {
     Skipped,
 }
 
-// The handle field as 2 * link + direction.
-fn key_of(handle: u16, rx: u32) -> u32
-    requires { ⌜ rx ≤ 1 ⌝ }
-    ensures { λ r. ⌜ r ≡ 2 * (handle % 4096) + rx ⌝ }
+// The adapter's index in a monitor's flags: the upper 16 bits.
+fn index_of(flags: u32) -> u32
+    ensures { λ r. ⌜ (r ≡ flags / 65536) × (r < 65536) ⌝ }
 {
-    2 * ((handle % 4096) as u32) + rx
+    flags / 65536
+}
+
+// An adapter's index and a handle field as 2 * link + direction.
+fn key_of(index: u32, handle: u16, rx: u32) -> u32
+    requires { ⌜ (index < 65536) × (rx ≤ 1) ⌝ }
+    ensures { λ r. ⌜ r ≡ 2 * linkOf index (handle % 4096) + rx ⌝ }
+{
+    2 * (4096 * index + (handle % 4096) as u32) + rx
 }
 
 // 1 if the boundary flag starts a PDU, 0 if it continues one.
@@ -206,9 +214,9 @@ fn start_of(handle: u16) -> u32
 }
 
 // The ACL packet in the bytes of the file from one place up to another. A field that is not there skips it.
-fn read_fragment(file: &[u8], lo: usize, end: usize, rx: u32) -> Acl
-    requires { ⌜ AclPre (now file) lo end rx ⌝ }
-    ensures { λ r. ⌜ AclIs (now (file .entry)) lo end rx r ⌝ }
+fn read_fragment(file: &[u8], lo: usize, end: usize, index: u32, rx: u32) -> Acl
+    requires { ⌜ AclPre (now file) lo end index rx ⌝ }
+    ensures { λ r. ⌜ AclIs (now (file .entry)) lo end index rx r ⌝ }
 {
     let b = &file[lo..end];
     let Field::Value(handle) = field16(b, 0) else {
@@ -222,7 +230,7 @@ fn read_fragment(file: &[u8], lo: usize, end: usize, rx: u32) -> Acl
         return Acl::Skipped;
     }
     let g = Fragment {
-        key: key_of(handle, rx),
+        key: key_of(index, handle, rx),
         start: start_of(handle),
         place: narrow(lo + 4),
         len: narrow(n),
@@ -232,12 +240,12 @@ fn read_fragment(file: &[u8], lo: usize, end: usize, rx: u32) -> Acl
 
 // An H4 packet: the first byte is 02 for ACL.
 fn read_h4(file: &[u8], lo: usize, end: usize, rx: u32) -> Acl
-    requires { ⌜ AclPre (now file) lo end rx ⌝ }
+    requires { ⌜ AclPre (now file) lo end 0 rx ⌝ }
     ensures { λ r. ⌜ H4Is (now (file .entry)) lo end rx r ⌝ }
 {
     if lo < end {
         if file[lo] == 2 {
-            return read_fragment(file, lo + 1, end, rx);
+            return read_fragment(file, lo + 1, end, 0, rx);
         }
     }
     Acl::Skipped
@@ -245,22 +253,23 @@ fn read_h4(file: &[u8], lo: usize, end: usize, rx: u32) -> Acl
 
 // The packet of a monitor's record.
 fn read_monitor(file: &[u8], lo: usize, end: usize, flags: u32) -> Acl
-    requires { ⌜ AclPre (now file) lo end 0 ⌝ }
+    requires { ⌜ AclPre (now file) lo end 0 0 ⌝ }
     ensures { λ r. ⌜ MonitorIs (now (file .entry)) lo end flags r ⌝ }
 {
     let op = flags % 65536;
+    let index = index_of(flags);
     if op == 4 {
-        return read_fragment(file, lo, end, 0);
+        return read_fragment(file, lo, end, index, 0);
     }
     if op == 5 {
-        return read_fragment(file, lo, end, 1);
+        return read_fragment(file, lo, end, index, 1);
     }
     Acl::Skipped
 }
 
 // The packet of an HCI record.
 fn read_hci(file: &[u8], lo: usize, end: usize, datalink: u32, flags: u32) -> Acl
-    requires { ⌜ AclPre (now file) lo end 0 ⌝ }
+    requires { ⌜ AclPre (now file) lo end 0 0 ⌝ }
     ensures { λ r. ⌜ HciIs (now (file .entry)) lo end datalink flags r ⌝ }
 {
     if flags / 2 % 2 == 1 {
@@ -269,7 +278,7 @@ fn read_hci(file: &[u8], lo: usize, end: usize, datalink: u32, flags: u32) -> Ac
     if datalink == 1002 {
         return read_h4(file, lo, end, flags % 2);
     }
-    read_fragment(file, lo, end, flags % 2)
+    read_fragment(file, lo, end, 0, flags % 2)
 }
 
 // The packet of the record from one place up to another.

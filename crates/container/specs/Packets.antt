@@ -1,5 +1,5 @@
 -- ACL packets: what the bytes of one say, from whatever record they come.
-use Prim.Native.Nat.{ℕ, _+_, _/_, _%_}
+use Prim.Native.Nat.{ℕ, _+_, _*_, _/_, _%_}
 use mathlib.Core.Bool.{Bool, cond, not}
 use mathlib.Core.List.{List, [], _∷_}
 use mathlib.Core.Option.{Option, none, some}
@@ -9,7 +9,7 @@ use Rattle.laws.specs.Numbers.{le16}
 
 -- an ACL packet whose fields are all there: a fragment of a PDU
 pub record Packet : Type 0 where
-  -- the connection: nothing above this file knows what the number is made of
+  -- the connection, an adapter's index and a handle as one number: nothing above this file knows what it is made of
   pub link : ℕ
   -- 1: Rx, from the headset; 0: Tx, to it
   pub rx : ℕ
@@ -19,13 +19,17 @@ pub record Packet : Type 0 where
   pub time : ℕ
   pub bytes : List ℕ
 
+-- a link: an adapter's index and a handle. Two adapters may use one handle; a handle has 12 bits, so no two pairs are one number.
+abbrev pub linkOf : ℕ → ℕ → ℕ
+linkOf index handle = 4096 * index + handle
+
 -- the packet's fields: a handle field (handle in the low 12 bits, boundary flag in bits 12 and 13), a data length, the data.
 -- Flag 1 continues, any other starts. A field or data that is not there skips the packet; bytes past the data are ignored.
-unfoldable pub fragment : ℕ → ℕ → List ℕ → Option Packet
-fragment rx time b =
+unfoldable pub fragment : ℕ → ℕ → ℕ → List ℕ → Option Packet
+fragment index rx time b =
     cond (leb (4 + le16 b 2) (length b))
     (some (record {
-      link = le16 b 0 % 4096;
+      link = linkOf index (le16 b 0 % 4096);
       rx = rx;
       start = not (eqb (le16 b 0 / 4096 % 4) 1);
       time = time;
@@ -33,9 +37,9 @@ fragment rx time b =
     }))
     none
 
--- H4 wants first byte 02 and drops it
+-- H4 wants first byte 02 and drops it. It says nothing of an adapter: the index is 0.
 unfoldable pub h4Packet : ℕ → ℕ → List ℕ → Option Packet
-h4Packet rx time b = cond (eqb (getD b 0 0) 2) (fragment rx time (drop 1 b)) none
+h4Packet rx time b = cond (eqb (getD b 0 0) 2) (fragment 0 rx time (drop 1 b)) none
 
 -- the packets of records, by a reader of one record
 abbrev pub orNone : Option Packet → List Packet → List Packet

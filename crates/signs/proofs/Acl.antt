@@ -67,13 +67,13 @@ module _ (f : List ℕ) (at end datalink : ℕ) (pre : RecordPre f at end) (flag
 
 -- ---- its packet
 
-none-data : (rx time : ℕ) (b : List ℕ) → isNone (fragment rx time b) ≡ lacksData b
+none-data : (index rx time : ℕ) (b : List ℕ) → isNone (fragment index rx time b) ≡ lacksData b
 unfolding isNone fragment lacksData
-none-data rx time b = splitB (leb (4 + le16 b 2) (length b)) (λ e. rw e) (λ e. rw e)
+none-data index rx time b = splitB (leb (4 + le16 b 2) (length b)) (λ e. rw e) (λ e. rw e)
 
 none-h4 : (rx time : ℕ) (b : List ℕ) → getD b 0 0 ≡ 2 → isNone (h4Packet rx time b) ≡ lacksData (drop 1 b)
 unfolding h4Packet
-none-h4 rx time b e = rw (eq-eqb (getD b 0 0) 2 e) (none-data rx time (drop 1 b))
+none-h4 rx time b e = rw (eq-eqb (getD b 0 0) 2 e) (none-data 0 rx time (drop 1 b))
 
 module _ (datalink : ℕ) (r : List ℕ) where
   pub acl-none : isAcl datalink r ≡ false → isNone (packetOf datalink r) ≡ true
@@ -100,9 +100,9 @@ module _ (datalink : ℕ) (r : List ℕ) where
       (λ d.
       let n : datalink ≡ 1002 → ⊥ = λ z. omega arith in
       split≡ (be32 r 8 % 65536) 4
-      (λ q. rw (eq-eqb datalink 2001 d, ne-eqb datalink 1002 n, eq-eqb (be32 r 8 % 65536) 4 q) (none-data 0 (milliseconds r) (drop 24 r)))
+      (λ q. rw (eq-eqb datalink 2001 d, ne-eqb datalink 1002 n, eq-eqb (be32 r 8 % 65536) 4 q) (none-data (be32 r 8 / 65536) 0 (milliseconds r) (drop 24 r)))
       (λ q. split≡ (be32 r 8 % 65536) 5
-      (λ p. rw (eq-eqb datalink 2001 d, ne-eqb datalink 1002 n, ne-eqb (be32 r 8 % 65536) 4 q, eq-eqb (be32 r 8 % 65536) 5 p) (none-data 1 (milliseconds r) (drop 24 r)))
+      (λ p. rw (eq-eqb datalink 2001 d, ne-eqb datalink 1002 n, ne-eqb (be32 r 8 % 65536) 4 q, eq-eqb (be32 r 8 % 65536) 5 p) (none-data (be32 r 8 / 65536) 1 (milliseconds r) (drop 24 r)))
       (λ p. no-way e (rw (eq-eqb datalink 2001 d, ne-eqb (be32 r 8 % 65536) 4 q, ne-eqb (be32 r 8 % 65536) 5 p)))))
       (λ d. split≡ (be32 r 8 / 2 % 2) 1
       (λ q. no-way e (rw (ne-eqb datalink 2001 d, eq-eqb (be32 r 8 / 2 % 2) 1 q)))
@@ -112,7 +112,7 @@ module _ (datalink : ℕ) (r : List ℕ) where
       let w : drop 1 (drop 24 r) ≡ drop 25 r = drop-drop 1 24 r in
       rw (ne-eqb datalink 2001 d, ne-eqb (be32 r 8 / 2 % 2) 1 q, eq-eqb datalink 1002 h, ← w) (none-h4 (be32 r 8 % 2) (milliseconds r) (drop 24 r) b))
       (λ b. no-way e (rw (ne-eqb datalink 2001 d, ne-eqb (be32 r 8 / 2 % 2) 1 q, eq-eqb datalink 1002 h, ne-eqb (getD (drop 24 r) 0 0) 2 b))))
-      (λ h. rw (ne-eqb datalink 2001 d, ne-eqb (be32 r 8 / 2 % 2) 1 q, ne-eqb datalink 1002 h) (none-data (be32 r 8 % 2) (milliseconds r) (drop 24 r)))))
+      (λ h. rw (ne-eqb datalink 2001 d, ne-eqb (be32 r 8 / 2 % 2) 1 q, ne-eqb datalink 1002 h) (none-data 0 (be32 r 8 % 2) (milliseconds r) (drop 24 r)))))
 
 -- ---- what the code returns
 

@@ -73,7 +73,7 @@ returns-3 c = search acl-short
 
 -- src/lib.rt:165:14
 key-of-requires : tie.Need-key-of-requires
-key-of-requires c κs = c .before .before .before .before .before .before .before .before .before .before .before .before .pre .way
+key-of-requires c κs = search needs
 
 -- src/lib.rt:166:16
 start-of-requires : tie.Need-start-of-requires

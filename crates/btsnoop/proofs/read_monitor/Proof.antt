@@ -7,6 +7,10 @@ use Rattle.btsnoop.proofs.read_monitor.Reads as reads
 use Rattle.btsnoop.proofs.read_monitor.Lts as lts
 use Rattle.btsnoop.proofs.read_fragment.Reads as read-fragment-reads
 
+-- src/lib.rt:204:17
+index-of-requires : tie.Need-index-of-requires
+index-of-requires c κs = search needs
+
 -- src/lib.rt:193:9
 read-fragment-requires : tie.Need-read-fragment-requires
 read-fragment-requires c κs = search needs
@@ -30,4 +34,4 @@ returns-3 c = search monitor-none
 pub read-monitor-spec : {M : Type 1} → statement M
 read-monitor-spec =
     tie.close
-    (tie.spec read-fragment-requires returns read-fragment-requires-2 returns-2 returns-3)
+    (tie.spec index-of-requires read-fragment-requires returns read-fragment-requires-2 returns-2 returns-3)
