@@ -15,7 +15,7 @@ use Rattle.channels.specs.Signals.{commands, code, body, triple, opposit
 abbrev pub identifier : List ℕ → ℕ
 identifier c = getD c 1 0
 
--- a request is known by its handle, direction and identifier
+-- a request is known by its link (an adapter's index and handle), direction and identifier
 abbrev pub requestKey : ℕ → ℕ → ℕ → Key
 requestKey link rx id = link ∷ rx ∷ id ∷ []
 

@@ -28,7 +28,7 @@ code c = getD c 0 0
 unfoldable pub body : List ℕ → List ℕ
 body c = cond (leb (commandSize c) (length c)) (take (le16 c 2) (drop 4 c)) []
 
--- the channel of data with this CID in this direction of a link
+-- the channel of data with this CID in this direction of a link (an adapter's index and handle)
 abbrev pub triple : ℕ → ℕ → ℕ → Key
 triple link rx cid = link ∷ rx ∷ cid ∷ []
 

@@ -1,4 +1,5 @@
--- An honest recording, rule by rule. Where document 01 leaves room, the weaker assumption is taken.
+-- An honest recording, rule by rule. Where document 01 leaves room, the weaker assumption is taken. A handle means the pair of an adapter's index
+-- and a handle, as document 02 asks: it is a packet's `link`. What another adapter does on the same handle is free.
 use Prim.Native.Nat.{ℕ, _+_, _/_, _≤_, _<_}
 use mathlib.Core.Path.{_≡_}
 use mathlib.Core.Logic.{_≢_}

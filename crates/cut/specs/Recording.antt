@@ -27,7 +27,8 @@ pub record Framing : Type 1 where
 abbrev pub packedFrames : Framing
 packedFrames = record { Form = Frame; onWire = wire; Allowed = λ f. length (wire f) ≤ 65536 }
 
--- a link: its handle, and for each direction its CID, the frames sent one after another, and the beginning of one more (empty: none)
+-- a link: its handle, which is the pair of an adapter's index and a handle as a packet's `link` has it, and for each direction its CID,
+-- the frames sent one after another, and the beginning of one more (empty: none)
 pub record LinkOf (S : Framing) : Type 0 where
   pub handle : ℕ
   pub cid : Direction → ℕ

@@ -1,4 +1,4 @@
--- PDUs, put together from fragments for each link and direction.
+-- PDUs, put together from fragments for each link (an adapter's index and handle) and direction.
 use Prim.Native.Nat.{ℕ, _+_}
 use mathlib.Core.Bool.{Bool, cond}
 use mathlib.Core.List.{List, [], _∷_, _++_}

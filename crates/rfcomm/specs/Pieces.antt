@@ -1,4 +1,4 @@
--- Sessions and links for each handle, and the pieces of information with the stretch that each belongs to.
+-- Sessions and links for each handle of an adapter (a PDU's `link`), and the pieces of information with the stretch that each belongs to.
 use Prim.Native.Nat.{ℕ, zero, suc, _+_}
 use mathlib.Core.Bool.{cond, _&&_}
 use mathlib.Core.List.{List, [], _∷_, _++_}
@@ -60,7 +60,7 @@ kindOf ss p = cond (asksSession p) asks (cond (isTried ss p) (frameKind (frameOf
 abbrev pub told : List Signal → Pdu → Judged
 told ss p = record { pdu = p; kind = kindOf ss p }
 
--- sessions of a handle, and links of that handle for each DLCI
+-- sessions of a handle of an adapter, and links of it for each DLCI
 pub record Counts : Type 0 where
   pub sessions : ℕ
   pub links : ℕ → ℕ

@@ -10,8 +10,8 @@ use split::Plan;
 use words::get32;
 use words::put32;
 
-// A stretch and direction with bytes held: 2 * handle + direction, CID, DLCI, the handle's sessions and links, and the
-// number of bytes held.
+// A stretch and direction with bytes held: 2 * link + direction, where a link is 4096 times the adapter's index plus the handle;
+// CID, DLCI, the sessions and links of that link, and the number of bytes held.
 #[repr(C)]
 pub struct Stretch {
     pub way: u32,
