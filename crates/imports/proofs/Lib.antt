@@ -1,2 +1,2 @@
+pub mod ImportLaws
 pub mod NumberLaws
-pub mod PlacesLaws

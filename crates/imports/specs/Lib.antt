@@ -1,2 +1,2 @@
+pub mod Imports
 pub mod Numbers
-pub mod Places

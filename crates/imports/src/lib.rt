@@ -1,5 +1,4 @@
-// Import as the calls ask for it: by options in a list of numbers, with or without places for stretches; and its answer as a
-// number and values.
+// Import as the calls ask for it: by options in a list of numbers, or by two; and its answer as a number and values.
 ghost use mathlib.Core.Path.{_≡_};
 ghost use lib.ListN.{getD};
 ghost use Rattle.capture.specs.Calls.{toldImported};
@@ -8,15 +7,11 @@ ghost use Rattle.opening.specs.Opening.{tailOf};
 ghost use Rattle.streams.specs.Streams.{channelOf};
 ghost use Rattle.telling.specs.Telling.{numberOf, valuesOf, Shows};
 ghost use Rattle.imports.specs.Numbers.{channelNumber, tailNumber, optionsIn, optionsNumber};
-ghost use Rattle.imports.specs.Places.{ImportsIn, ToldIn, Listable, FoundListed};
-use capture::Found;
+ghost use Rattle.imports.specs.Imports.{ImportCalls};
 use capture::Imported;
 use capture::Options;
-use capture::import_found;
 use opening::Tail;
 use streams::Channel;
-use streams::plan;
-use stretches::list_open;
 use telling::Shown;
 use telling::alone;
 use telling::tell;
@@ -91,88 +86,35 @@ pub fn shown_imported(i: Imported) -> Shown
     }
 }
 
-// ---- with places for stretches
+// ---- the calls
 
-// An answer's number, and how many stretches stand at the start of work.
-pub struct Told {
-    pub number: u32,
-    pub listed: usize,
+// Imports a trace by options in a list of numbers, and tells the answer.
+pub fn import_told(
+    file: &[u8],
+    work: &mut [u8],
+    out: &mut [u8],
+    options: &[u64],
+    values: &mut [u64],
+) -> u32
+    ensures { λ r. ⌜ ImportCalls (now (file .entry)) (now (work .entry)) (now (out .entry)) (optionsIn (now (options .entry))) (now (values .entry)) r (now (work .exit)) (now (out .exit)) (now (values .exit)) ⌝ }
+{
+    let o = options_in(options);
+    let i = capture::import(file, work, out, o);
+    let s = shown_imported(i);
+    tell(s, values)
 }
 
-// Imports a trace where a list of stretches of so many places is lent, and tells the answer.
-pub fn import_told(
+// Imports a trace by two options.
+pub fn import_by(
     file: &[u8],
     work: &mut [u8],
     out: &mut [u8],
     channel: u32,
     tolerant: u32,
     values: &mut [u64],
-    places: usize,
-) -> Told
-    ensures { λ r. ⌜ ToldIn (now (file .entry)) (now (work .entry)) places (now (out .entry)) (optionsNumber channel tolerant) (now (values .entry)) (r .number) (r .listed) (now (work .exit)) (now (out .exit)) (now (values .exit)) ⌝ }
+) -> u32
+    ensures { λ r. ⌜ ImportCalls (now (file .entry)) (now (work .entry)) (now (out .entry)) (optionsNumber channel tolerant) (now (values .entry)) r (now (work .exit)) (now (out .exit)) (now (values .exit)) ⌝ }
 {
     let options = [channel as u64, tolerant as u64];
-    let o = options_in(&options);
-    let p = import_places(file, work, out, o, places);
-    let answer = p.answer;
-    let s = shown_imported(answer);
-    Told {
-        number: tell(s, values),
-        listed: p.listed,
-    }
-}
-
-// An answer, and how many stretches stand at the start of work.
-pub struct Placed {
-    pub answer: Imported,
-    pub listed: usize,
-}
-
-// Imports a trace where a list of stretches of so many places is lent, and lists the open ones in work.
-pub fn import_places(
-    file: &[u8],
-    work: &mut [u8],
-    out: &mut [u8],
-    options: Options,
-    places: usize,
-) -> Placed
-    ensures { λ r. ⌜ ImportsIn (now (file .entry)) (now (work .entry)) places (optionsOf options) (now (out .entry)) (r .answer) (r .listed) (now (work .exit)) (now (out .exit)) ⌝ }
-{
-    let n = file.len();
-    if 1048576 < n {
-        return Placed {
-            answer: Imported::FileLong,
-            listed: 0,
-        };
-    }
-    if work.len() < 8 * n {
-        return Placed {
-            answer: Imported::WorkShort,
-            listed: 0,
-        };
-    }
-    if places < n / 24 {
-        return Placed {
-            answer: Imported::WorkShort,
-            listed: 0,
-        };
-    }
-    let found = import_found(file, work, out, options);
-    let answer = found.answer;
-    let listed = list_found(file, work, found);
-    Placed { answer, listed }
-}
-
-// Lists the stretches that are open after an import at the start of work, and returns how many: none where it gave no spans.
-fn list_found(file: &[u8], w: &mut [u8], found: Found) -> usize
-    requires { ⌜ Listable (now file) (now w) found ⌝ }
-    ensures { λ r. ⌜ FoundListed (now (file .entry)) (now (w .entry)) found (now (w .exit)) r ⌝ }
-{
-    let answer = found.answer;
-    let Imported::Spans(dlci, _, _, _, _) = answer else {
-        return 0;
-    };
-    let q = file.len() / 4;
-    let p = plan(q, found.pieces, dlci as u32);
-    list_open(w, p)
+    import_told(file, work, out, &options, values)
 }

@@ -1,4 +1,2 @@
 pub mod Again
-pub mod ImportLaws
-pub mod RecordLaws
 pub mod StretchLaws

@@ -2,27 +2,27 @@
 // answers, or that the refusal carries, as the list lent for them has room for are stored at its front.
 ghost use mathlib.Core.Path.{_≡_};
 ghost use Rattle.fixtures.specs.Plan.{planOf};
-ghost use Rattle.items.specs.Items.{rxOf};
 ghost use Rattle.mdr.specs.Frame.{unpackOf, packOf};
 ghost use Rattle.commands.specs.Commands.{isCommandName};
 ghost use Rattle.names.specs.Names.{fixtureName};
 ghost use Rattle.order.specs.Order.{captureOrder};
 ghost use Rattle.gaps.specs.Calls.{GapsCalls};
+ghost use Rattle.imports.specs.Imports.{ImportCalls};
 ghost use Rattle.imports.specs.Numbers.{tailNumber, optionsIn, optionsNumber};
 ghost use Rattle.telling.specs.Telling.{Calls};
-ghost use Rattle.lumbryth.specs.Imports.{bit, wayOf, ImportCalls};
-ghost use Rattle.lumbryth.specs.RecordCalls.{RecordsCalls};
+ghost use Rattle.told.specs.Numbers.{bit, wayOf};
+ghost use Rattle.told.specs.RecordCalls.{RecordsCalls};
 ghost use Rattle.lumbryth.specs.Stretches.{StretchCalls};
 use gaps::gaps_told;
+use imports::import_by;
 use imports::import_told;
-use imports::options_in;
-use imports::shown_imported;
-use telling::shown_listed;
-use telling::tell;
+use places::places_told;
+use told::command_told;
 use told::name_told;
 use told::order_told;
 use told::pack_told;
 use told::plan_told;
+use told::records_told;
 use told::unpack_told;
 
 // Reads one frame, and writes its payload to the front of out. Values: type, sequence number, payload length.
@@ -47,16 +47,6 @@ pub extern "C" fn lumbryth_pack(
     pack_told(kind, seq, payload, out, values)
 }
 
-// Which way a frame went, by number: 1 is Rx, any other Tx.
-fn direction_of(way: u8) -> items::Direction
-    ensures { λ r. ⌜ rxOf r ≡ wayOf way ⌝ }
-{
-    if way == 1 {
-        return items::Direction::Rx;
-    }
-    items::Direction::Tx
-}
-
 // Writes the name of a frame's wire to the front of out; way is 1 for Rx and 2 for Tx. Value: the name's length.
 #[no_mangle]
 pub extern "C" fn lumbryth_fixture_name(
@@ -69,8 +59,7 @@ pub extern "C" fn lumbryth_fixture_name(
 ) -> u32
     ensures { λ r. ⌜ Calls (fixtureName ms counter (wayOf way) (now (wire .entry))) (now (out .entry)) (now (out .exit)) (now (values .entry)) r (now (values .exit)) ⌝ }
 {
-    let direction = direction_of(way);
-    name_told(ms, counter, direction, wire, out, values)
+    name_told(ms, counter, way, wire, out, values)
 }
 
 // 1 if either table has the name, else 0.
@@ -78,10 +67,7 @@ pub extern "C" fn lumbryth_fixture_name(
 pub extern "C" fn lumbryth_is_command_name(name: &[u8]) -> u32
     ensures { λ r. ⌜ r ≡ bit (isCommandName (now (name .entry))) ⌝ }
 {
-    if commands::is_command_name(name) {
-        return 1;
-    }
-    0
+    command_told(name)
 }
 
 // Writes the plan of a list of spans, but for the excluded commands, to the front of out. Values: fixtures, bytes.
@@ -118,10 +104,7 @@ pub extern "C" fn lumbryth_import_with(
 ) -> u32
     ensures { λ r. ⌜ ImportCalls (now (file .entry)) (now (work .entry)) (now (out .entry)) (optionsIn (now (options .entry))) (now (values .entry)) r (now (work .exit)) (now (out .exit)) (now (values .exit)) ⌝ }
 {
-    let o = options_in(options);
-    let i = capture::import(file, work, out, o);
-    let s = shown_imported(i);
-    tell(s, values)
+    import_told(file, work, out, options, values)
 }
 
 // Imports a trace by two options.
@@ -136,8 +119,7 @@ pub extern "C" fn lumbryth_import(
 ) -> u32
     ensures { λ r. ⌜ ImportCalls (now (file .entry)) (now (work .entry)) (now (out .entry)) (optionsNumber channel tolerant) (now (values .entry)) r (now (work .exit)) (now (out .exit)) (now (values .exit)) ⌝ }
 {
-    let options = [channel as u64, tolerant as u64];
-    lumbryth_import_with(file, work, out, &options, values)
+    import_by(file, work, out, channel, tolerant, values)
 }
 
 // Imports a trace by the strict rule.
@@ -151,7 +133,7 @@ pub extern "C" fn lumbryth_import_strict(
 ) -> u32
     ensures { λ r. ⌜ ImportCalls (now (file .entry)) (now (work .entry)) (now (out .entry)) (optionsNumber channel 0) (now (values .entry)) r (now (work .exit)) (now (out .exit)) (now (values .exit)) ⌝ }
 {
-    lumbryth_import(file, work, out, channel, 0, values)
+    import_by(file, work, out, channel, 0, values)
 }
 
 // Stores where each whole record of a trace starts at the front of starts, as many as there is room for. Values: records,
@@ -160,9 +142,7 @@ pub extern "C" fn lumbryth_import_strict(
 pub extern "C" fn lumbryth_records(file: &[u8], starts: &mut [u64], values: &mut [u64]) -> u32
     ensures { λ r. ⌜ RecordsCalls (now (file .entry)) (now (starts .entry)) (now (values .entry)) r (now (starts .exit)) (now (values .exit)) ⌝ }
 {
-    let l = btsnoop::list_records(file, starts);
-    let s = shown_listed(l);
-    tell(s, values)
+    records_told(file, starts, values)
 }
 
 // Counts the signs in a trace that something is not in it; 0 is strict, any other tolerant. Refused as import is, by 1 to 5.
@@ -197,7 +177,7 @@ pub extern "C" fn lumbryth_import_stretches(
     ensures { λ r. ⌜ StretchCalls (now (file .entry)) (now (work .entry)) (now (stretches .entry)) (now (out .entry)) (optionsNumber channel tolerant) (now (values .entry)) r (now (work .exit)) (now (stretches .exit)) (now (out .exit)) (now (values .exit)) ⌝ }
 {
     let places = stretches.len();
-    let t = import_told(file, work, out, channel, tolerant, values, places);
+    let t = places_told(file, work, out, channel, tolerant, values, places);
     stretches::fill(work, stretches, t.listed);
     t.number
 }

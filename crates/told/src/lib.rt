@@ -1,10 +1,16 @@
-// The calls on frames, names and lists as plain functions: each writes its output, and tells its answer by a number and values.
+// The calls on frames, names and lists, and the one that lists records, as plain functions: each writes its output, and tells its
+// answer by a number and values.
+ghost use mathlib.Core.Path.{_≡_};
+ghost use Rattle.commands.specs.Commands.{isCommandName};
 ghost use Rattle.fixtures.specs.Plan.{planOf};
 ghost use Rattle.items.specs.Items.{rxOf};
 ghost use Rattle.mdr.specs.Frame.{unpackOf, packOf};
 ghost use Rattle.names.specs.Names.{fixtureName};
 ghost use Rattle.order.specs.Order.{captureOrder};
 ghost use Rattle.telling.specs.Telling.{Calls};
+ghost use Rattle.told.specs.Numbers.{bit, wayOf};
+ghost use Rattle.told.specs.RecordCalls.{RecordsCalls};
+use telling::shown_listed;
 use telling::shown_named;
 use telling::shown_ordered;
 use telling::shown_packed;
@@ -28,19 +34,40 @@ pub fn pack_told(kind: u8, seq: u8, payload: &[u8], out: &mut [u8], values: &mut
     tell(s, values)
 }
 
+// Which way a frame went, by number: 1 is Rx, any other Tx.
+fn direction_of(way: u8) -> items::Direction
+    ensures { λ r. ⌜ rxOf r ≡ wayOf way ⌝ }
+{
+    if way == 1 {
+        return items::Direction::Rx;
+    }
+    items::Direction::Tx
+}
+
 pub fn name_told(
     ms: u64,
     counter: u32,
-    direction: items::Direction,
+    way: u8,
     wire: &[u8],
     out: &mut [u8],
     values: &mut [u64],
 ) -> u32
-    ensures { λ r. ⌜ Calls (fixtureName ms counter (rxOf direction) (now (wire .entry))) (now (out .entry)) (now (out .exit)) (now (values .entry)) r (now (values .exit)) ⌝ }
+    ensures { λ r. ⌜ Calls (fixtureName ms counter (wayOf way) (now (wire .entry))) (now (out .entry)) (now (out .exit)) (now (values .entry)) r (now (values .exit)) ⌝ }
 {
+    let direction = direction_of(way);
     let n = names::fixture_name(ms, counter, direction, wire, out);
     let s = shown_named(n);
     tell(s, values)
+}
+
+// 1 if either table has the name, else 0.
+pub fn command_told(name: &[u8]) -> u32
+    ensures { λ r. ⌜ r ≡ bit (isCommandName (now (name .entry))) ⌝ }
+{
+    if commands::is_command_name(name) {
+        return 1;
+    }
+    0
 }
 
 pub fn plan_told(spans: &[u8], excluded: &[u8], out: &mut [u8], values: &mut [u64]) -> u32
@@ -56,5 +83,13 @@ pub fn order_told(names: &[u8], out: &mut [u8], values: &mut [u64]) -> u32
 {
     let o = order::capture_order(names, out);
     let s = shown_ordered(o);
+    tell(s, values)
+}
+
+pub fn records_told(file: &[u8], starts: &mut [u64], values: &mut [u64]) -> u32
+    ensures { λ r. ⌜ RecordsCalls (now (file .entry)) (now (starts .entry)) (now (values .entry)) r (now (starts .exit)) (now (values .exit)) ⌝ }
+{
+    let l = btsnoop::list_records(file, starts);
+    let s = shown_listed(l);
     tell(s, values)
 }

@@ -1,16 +1,13 @@
-use Rattle.imports.proofs.PlacesLaws.{told-in}
+use Rattle.imports.proofs.ImportLaws.{import-calls}
 use borrow.Author.Needs.{needs}
 use Rattle.imports.proofs.import_told.Statement.{statement}
 use Rattle.imports.proofs.import_told.Tie as tie
 
-slice-aggregate-options-in : tie.Need-slice-aggregate-options-in
-slice-aggregate-options-in c = search needs
-
 options-in-requires : tie.Need-options-in-requires
 options-in-requires c κs = search needs
 
-import-places-requires : tie.Need-import-places-requires
-import-places-requires c κs = search needs
+import-requires : tie.Need-import-requires
+import-requires c κs = search needs
 
 shown-imported-requires : tie.Need-shown-imported-requires
 shown-imported-requires c κs = search needs
@@ -28,15 +25,14 @@ same-length-3 : tie.Need-same-length-3
 same-length-3 c = search needs
 
 returns : tie.Need-returns
-returns c = search told-in
+returns c = search import-calls
 
 pub import-told-spec : {M : Type 1} → statement M
 import-told-spec =
     tie.close
     (tie.spec
-    slice-aggregate-options-in
     options-in-requires
-    import-places-requires
+    import-requires
     shown-imported-requires
     tell-requires
     same-length

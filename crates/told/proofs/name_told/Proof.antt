@@ -1,7 +1,10 @@
-use Rattle.telling.proofs.TellLaws.{calls}
+use Rattle.told.proofs.NumberLaws.{named-calls}
 use borrow.Author.Needs.{needs}
 use Rattle.told.proofs.name_told.Statement.{statement}
 use Rattle.told.proofs.name_told.Tie as tie
+
+direction-of-requires : tie.Need-direction-of-requires
+direction-of-requires c κs = search needs
 
 fixture-name-requires : tie.Need-fixture-name-requires
 fixture-name-requires c κs = search needs
@@ -19,12 +22,13 @@ same-length-2 : tie.Need-same-length-2
 same-length-2 c = search needs
 
 returns : tie.Need-returns
-returns c = search calls
+returns c = search named-calls
 
 pub name-told-spec : {M : Type 1} → statement M
 name-told-spec =
     tie.close
     (tie.spec
+    direction-of-requires
     fixture-name-requires
     shown-named-requires
     tell-requires

@@ -1,10 +1,10 @@
-use Rattle.imports.proofs.PlacesLaws.{found-none, found-plan, found-room, found-listed}
+use Rattle.places.proofs.PlacesLaws.{found-none, found-plan, found-room, found-listed}
 use native.Mathlib.Omega.{arith}
 use borrow.Author.Needs.{needs}
-use Rattle.imports.proofs.list_found.Statement.{statement}
-use Rattle.imports.proofs.list_found.Tie as tie
-use Rattle.imports.proofs.list_found.Reads as reads
-use Rattle.imports.proofs.list_found.Lts as lts
+use Rattle.places.proofs.list_found.Statement.{statement}
+use Rattle.places.proofs.list_found.Tie as tie
+use Rattle.places.proofs.list_found.Reads as reads
+use Rattle.places.proofs.list_found.Lts as lts
 use Rattle.streams.proofs.plan.Reads as plan-reads
 use Rattle.stretches.proofs.list_open.Reads as list-open-reads
 

@@ -1,8 +1,8 @@
-use Rattle.lumbryth.proofs.ImportLaws.{way-rx, way-tx}
+use Rattle.told.proofs.NumberLaws.{way-rx, way-tx}
 use borrow.Author.Needs.{needs}
 use native.Mathlib.Omega.{arith}
-use Rattle.lumbryth.proofs.direction_of.Statement.{statement}
-use Rattle.lumbryth.proofs.direction_of.Tie as tie
+use Rattle.told.proofs.direction_of.Statement.{statement}
+use Rattle.told.proofs.direction_of.Tie as tie
 
 returns : tie.Need-returns
 returns c = search way-rx

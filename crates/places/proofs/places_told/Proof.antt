@@ -1,13 +1,16 @@
-use Rattle.lumbryth.proofs.ImportLaws.{import-calls}
+use Rattle.places.proofs.PlacesLaws.{told-in}
 use borrow.Author.Needs.{needs}
-use Rattle.lumbryth.proofs.lumbryth_import_with.Statement.{statement}
-use Rattle.lumbryth.proofs.lumbryth_import_with.Tie as tie
+use Rattle.places.proofs.places_told.Statement.{statement}
+use Rattle.places.proofs.places_told.Tie as tie
+
+slice-aggregate-options-in : tie.Need-slice-aggregate-options-in
+slice-aggregate-options-in c = search needs
 
 options-in-requires : tie.Need-options-in-requires
 options-in-requires c κs = search needs
 
-import-requires : tie.Need-import-requires
-import-requires c κs = search needs
+import-places-requires : tie.Need-import-places-requires
+import-places-requires c κs = search needs
 
 shown-imported-requires : tie.Need-shown-imported-requires
 shown-imported-requires c κs = search needs
@@ -25,14 +28,15 @@ same-length-3 : tie.Need-same-length-3
 same-length-3 c = search needs
 
 returns : tie.Need-returns
-returns c = search import-calls
+returns c = search told-in
 
-pub lumbryth-import-with-spec : {M : Type 1} → statement M
-lumbryth-import-with-spec =
+pub places-told-spec : {M : Type 1} → statement M
+places-told-spec =
     tie.close
     (tie.spec
+    slice-aggregate-options-in
     options-in-requires
-    import-requires
+    import-places-requires
     shown-imported-requires
     tell-requires
     same-length

@@ -10,7 +10,7 @@ use Rattle.btsnoop.specs.declared.Listed.{Listed}
 use Rattle.telling.specs.Telling.{numberOf, valuesOf, stored, Shows, Tells}
 use Rattle.telling.specs.declared.Shown.{Shown}
 use Rattle.telling.proofs.TellLaws.{told-as}
-use Rattle.lumbryth.specs.RecordCalls.{RecordsCalls}
+use Rattle.told.specs.RecordCalls.{RecordsCalls}
 
 -- a refusal leaves the list as it was
 pub refused-spares : (f d : List ℕ) (n : ℕ) (vs : List ℕ) → listing f ≡ refused n vs → stored (startsOf f) d ≡ d

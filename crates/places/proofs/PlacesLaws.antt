@@ -31,7 +31,7 @@ use Rattle.stretches.specs.declared.Stretch.{Stretch}
 use Rattle.telling.specs.Telling.{numberOf, valuesOf, Shows, Tells}
 use Rattle.telling.specs.declared.Shown.{Shown}
 use Rattle.telling.proofs.TellLaws.{calls}
-use Rattle.imports.specs.Places.{suffices, openOn, fileStretches, listedBy, ImportsIn, ToldIn, Listable, FoundListed}
+use Rattle.places.specs.Places.{suffices, openOn, fileStretches, listedBy, ImportsIn, ToldIn, Listable, FoundListed}
 
 module _ (f w : List ℕ) (places : ℕ) (o : Options) (out : List ℕ) where
   abbrev O : Outcome

@@ -1,8 +1,8 @@
-use Rattle.imports.proofs.PlacesLaws.{in-long, in-short, in-few, in-listable, in-met}
+use Rattle.places.proofs.PlacesLaws.{in-long, in-short, in-few, in-listable, in-met}
 use native.Mathlib.Omega.{arith}
 use borrow.Author.Needs.{needs}
-use Rattle.imports.proofs.import_places.Statement.{statement}
-use Rattle.imports.proofs.import_places.Tie as tie
+use Rattle.places.proofs.import_places.Statement.{statement}
+use Rattle.places.proofs.import_places.Tie as tie
 
 returns : tie.Need-returns
 returns c = search in-long

@@ -1,7 +1,7 @@
-use Rattle.lumbryth.proofs.RecordLaws.{records-calls}
+use Rattle.told.proofs.RecordLaws.{records-calls}
 use borrow.Author.Needs.{needs}
-use Rattle.lumbryth.proofs.lumbryth_records.Statement.{statement}
-use Rattle.lumbryth.proofs.lumbryth_records.Tie as tie
+use Rattle.told.proofs.records_told.Statement.{statement}
+use Rattle.told.proofs.records_told.Tie as tie
 
 list-records-requires : tie.Need-list-records-requires
 list-records-requires c κs = search needs
@@ -21,8 +21,8 @@ same-length-2 c = search needs
 returns : tie.Need-returns
 returns c = search records-calls
 
-pub lumbryth-records-spec : {M : Type 1} → statement M
-lumbryth-records-spec =
+pub records-told-spec : {M : Type 1} → statement M
+records-told-spec =
     tie.close
     (tie.spec
     list-records-requires

@@ -1,23 +1,14 @@
--- Directions, tests and import over the C interface.
+-- Import over the C interface.
 use Prim.Native.Nat.{ℕ}
 use mathlib.Core.Path.{_≡_}
-use mathlib.Core.Bool.{Bool, true, false, cond, _&&_}
+use mathlib.Core.Bool.{false, _&&_}
 use mathlib.Core.List.{List}
 use lib.ListN.{length}
-use lib.Dec.{eqb}
 use Rattle.laws.specs.Answers.{answer}
 use Rattle.btsnoop.specs.Records.{btsnoop}
 use Rattle.outcome.specs.Import.{Options, fits, workSuffices, imported}
 use Rattle.cut.specs.Claim.{CutClaim}
 use Rattle.telling.specs.Telling.{Calls}
-
-abbrev pub bit : Bool → ℕ
-bit true = 1
-bit false = 0
-
--- 1 is Rx, any other Tx
-unfoldable pub wayOf : ℕ → ℕ
-wayOf way = cond (eqb way 1) 1 0
 
 -- Answer and output by the definition; work is unchanged after 1 and 2; and the claim of the cut.
 pub record ImportCalls (f w out : List ℕ) (o : Options) (v : List ℕ) (r : ℕ) (w′ out′ v′ : List ℕ) : Type 0 where
