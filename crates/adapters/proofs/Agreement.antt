@@ -1,7 +1,8 @@
 -- A file read with other numbers for its links gives the same, if no two of its links get one number. So a trace in which each handle has one index
 -- is read as document 01 reads it, by the handle alone.
 use Prim.Native.Nat.{ℕ, _+_, _*_, _/_, _%_, _<_}
-use mathlib.Core.Path.{_≡_, _≢_, refl, sym, ap, _∙_, fun-ext}
+use mathlib.Core.Path.{_≡_, refl, sym, ap, _∙_, fun-ext}
+use mathlib.Core.Logic.{_≢_}
 use mathlib.Core.Bool.{cond}
 use mathlib.Core.List.{List, [], _∷_, map, List·Memᴰ, List·Memᴰ·head, List·Memᴰ·tail}
 use mathlib.Core.Option.{Option, none, some}
@@ -115,11 +116,11 @@ module _ (ρ : ℕ → ℕ) where
       (p : Packet) {qs : List Packet} → List·Memᴰ p qs → All (λ q. ρ (p .link) ≡ ρ (q .link) → p .link ≡ q .link) qs →
       undone qs (ρ (p .link)) ≡ 2 * p .link
   unfolding undone
-  undone-at p (List·Memᴰ·head {x = q} e) (all-cons a as) = rw (e, eq-eqb (ρ (q .link)) (ρ (q .link)) refl)
-  undone-at p (List·Memᴰ·tail {x = q} m) (all-cons a as) =
+  undone-at p (List·Memᴰ·head {x = q} e) (all-cons a rest) = rw (e, eq-eqb (ρ (q .link)) (ρ (q .link)) refl)
+  undone-at p (List·Memᴰ·tail {x = q} m) (all-cons a rest) =
       split≡ (ρ (q .link)) (ρ (p .link))
       (λ e. rw (eq-eqb (ρ (q .link)) (ρ (p .link)) e, a (sym e)))
-      (λ n. rw (ne-eqb (ρ (q .link)) (ρ (p .link)) n) (undone-at p m as))
+      (λ n. rw (ne-eqb (ρ (q .link)) (ρ (p .link)) n) (undone-at p m rest))
 
   undone-mapped :
       (ps : List Packet) {qs : List Packet} → All (λ q. undone ps (ρ (q .link)) ≡ 2 * q .link) qs →
