@@ -88,13 +88,15 @@ all-in : {A : Type 0} {P : A → Type 0} (xs : List A) → ((x : A) → List·Me
 all-in [] g = all-nil
 all-in (x ∷ xs) g = all-cons (g x (List·Memᴰ·head refl)) (all-in xs (λ y m. g y (List·Memᴰ·tail m)))
 
--- such a renaming is undone by one that is one to one everywhere, but for doubling: numbers that no link of the packets gets become odd
+-- Such a renaming is undone, but for doubling, by one that is one to one everywhere: a number that no link of the packets gets becomes odd.
 module _ (ρ : ℕ → ℕ) where
   unfoldable undone : List Packet → ℕ → ℕ
   undone [] y = 2 * y + 1
   undone (p ∷ ps) y = cond (eqb (ρ (p .link)) y) (2 * p .link) (undone ps y)
 
-  undone-either : {G : Type 0} (ps : List Packet) (y : ℕ) → (undone ps y ≡ 2 * y + 1 → G) → ((x : ℕ) → ρ x ≡ y → undone ps y ≡ 2 * x → G) → G
+  undone-either :
+      {G : Type 0} (ps : List Packet) (y : ℕ) →
+      (undone ps y ≡ 2 * y + 1 → G) → ((x : ℕ) → ρ x ≡ y → undone ps y ≡ 2 * x → G) → G
   unfolding undone
   undone-either [] y odd even = odd refl
   undone-either (p ∷ ps) y odd even =
@@ -199,29 +201,32 @@ hci-bare datalink flags time b =
 
 -- ---- document 01's reading
 
-module _ (f : List ℕ) (a : OneIndexEach (packetsIn btsnoop f)) where
-  -- a trace in which each handle has one index gives what it gives by the handle alone
-  pub agrees : (o : Options) → outcome byHandle f o ≡ outcome btsnoop f o
-  agrees o = outcome-apart (λ l. l % 4096) btsnoop f a o
+-- a trace in which each handle has one index gives what it gives by the handle alone
+pub agrees : (f : List ℕ) (o : Options) → OneIndexEach (packetsIn btsnoop f) → outcome byHandle f o ≡ outcome btsnoop f o
+agrees f o a = outcome-apart (λ l. l % 4096) btsnoop f a o
 
-  pub agrees-imported : (work : ℕ) (o : Options) → imported byHandle f work o ≡ imported btsnoop f work o
-  agrees-imported work o = imported-by btsnoop byHandle f work o (agrees o)
+pub agrees-imported :
+    (f : List ℕ) (work : ℕ) (o : Options) → OneIndexEach (packetsIn btsnoop f) →
+    imported byHandle f work o ≡ imported btsnoop f work o
+agrees-imported f work o a = imported-by btsnoop byHandle f work o (agrees f o a)
 
-  pub agrees-imported-in : (work places : ℕ) (o : Options) → importedIn byHandle f work places o ≡ importedIn btsnoop f work places o
-  agrees-imported-in work places o = imported-in-by btsnoop byHandle f work o (agrees o) places
+pub agrees-imported-in :
+    (f : List ℕ) (work places : ℕ) (o : Options) → OneIndexEach (packetsIn btsnoop f) →
+    importedIn byHandle f work places o ≡ importedIn btsnoop f work places o
+agrees-imported-in f work places o a = imported-in-by btsnoop byHandle f work o (agrees f o a) places
 
--- where all packets share one index each handle has one
 one-each : (index : ℕ) {ps : List Packet} → OneIndex index ps → OneIndexEach ps
 one-each index a = all-map (λ p e. all-map (λ q d h. omega (arith, e, d, h)) a) a
 
+-- so does a trace whose packets share one index
 pub agrees-one : (index : ℕ) (f : List ℕ) (o : Options) → OneIndex index (packetsIn btsnoop f) → outcome byHandle f o ≡ outcome btsnoop f o
-agrees-one index f o a = agrees f (one-each index a) o
+agrees-one index f o a = agrees f o (one-each index a)
 
 packet-bare : (link : ℕ) (r : List ℕ) → link ≢ 2001 → ifThere (λ l. l % 4096) (packetOf link r) ≡ packetOf link r
 unfolding packetOf
 packet-bare link r n = rw (ne-eqb link 2001 n) (hci-bare link (be32 r 8) (milliseconds r) (drop 24 r))
 
--- of whatever trace of another datalink
+-- and any trace of a datalink without an index
 pub no-index : (f : List ℕ) (o : Options) → datalink f ≢ 2001 → outcome byHandle f o ≡ outcome btsnoop f o
 unfolding packetsIn records read filePieces
 no-index f o n =
