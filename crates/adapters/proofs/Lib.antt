@@ -1,0 +1,4 @@
+pub mod Recordings
+pub mod Computed
+pub mod Torn
+pub mod Places
