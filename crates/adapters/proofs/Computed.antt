@@ -34,6 +34,7 @@ use Rattle.cut.specs.Left.{leftFrom, recordsLeft, tailLeft, sent, dataOf, dataL
 use Rattle.cut.specs.Honest.{pdusIn, markedPdus, withMarks, judgedIn, isDataOf, toData, afterData, adds, carriesOn, Honest}
 use Rattle.cut.proofs.Tests.{packedChecked, every, once, openTest, ends, headerTest, wholeTest, smallTest, dlciTest, dynamicTest, channelTest, channelsTest, informationTest, sizesTest, beginningsTest, settledIn, settledTest, aloneIn, aloneTest, handlesTest, dataTest, markTest, fragmentsTest, rules, passed-all, honest}
 use Rattle.cut.proofs.Recordings.{unended}
+use Rattle.cut.proofs.Computed.{testedBy, foundBy, leftAt, w₁, w₂}
 use Rattle.adapters.proofs.Recordings.{shared}
 
 shared-tested : testedBy source shared ≡ passed-all

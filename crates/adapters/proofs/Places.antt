@@ -6,6 +6,7 @@ use mathlib.Core.List.{List, [], _∷_}
 use mathlib.Core.Option.{some}
 use native.Mathlib.Omega.{arith}
 use lib.ListN.{length}
+use borrow.Author.Tests.{leb-true}
 use Rattle.laws.proofs.Choice.{no-way}
 use Rattle.laws.specs.Answers.{isGiven}
 use Rattle.laws.specs.Chop.{chop, chopFrom}
@@ -154,7 +155,7 @@ shared-by-handle = refl
 
 -- so import by the handle alone does not keep the claim
 pub by-handle-fails : {G : Type 0} → ((R : Recording btsnoop) → Honest source R → (n : ℕ) → 16 ≤ n → n ≤ length (file R) → outcome byHandle (cut R n) (record { channel = some (R .d / 2); tail = tolerant; rule = source }) ≡ leftAt R n) → G
-unfolding file
+unfolding file packed bodyOf summedOf headOf checksumOf within
 by-handle-fails claim =
-    let e : missing 6 [] ≡ found 18 (span 1 7 w₀ ∷ []) 0 133 = sym (sessions-cut .2) ∙ claim sessions sessions-honest 133 (omega arith) (omega arith) ∙ sessions-cut .1 in
-    no-way (ap isMissing e) refl
+    let e : missing 6 [] ≡ found 18 (span 1 7 w₀ ∷ []) 0 133 = sym (sessions-cut .2) ∙ claim sessions sessions-honest 133 (omega arith) (leb-true 133 _ refl) ∙ sessions-cut .1 in
+    no-way refl (ap isMissing e)

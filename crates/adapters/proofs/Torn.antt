@@ -7,6 +7,7 @@ use mathlib.Core.List.{List, [], _∷_}
 use mathlib.Core.Option.{Option, none, some}
 use native.Mathlib.Omega.{arith}
 use lib.ListN.{length}
+use borrow.Author.Tests.{leb-true}
 use Rattle.laws.proofs.Choice.{no-way}
 use Rattle.laws.specs.Answers.{isGiven}
 use Rattle.laws.specs.Chop.{chop, chopFrom}
@@ -47,7 +48,7 @@ use Rattle.adapters.proofs.Recordings.{tornByHandle, torn, tornFrameByH
 -- ---- a container with other numbers for its links is one
 
 module _ (ρ : ℕ → ℕ) (C : Container) (L : Lawful C) where
-  bytesIn : Option Packet → List ℕ
+  abbrev bytesIn : Option Packet → List ℕ
   bytesIn none = []
   bytesIn (some p) = p .bytes
 
@@ -107,10 +108,10 @@ isMissing (missing n vs) = true
 
 -- so the claim with the handle alone is false
 pub claim-by-handle-false : {G : Type 0} → ((R : Recording byHandle) → Honest source R → (n : ℕ) → 16 ≤ n → n ≤ length (file R) → outcome btsnoop (cut R n) (record { channel = some (R .d / 2); tail = tolerant; rule = source }) ≡ leftAt R n) → G
-unfolding file
+unfolding file packed bodyOf summedOf headOf checksumOf within
 claim-by-handle-false claim =
-    let e : missing 6 [] ≡ found 18 (span 1 6 w₂ ∷ []) 0 89 = sym (torn-cut .2) ∙ claim tornByHandle torn-honest 89 (omega arith) (omega arith) ∙ torn-cut .0 in
-    no-way (ap isMissing e) refl
+    let e : missing 6 [] ≡ found 18 (span 1 6 w₂ ∷ []) 0 89 = sym (torn-cut .2) ∙ claim tornByHandle torn-honest 89 (omega arith) (leb-true 89 _ refl) ∙ torn-cut .0 in
+    no-way refl (ap isMissing e)
 
 -- ---- by index and handle they are not honest
 
