@@ -28,7 +28,7 @@ use Rattle.rfcomm.specs.Pieces.{uihKind, frameKind, kindBy, judgedFrom, judgedB
 use Rattle.search.specs.Seek.{seek}
 use Rattle.spans.specs.Scan.{spansN, restN, spansOf, restOf, capped}
 use Rattle.spans.specs.Spans.{spans, unfinished, onDlci}
-use Rattle.outcome.specs.Import.{Found, found, missing, onChannel, first, hasFrame, chosen, listed, filePieces, read, endsWell, outcome}
+use Rattle.outcome.specs.Import.{Found, found, missing, onChannel, first as firstOf, hasFrame, chosen, listed, filePieces, read, endsWell, outcome}
 use Rattle.cut.specs.Recording.{file, cut}
 use Rattle.cut.specs.Left.{leftFrom, recordsLeft, tailLeft, sent, dataOf, dataLeft, closedIn, ofHandle, framesLeft, midFrame, endsMid, midIn, midLeft}
 use Rattle.cut.specs.Honest.{pdusIn, markedPdus, withMarks, judgedIn, isDataOf, toData, afterData, adds, carriesOn, Honest}
@@ -56,7 +56,7 @@ answers = found 18 both 1 317 ∷ found 18 both 0 277 ∷ found 18 both 0 277 �
 
 -- import of its cuts finds the frames of both links, as is left of them
 pub shared-cuts : (map (foundBy source shared) cuts ≡ answers) × (map (leftAt shared) cuts ≡ answers)
-unfolding cut file tailLeft ofHandle closedIn framesLeft midFrame endsMid midIn midLeft leftFrom recordsLeft sent dataOf dataLeft outcome isBtsnoop datalink isDatalink endsWell read tailOffset records recordsIn chop chopFrom isWhole recordSize be32 be64 le16 eqK filePieces packetsIn packets packetOf milliseconds fragment monitorPacket pdus run after of joined isComplete stillOpen pduOf completed commandSize isCommand commands body signalOf signalsIn pduSignals signals any names named asksFor admits admittedAfter admitted isTried asksRfcomm asksSession isSabm isUih shortLength infoLength infoStart creditOf frameOf uihKind frameKind kindBy triedBy judgedFrom judgedBy counted pieceOf brought pieces seek spansN restN spansOf restOf capped spans unfinished onDlci count nub mem onChannel first hasFrame chosen listed unpacksOf unpackOf judgedFrame isGiven within checksumOf packed bodyOf summedOf headOf rxOf
+unfolding cut file tailLeft ofHandle closedIn framesLeft midFrame endsMid midIn midLeft leftFrom recordsLeft sent dataOf dataLeft outcome isBtsnoop datalink isDatalink endsWell read tailOffset records recordsIn chop chopFrom isWhole recordSize be32 be64 le16 eqK filePieces packetsIn packets packetOf milliseconds fragment monitorPacket pdus run after of joined isComplete stillOpen pduOf completed commandSize isCommand commands body signalOf signalsIn pduSignals signals any names named asksFor admits admittedAfter admitted isTried asksRfcomm asksSession isSabm isUih shortLength infoLength infoStart creditOf frameOf uihKind frameKind kindBy triedBy judgedFrom judgedBy counted pieceOf brought pieces seek spansN restN spansOf restOf capped spans unfinished onDlci count nub mem onChannel firstOf hasFrame chosen listed unpacksOf unpackOf judgedFrame isGiven within checksumOf packed bodyOf summedOf headOf rxOf
 shared-cuts = (refl, refl)
 
 -- ---- by Bluetooth Core's rule
@@ -69,5 +69,5 @@ pub shared-core-honest : Honest core shared
 shared-core-honest = honest lawful core packedChecked (λ l t. unended) shared shared-core-tested
 
 pub shared-core-cuts : map (foundBy core shared) cuts ≡ answers
-unfolding holds holdsAfter events eventsAfter eventsOf bothHold latest coreSignals pduCoreSignals coreSignalsIn coreSignalOf cut file tailLeft ofHandle closedIn framesLeft midFrame endsMid midIn midLeft leftFrom recordsLeft sent dataOf dataLeft outcome isBtsnoop datalink isDatalink endsWell read tailOffset records recordsIn chop chopFrom isWhole recordSize be32 be64 le16 eqK filePieces packetsIn packets packetOf milliseconds fragment monitorPacket pdus run after of joined isComplete stillOpen pduOf completed commandSize isCommand commands body signalOf signalsIn pduSignals signals any names named asksFor admits admittedAfter admitted isTried asksRfcomm asksSession isSabm isUih shortLength infoLength infoStart creditOf frameOf uihKind frameKind kindBy triedBy judgedFrom judgedBy counted pieceOf brought pieces seek spansN restN spansOf restOf capped spans unfinished onDlci count nub mem onChannel first hasFrame chosen listed unpacksOf unpackOf judgedFrame isGiven within checksumOf packed bodyOf summedOf headOf rxOf
+unfolding holds holdsAfter events eventsAfter eventsOf bothHold latest coreSignals pduCoreSignals coreSignalsIn coreSignalOf cut file tailLeft ofHandle closedIn framesLeft midFrame endsMid midIn midLeft leftFrom recordsLeft sent dataOf dataLeft outcome isBtsnoop datalink isDatalink endsWell read tailOffset records recordsIn chop chopFrom isWhole recordSize be32 be64 le16 eqK filePieces packetsIn packets packetOf milliseconds fragment monitorPacket pdus run after of joined isComplete stillOpen pduOf completed commandSize isCommand commands body signalOf signalsIn pduSignals signals any names named asksFor admits admittedAfter admitted isTried asksRfcomm asksSession isSabm isUih shortLength infoLength infoStart creditOf frameOf uihKind frameKind kindBy triedBy judgedFrom judgedBy counted pieceOf brought pieces seek spansN restN spansOf restOf capped spans unfinished onDlci count nub mem onChannel firstOf hasFrame chosen listed unpacksOf unpackOf judgedFrame isGiven within checksumOf packed bodyOf summedOf headOf rxOf
 shared-core-cuts = refl

@@ -122,9 +122,12 @@ tornRecords = starts 0 5 (wire f₂) ∷ ends-with 1 6 (wire f₂) ∷ []
 abbrev pub tornByHandle : Recording byHandle
 tornByHandle = monitored tornRecords (receives 0x40 (f₂ ∷ []) [] ∷ [])
 
+abbrev pub tornWith : List Link → Recording btsnoop
+tornWith ls = monitored tornRecords ls
+
 -- with the link of either index
 abbrev pub torn : ℕ → Recording btsnoop
-torn index = monitored tornRecords (receives (linkOf index 0x40) (f₂ ∷ []) [] ∷ [])
+torn index = tornWith (receives (linkOf index 0x40) (f₂ ∷ []) [] ∷ [])
 
 -- a frame whose two data PDUs have indexes 0 and 1
 abbrev tornFrameRecords : List Record

@@ -11,8 +11,8 @@ use borrow.Author.Tests.{leb-true}
 use Rattle.laws.proofs.Choice.{no-way}
 use Rattle.laws.specs.Answers.{isGiven}
 use Rattle.laws.specs.Chop.{chop, chopFrom}
-use Rattle.laws.specs.Keys.{eqK}
-use Rattle.laws.specs.Keyed.{of, run, after}
+use Rattle.laws.specs.Keys.{Key, eqK}
+use Rattle.laws.specs.Keyed.{put, of, run, after}
 use Rattle.laws.specs.Count.{count, nub, mem}
 use Rattle.laws.specs.Numbers.{le16, be32, be64}
 use Rattle.items.specs.Items.{span, rxOf}
@@ -26,7 +26,7 @@ use Rattle.btsnoop.specs.Header.{isBtsnoop, datalink, isDatalink}
 use Rattle.btsnoop.specs.Records.{recordSize, btsnoop}
 use Rattle.btsnoop.specs.Packets.{milliseconds, monitorPacket, packetOf}
 use Rattle.btsnoop.proofs.Laws.{lawful}
-use Rattle.l2cap.specs.Pdus.{joined, isComplete, stillOpen, pduOf, completed, pdus}
+use Rattle.l2cap.specs.Pdus.{joined, isComplete, stillOpen, pduOf, completed, packetKey, pdus}
 use Rattle.channels.specs.Signals.{commandSize, isCommand, commands, body, signalOf, signalsIn, pduSignals, signals}
 use Rattle.channels.specs.Channels.{any, names, named, asksFor, admits, admittedAfter, admitted, isTried, asksRfcomm, asksSession}
 use Rattle.channels.specs.Tried.{source, triedBy}
@@ -35,15 +35,15 @@ use Rattle.rfcomm.specs.Pieces.{uihKind, frameKind, kindBy, judgedFrom, judgedB
 use Rattle.search.specs.Seek.{seek}
 use Rattle.spans.specs.Scan.{spansN, restN, spansOf, restOf, capped}
 use Rattle.spans.specs.Spans.{spans, unfinished, onDlci}
-use Rattle.outcome.specs.Import.{Found, found, missing, tolerant, Options, onChannel, first, hasFrame, chosen, listed, filePieces, read, endsWell, outcome}
-use Rattle.cut.specs.Recording.{Recording, file, cut}
-use Rattle.cut.specs.Left.{leftFrom, recordsLeft, tailLeft, sent, dataOf, dataLeft, closedIn, ofHandle, framesLeft, midFrame, endsMid, midIn, midLeft}
-use Rattle.cut.specs.Honest.{pdusIn, markedPdus, withMarks, judgedIn, isDataOf, toData, afterData, adds, carriesOn, Honest}
-use Rattle.cut.proofs.Tests.{packedChecked, every, once, ends, headerTest, wholeTest, smallTest, dlciTest, dynamicTest, channelTest, channelsTest, informationTest, sizesTest, beginningsTest, settledIn, settledTest, aloneIn, aloneTest, handlesTest, dataTest, markTest, fragmentsTest, rules, passed-all, honest}
+use Rattle.outcome.specs.Import.{Found, found, missing, tolerant, Options, onChannel, first as firstOf, hasFrame, chosen, listed, filePieces, read, endsWell, outcome}
+use Rattle.cut.specs.Recording.{Link, part, last, Recording, file, cut}
+use Rattle.cut.specs.Left.{leftFrom, recordsLeft, tailLeft, Sent, sent, dataOf, dataLeft, closedIn, ofHandle, framesLeft, midFrame, endsMid, midIn, midLeft}
+use Rattle.cut.specs.Honest.{pdusIn, markedPdus, withMarks, judgedIn, isDataOf, toData, afterData, adds, carriesOn, Joins, first, further, Fragments, more, end, Honest}
+use Rattle.cut.proofs.Tests.{packedChecked, every, once, ends, headerTest, wholeTest, smallTest, dlciTest, dynamicTest, channelTest, channelsTest, informationTest, sizesTest, beginningsTest, settledIn, settledTest, aloneIn, aloneTest, handlesTest, dataTest, markTest, fragmentsTest, isNone, rules, passed-all, honest}
 use Rattle.cut.proofs.Recordings.{unended}
 use Rattle.cut.proofs.Computed.{fragments, beginnings, but, testedBy, foundBy, leftAt, w₀, w₂}
 use Rattle.adapters.specs.Links.{ifThere, relinking, byHandle}
-use Rattle.adapters.proofs.Recordings.{tornByHandle, torn, tornFrameByHandle, tornFrame}
+use Rattle.adapters.proofs.Recordings.{tornByHandle, tornWith, torn, tornFrameByHandle, tornFrame}
 
 -- ---- a container with other numbers for its links is one
 
@@ -95,11 +95,11 @@ abbrev LeftOut : Recording byHandle → ℕ → Found → Type 0
 LeftOut R n x = (leftAt R n ≡ x) × (foundBy source R n ≡ x) × (outcome btsnoop (cut R n) options ≡ missing 6 [])
 
 pub torn-cut : LeftOut tornByHandle 89 (found 18 (span 1 6 w₂ ∷ []) 0 89)
-unfolding ifThere cut file tailLeft ofHandle closedIn framesLeft midFrame endsMid midIn midLeft leftFrom recordsLeft sent dataOf dataLeft outcome isBtsnoop datalink isDatalink endsWell read tailOffset records recordsIn chop chopFrom isWhole recordSize be32 be64 le16 eqK filePieces packetsIn packets packetOf milliseconds fragment monitorPacket pdus run after of joined isComplete stillOpen pduOf completed commandSize isCommand commands body signalOf signalsIn pduSignals signals any names named asksFor admits admittedAfter admitted isTried asksRfcomm asksSession isSabm isUih shortLength infoLength infoStart creditOf frameOf uihKind frameKind kindBy triedBy judgedFrom judgedBy counted pieceOf brought pieces seek spansN restN spansOf restOf capped spans unfinished onDlci count nub mem onChannel first hasFrame chosen listed unpacksOf unpackOf judgedFrame isGiven within checksumOf packed bodyOf summedOf headOf rxOf
+unfolding ifThere cut file tailLeft ofHandle closedIn framesLeft midFrame endsMid midIn midLeft leftFrom recordsLeft sent dataOf dataLeft outcome isBtsnoop datalink isDatalink endsWell read tailOffset records recordsIn chop chopFrom isWhole recordSize be32 be64 le16 eqK filePieces packetsIn packets packetOf milliseconds fragment monitorPacket pdus run after of joined isComplete stillOpen pduOf completed commandSize isCommand commands body signalOf signalsIn pduSignals signals any names named asksFor admits admittedAfter admitted isTried asksRfcomm asksSession isSabm isUih shortLength infoLength infoStart creditOf frameOf uihKind frameKind kindBy triedBy judgedFrom judgedBy counted pieceOf brought pieces seek spansN restN spansOf restOf capped spans unfinished onDlci count nub mem onChannel firstOf hasFrame chosen listed unpacksOf unpackOf judgedFrame isGiven within checksumOf packed bodyOf summedOf headOf rxOf
 torn-cut = (refl, refl, refl)
 
 pub tornFrame-cut : LeftOut tornFrameByHandle 97 (found 18 (span 1 6 w₀ ∷ []) 0 97)
-unfolding ifThere cut file tailLeft ofHandle closedIn framesLeft midFrame endsMid midIn midLeft leftFrom recordsLeft sent dataOf dataLeft outcome isBtsnoop datalink isDatalink endsWell read tailOffset records recordsIn chop chopFrom isWhole recordSize be32 be64 le16 eqK filePieces packetsIn packets packetOf milliseconds fragment monitorPacket pdus run after of joined isComplete stillOpen pduOf completed commandSize isCommand commands body signalOf signalsIn pduSignals signals any names named asksFor admits admittedAfter admitted isTried asksRfcomm asksSession isSabm isUih shortLength infoLength infoStart creditOf frameOf uihKind frameKind kindBy triedBy judgedFrom judgedBy counted pieceOf brought pieces seek spansN restN spansOf restOf capped spans unfinished onDlci count nub mem onChannel first hasFrame chosen listed unpacksOf unpackOf judgedFrame isGiven within checksumOf packed bodyOf summedOf headOf rxOf
+unfolding ifThere cut file tailLeft ofHandle closedIn framesLeft midFrame endsMid midIn midLeft leftFrom recordsLeft sent dataOf dataLeft outcome isBtsnoop datalink isDatalink endsWell read tailOffset records recordsIn chop chopFrom isWhole recordSize be32 be64 le16 eqK filePieces packetsIn packets packetOf milliseconds fragment monitorPacket pdus run after of joined isComplete stillOpen pduOf completed commandSize isCommand commands body signalOf signalsIn pduSignals signals any names named asksFor admits admittedAfter admitted isTried asksRfcomm asksSession isSabm isUih shortLength infoLength infoStart creditOf frameOf uihKind frameKind kindBy triedBy judgedFrom judgedBy counted pieceOf brought pieces seek spansN restN spansOf restOf capped spans unfinished onDlci count nub mem onChannel firstOf hasFrame chosen listed unpacksOf unpackOf judgedFrame isGiven within checksumOf packed bodyOf summedOf headOf rxOf
 tornFrame-cut = (refl, refl, refl)
 
 abbrev pub isMissing : Found → Bool
@@ -115,7 +115,23 @@ claim-by-handle-false claim =
 
 -- ---- by index and handle they are not honest
 
--- the fragments are in no link's data PDU; and the link of the first index did not receive the frame
+-- a further fragment where no data PDU is under way
+not-joined : {G : Type 0} {p : Packet} {s : Option (List ℕ)} {b : List ℕ} → Joins p s b → isNone s ≡ true → p .start ≡ false → G
+not-joined (first e w) o q = no-way e q
+not-joined (further e w) o q = no-way o refl
+
+not-ended :
+    {G : Type 0} {R : Recording btsnoop} {σ : Key → Option (List ℕ)} {p q : Packet} {i : List ℕ} {xs : List Sent} →
+    Fragments R σ (record { packet = p; mark = part } ∷ record { packet = q; mark = last i } ∷ xs) →
+    ((b : List ℕ) → isNone (put σ (packetKey p) (some b) (packetKey q)) ≡ true) → q .start ≡ false → G
+not-ended (more {b = b} j c (end k e d w)) o q = not-joined k (o b) q
+
+-- with whatever links
+pub torn-uncovered : {G : Type 0} (ls : List Link) → Honest source (tornWith ls) → G
+unfolding sent datalink be32 be64 le16 packetOf milliseconds fragment monitorPacket eqK packed bodyOf summedOf headOf checksumOf within
+torn-uncovered ls H = not-ended (H .fragments) (λ b. refl) refl
+
+-- With the second index's link, the fragments alone do not fit; the first index's did not receive the frame either.
 pub torn-broken : (testedBy source (torn 1) ≡ but fragments) × (testedBy source (torn 0) ≡ true ∷ true ∷ true ∷ true ∷ true ∷ true ∷ true ∷ false ∷ false ∷ true ∷ true ∷ true ∷ true ∷ [])
 unfolding rules every once ends headerTest wholeTest smallTest dlciTest dynamicTest channelTest channelsTest informationTest sizesTest beginningsTest settledIn settledTest aloneIn aloneTest handlesTest dataTest markTest fragmentsTest leftFrom recordsLeft sent dataOf dataLeft pdusIn markedPdus withMarks judgedIn isDataOf toData afterData adds carriesOn file isBtsnoop datalink isDatalink eqK recordSize be32 be64 le16 packetsIn packets packetOf milliseconds fragment monitorPacket pdus run after of joined isComplete stillOpen pduOf completed commandSize isCommand commands chop chopFrom body signalOf signalsIn pduSignals signals any names named asksFor admits admittedAfter admitted isTried asksRfcomm asksSession isSabm isUih shortLength infoLength infoStart creditOf frameOf uihKind frameKind kindBy triedBy judgedFrom judgedBy rxOf packed bodyOf summedOf headOf checksumOf within
 torn-broken = (refl, refl)
