@@ -190,7 +190,9 @@ pub struct Imported {
 #[derive(Debug, Clone, Copy, PartialEq, Eq, Hash)]
 #[non_exhaustive]
 pub struct Stretch {
-    /// The handle.
+    /// The adapter's index, by which a trace of datalink 2001 tells adapters apart; 0 for 1001 and 1002.
+    pub adapter: u16,
+    /// The handle, 0 to 4095. Two adapters may use the same one for two connections, so that the connection is `(adapter, handle)`.
     pub handle: u16,
     /// Which way the bytes went.
     pub direction: Direction,
@@ -198,19 +200,21 @@ pub struct Stretch {
     pub cid: u16,
     /// The DLCI.
     pub dlci: u8,
-    /// How many sessions of the handle had been asked for.
+    /// How many sessions of the connection had been asked for.
     pub sessions: u32,
-    /// How often the link of the DLCI had been opened.
+    /// How often the connection's link of the DLCI had been opened.
     pub links: u32,
     /// How many bytes are held.
     pub held: usize,
 }
 
 impl Stretch {
-    /// A stretch as the library tells it.
+    /// A stretch as the library tells it: its way is 2 * link + direction, and link is 4096 * adapter + handle.
     fn of(raw: &ffi::Stretch) -> Stretch {
+        let link = raw.way / 2;
         Stretch {
-            handle: (raw.way / 2) as u16,
+            adapter: (link / 4096) as u16,
+            handle: (link % 4096) as u16,
             direction: if raw.way % 2 == 1 { Direction::Rx } else { Direction::Tx },
             cid: raw.cid as u16,
             dlci: raw.dlci as u8,
