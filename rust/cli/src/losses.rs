@@ -176,19 +176,40 @@ mod tests {
         gap.first = Some(first);
     }
 
-    fn each(count: u64) -> Gaps {
+    /// Each sign so often, the first of each so many bytes behind the one before.
+    fn each(count: u64, step: usize) -> Gaps {
         let mut gaps = Gaps::default();
         let Gaps { short, dropped, skipped, zeros, stray, given_up, open, .. } = &mut gaps;
         for (i, gap) in [short, dropped, skipped, zeros, stray, given_up, open].into_iter().enumerate() {
-            set(gap, count, 16 + i);
+            set(gap, count, 16 + step * i);
         }
         gaps
+    }
+
+    /// A file of one adapter, whatever its records.
+    const FILE: [u8; 80] = {
+        let mut file = [0; 80];
+        file.split_at_mut(16).0.copy_from_slice(b"btsnoop\0\0\0\0\x01\0\0\x03\xEA");
+        file
+    };
+
+    /// A trace of the Linux monitor with records of these flags, 28 bytes each.
+    fn monitored(flags: &[u32]) -> Vec<u8> {
+        let mut file = b"btsnoop\0\0\0\0\x01\0\0\x07\xD1".to_vec();
+        for flags in flags {
+            file.extend([0, 0, 0, 4, 0, 0, 0, 4]);
+            file.extend(flags.to_be_bytes());
+            file.extend([0; 12]);
+            file.extend([0x40, 0x20, 0, 0]);
+        }
+        file
     }
 
     #[test]
     fn none() {
         let gaps = Gaps::default();
-        assert_eq!((lines(&gaps), facts(&gaps), fields(&gaps)), (String::new(), vec!["none seen".into()], "{}".into()));
+        assert_eq!((lines(&FILE, &gaps), fields(&FILE, &gaps)), (String::new(), "{}".into()));
+        assert_eq!(facts(&FILE, &gaps), ["none seen"]);
     }
 
     #[test]
@@ -202,7 +223,9 @@ Without a beginning: 1 packet, at byte 20. What it continues is not in the file.
 Broken off: 1 message, at byte 21, where another begins. Its rest is not in the file.
 Open at the end: 1 message, begun at byte 22. Its rest is not in the file.
 ";
-        assert_eq!(lines(&each(1)), text);
+        assert_eq!(lines(&FILE, &each(1, 1)), text);
+        // The same of any one adapter.
+        assert_eq!(lines(&monitored(&[0x3_0004, 0x3_0005]), &each(1, 1)), text);
     }
 
     #[test]
@@ -216,7 +239,7 @@ Without a beginning: 3 packets, the first at byte 20. What they continue is not 
 Broken off: 3 messages, the first at byte 21, where another begins. Their rest is not in the file.
 Open at the end: 3 messages, the first begun at byte 22. Their rest is not in the file.
 ";
-        assert_eq!(lines(&each(3)), text);
+        assert_eq!(lines(&FILE, &each(3, 1)), text);
     }
 
     #[test]
@@ -228,7 +251,44 @@ Open at the end: 3 messages, the first begun at byte 22. Their rest is not in th
             "stored short, 1 record, at byte 16",
             "broken off, 2 messages, the first at byte 40, where another begins",
         ];
-        assert_eq!(facts(&gaps), told);
-        assert_eq!(fields(&gaps), r#"{"short":{"count":1,"first":16},"given_up":{"count":2,"first":40}}"#);
+        assert_eq!(facts(&FILE, &gaps), told);
+        assert_eq!(
+            fields(&FILE, &gaps),
+            r#"{"short":{"count":1,"first":16,"adapter":0},"given_up":{"count":2,"first":40,"adapter":0}}"#
+        );
+    }
+
+    /// The adapter of the first is named where there is another; not for the recorder's count, nor for zeros.
+    #[test]
+    fn of_two_adapters() {
+        let file = monitored(&[0xFFFF_0002, 0x1_0005, 0x1_0005, 0, 4, 0x1_0004, 5]);
+        let text = "\
+Stored short: 1 record, at byte 16 on adapter 65535. The recorder kept only a part of its packet.
+Dropped by the recorder: 1 packet, told at byte 44. By its own count it did not keep it.
+Skipped: 1 data packet, at byte 72 on adapter 1. A part of it is not in the file.
+Zeros only: 1 record, at byte 100. Something else may have stood there.
+Without a beginning: 1 packet, at byte 128 on adapter 0. What it continues is not in the file.
+Broken off: 1 message, at byte 156 on adapter 1, where another begins. Its rest is not in the file.
+Open at the end: 1 message, begun at byte 184 on adapter 0. Its rest is not in the file.
+";
+        assert_eq!(lines(&file, &each(1, 28)), text);
+        let mut gaps = Gaps::default();
+        set(&mut gaps.dropped, 5, 44);
+        set(&mut gaps.given_up, 2, 156);
+        let told = [
+            "dropped by the recorder, 5 packets, first told at byte 44",
+            "broken off, 2 messages, the first at byte 156 on adapter 1, where another begins",
+        ];
+        assert_eq!(facts(&file, &gaps), told);
+        assert_eq!(
+            fields(&file, &gaps),
+            r#"{"dropped":{"count":5,"first":44,"adapter":null},"given_up":{"count":2,"first":156,"adapter":1}}"#
+        );
+        // A record that has no packet is of no adapter.
+        let file = monitored(&[0xFFFF_000C, 4, 0x1_0004]);
+        let mut gaps = Gaps::default();
+        set(&mut gaps.short, 1, 16);
+        assert_eq!(facts(&file, &gaps), ["stored short, 1 record, at byte 16"]);
+        assert_eq!(fields(&file, &gaps), r#"{"short":{"count":1,"first":16,"adapter":null}}"#);
     }
 }
