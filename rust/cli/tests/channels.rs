@@ -6,16 +6,16 @@ mod made;
 #[path = "../../../examples/trace/mod.rs"]
 mod trace;
 
-use std::collections::BTreeSet;
+use std::collections::{BTreeMap, BTreeSet};
 use std::ffi::OsStr;
 use std::fs;
 use std::os::unix::ffi::OsStrExt;
 use std::process::{Command, Stdio};
 
 use common::*;
-use look::{look, Seen};
+use look::{look, Link, Seen};
 use lumbryth::Direction::{self, Rx, Tx};
-use lumbryth::{gaps, import, pack, unpack, Refusal, TailRule};
+use lumbryth::{gaps, import, import_stretches, pack, unpack, Refusal, TailRule};
 use trace::{control, pdu, signal, uih, Trace};
 
 /// A trace of PDUs, a packet each: handle, direction, PDU.
@@ -487,9 +487,9 @@ fn agrees(file: &[u8]) -> Seen {
     let seen = look(file).unwrap();
     assert_eq!(seen.skipped as u64, gaps(file, TailRule::Tolerant).unwrap().skipped.count);
     for channel in (0..=31).map(Some).chain([None]) {
-        match (import(file, channel, TailRule::Tolerant), seen.taken(channel)) {
+        match (import_stretches(file, channel, TailRule::Tolerant), seen.taken(channel)) {
             (Err(Refusal::NoStream), None) => {}
-            (Ok(imported), Some(dlci)) => {
+            (Ok((imported, open)), Some(dlci)) => {
                 let frames = imported.spans.iter().filter(|span| unpack(&span.wire).is_ok()).count();
                 let proved = (imported.dlci, imported.frames, frames, imported.unfinished, imported.tail);
                 assert_eq!(
@@ -499,6 +499,12 @@ fn agrees(file: &[u8]) -> Seen {
                 );
                 let refused: usize = dlci.refused.iter().map(|refused| refused.spans).sum();
                 assert_eq!(dlci.all.spans, dlci.all.frames + refused);
+                // What is unfinished, by adapter and handle.
+                let mut proved = BTreeMap::new();
+                open.iter().for_each(|stretch| *proved.entry((stretch.adapter, stretch.handle)).or_insert(0) += 1);
+                let held = dlci.links.iter().filter(|(_, share)| share.unfinished > 0);
+                let held = held.map(|(link, share)| ((link.adapter, link.handle), share.unfinished));
+                assert_eq!(held.collect::<BTreeMap<_, _>>(), proved, "channel {channel:?}");
             }
             (imported, dlci) => panic!("channel {channel:?}: import {imported:?}, look {dlci:?}"),
         }
@@ -506,11 +512,22 @@ fn agrees(file: &[u8]) -> Seen {
     seen
 }
 
+/// The links over which a DLCI has frames.
+fn carriers(dlci: &look::Dlci) -> impl Iterator<Item = Link> + '_ {
+    dlci.links.iter().filter(|(_, share)| share.frames > 0).map(|(link, _)| *link)
+}
+
+/// Whether two adapters use the same handle.
+fn shares_a_handle(seen: &Seen) -> bool {
+    let handles: BTreeSet<u16> = seen.handles.iter().map(|handle| handle.link.handle).collect();
+    handles.len() < seen.handles.len()
+}
+
 #[test]
 fn the_look_agrees_with_the_import() {
     let mut rng = made::Rng(1);
     let mut hit = BTreeSet::new();
-    let mut counts = [0; 8];
+    let mut counts = [0; 10];
     for _ in 0..6_000 {
         let file = made::trace(&mut rng);
         let seen = agrees(&file);
@@ -526,6 +543,9 @@ fn the_look_agrees_with_the_import() {
             taken.iter().any(|dlci| dlci.all.spans > dlci.all.frames),
             !taken.is_empty() && seen.handles.len() > 1,
             !taken.is_empty() && seen.skipped > 0,
+            // Several adapters, with frames on more than one of them; and two that use one handle.
+            taken.iter().any(|dlci| carriers(dlci).map(|link| link.adapter).collect::<BTreeSet<_>>().len() > 1),
+            !taken.is_empty() && shares_a_handle(&seen),
         ];
         counts.iter_mut().zip(facts).for_each(|(count, fact)| *count += usize::from(fact));
         let channels = seen.handles.iter().flat_map(|handle| &handle.channels).filter(|channel| channel.pdus > 0);
@@ -540,22 +560,36 @@ fn the_look_agrees_with_the_import() {
 #[test]
 fn damaged_files_agree() {
     let mut rng = made::Rng(2);
-    let whole = fs::read(example("headset.btsnoop")).unwrap();
-    let (mut read, mut refused) = (0, 0);
-    for _ in 0..2_000 {
-        let file = rng.damaged(&whole);
-        match look(&file) {
-            Ok(_) => {
-                agrees(&file);
-                read += 1;
-            }
-            Err(refusal) => {
-                assert_eq!(import(&file, None, TailRule::Tolerant), Err(refusal));
-                refused += 1;
+    for name in ["headset.btsnoop", "two-adapters.btsnoop"] {
+        let whole = fs::read(example(name)).unwrap();
+        let (mut read, mut refused) = (0, 0);
+        for _ in 0..2_000 {
+            let file = rng.damaged(&whole);
+            match look(&file) {
+                Ok(_) => {
+                    agrees(&file);
+                    read += 1;
+                }
+                Err(refusal) => {
+                    assert_eq!(import(&file, None, TailRule::Tolerant), Err(refusal));
+                    refused += 1;
+                }
             }
         }
+        assert!(read >= 1_000 && refused >= 20, "{name}: {read} {refused}");
     }
-    assert!(read >= 1_000 && refused >= 20, "{read} {refused}");
+}
+
+/// Every cut of a trace of two adapters, and every one of its records taken out.
+#[test]
+fn two_adapters_agree() {
+    let whole = fs::read(example("two-adapters.btsnoop")).unwrap();
+    for n in 16..=whole.len() {
+        agrees(&whole[..n]);
+    }
+    for pair in bounds(&whole).windows(2) {
+        agrees(&[&whole[..pair[0]], &whole[pair[1]..]].concat());
+    }
 }
 
 #[test]

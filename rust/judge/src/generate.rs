@@ -227,8 +227,9 @@ pub fn trace(rng: &mut Rng, datalink: u32) -> Generated {
         let channel = channels.swap_remove(rng.within(0, channels.len() - 1));
         dlcis.push(channel << 1 | rng.byte() & 1);
     }
-    let adapters: &[u16] = if datalink == 2001 { &[0, 1, 3] } else { &[0] };
-    let handles = &[0x001, 0x006, 0x040, 0x100, 0xEFF][..rng.pick(&[1, 2, 5]).max(4 - adapters.len())];
+    // Adapters that share few handles, or one adapter with many.
+    let (adapters, most) = if datalink == 2001 { (&[0, 1, 3][..], rng.within(1, 2)) } else { (&[0][..], 5) };
+    let handles = &[0x001, 0x006, 0x040, 0x100, 0xEFF][..most];
     let mut names: Vec<(u16, u16)> =
         adapters.iter().flat_map(|&adapter| handles.iter().map(move |&handle| (adapter, handle))).collect();
     let count = rng.within(1, 3);

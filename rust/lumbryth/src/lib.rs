@@ -435,6 +435,10 @@ pub fn capture_order<N: AsRef<[u8]>>(names: &[N]) -> Result<Vec<Vec<u8>>, Refusa
 /// Imports a trace: the spans of one DLCI. It is the first DLCI seen that has a span which
 /// unpacks; with a channel, one of that channel.
 ///
+/// A trace of datalink 2001 may be of several adapters. Connections are told apart by the
+/// adapter's index and the handle. The spans of all of them come in one list, which does not
+/// tell whose they are.
+///
 /// ```
 /// use lumbryth::{import, Refusal, TailRule};
 ///
@@ -478,6 +482,13 @@ pub fn import_with(file: &[u8], options: &Options) -> Result<Imported, Refusal> 
 ///
 /// let header = b"btsnoop\0\0\0\0\x01\0\0\x03\xEA";
 /// assert_eq!(import_stretches(header, None, TailRule::Strict), Err(Refusal::NoStream));
+///
+/// // The example of two adapters ends with a part of a reply on adapter 1.
+/// let file = std::fs::read("../../examples/two-adapters.btsnoop")?;
+/// let (imported, open) = import_stretches(&file, None, TailRule::Strict)?;
+/// assert_eq!((imported.frames, imported.unfinished), (10, 1));
+/// assert_eq!((open[0].adapter, open[0].handle, open[0].held), (1, 6, 8));
+/// # Ok::<(), Box<dyn std::error::Error>>(())
 /// ```
 pub fn import_stretches(file: &[u8], channel: Option<u8>, tail: TailRule) -> Result<(Imported, Vec<Stretch>), Refusal> {
     let (channel, tolerant) = numbers(channel, tail);
