@@ -2,6 +2,7 @@
 //! adapter and handle throughout.
 
 mod common;
+#[allow(dead_code)]
 mod made;
 #[allow(dead_code)]
 #[path = "../../../examples/trace/mod.rs"]

@@ -241,9 +241,9 @@ fn some<T: Copy>(rng: &mut Rng, from: &[T], most: usize) -> Vec<T> {
 
 /// A trace, which may be cut, or have a few bytes changed.
 pub fn trace(rng: &mut Rng) -> Vec<u8> {
-    let datalink = rng.pick(&[1001, 1002, 2001]);
+    let datalink = rng.pick(&[1001, 1002, 2001, 2001]);
     // The handles of two adapters may be the same.
-    let adapters = if datalink == 2001 { some(rng, &[0, 0, 1, 3, 0xFFFF], 2) } else { vec![0] };
+    let adapters = if datalink == 2001 { some(rng, &[0, 1, 3, 0xFFFF], 3) } else { vec![0] };
     let handles = some(rng, &[1, 6, 0x40, 0xEFF], 2);
     let links = (0..rng.within(1, 3)).map(|_| (rng.pick(&adapters), rng.pick(&handles))).collect();
     let cids = some(rng, &[0x40, 0x41, 0x41, 0x45, 0x70, 0xFFFF, 0x3F, 0x04, 0x01], 5);
