@@ -52,7 +52,7 @@ fn reason(channel: &Channel) -> Option<String> {
     }
 }
 
-/// A channel, with its link in words.
+/// A channel, with its handle in words.
 fn channel_line(link: &str, channel: &Channel) -> String {
     let standing = channel.standing();
     let mut line = format!("CID 0x{:04x} {}, {}", channel.cid, way(channel.direction), name(standing));

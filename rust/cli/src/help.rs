@@ -80,9 +80,9 @@ no end marker: handle, direction (received is from the headset), DLCI and how ma
 held; the losses and hints that import tells; and other DLCIs that have frames, with the
 --channel that takes them. A file that ends inside a record is listed up to there.
 
-If the trace has more than one adapter, what is unfinished and the losses are told with the
-adapter. The frames of all adapters come in one list, in order of completion, which does
-not tell the adapters apart.
+If the trace has more than one adapter, what is unfinished, and a loss that is an adapter's,
+is told with the adapter. The frames of all adapters come in one list, in order of
+completion, which does not tell the adapters apart.
 
   --channel N      only RFCOMM channel N, 0 to 31; else the first that carries frames
   --json           an object a line: import, unfinished, hint, frame, then other, for each
@@ -97,7 +97,7 @@ Lists the records of TRACE: what the packet is, direction (rx is from the headse
 controller), number, length of the packet, the byte that the record starts at, time (UTC).
 Before them stand the losses that the file shows. A file that ends inside a record is
 listed up to there. If the trace has more than one adapter, each packet is told with its
-own.
+adapter.
 
   --json           an object a line: file, then record
   --               what follows is no option
@@ -113,7 +113,7 @@ which import looks at them: its RFCOMM channel, frames (spans that unpack), span
 from 3E through 3C), pieces, and how many are unfinished; how import takes it; and why spans
 do not unpack. If import takes none, the last line says why.
 
-If the trace has more than one adapter, each handle is told with its own, since two
+If the trace has more than one adapter, each handle is told with its adapter, since two
 adapters may use the same handle; and what each DLCI has is also told for each adapter and
 handle.
 

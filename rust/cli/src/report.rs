@@ -62,7 +62,7 @@ pub fn sentence(words: &str) -> String {
     capital(words) + "."
 }
 
-/// The link of a stretch.
+/// The connection of a stretch.
 fn link(stretch: &Stretch) -> Link {
     Link { adapter: stretch.adapter, handle: stretch.handle }
 }

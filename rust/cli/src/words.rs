@@ -32,7 +32,7 @@ pub fn several(file: &[u8]) -> bool {
     look::adapters(file).len() > 1
 }
 
-/// A link by its handle, and by its adapter where there are several.
+/// A connection by its handle, and by its adapter where there are several.
 pub fn named(link: Link, several: bool) -> String {
     if several {
         format!("adapter {}, handle {}", link.adapter, link.handle)

@@ -114,7 +114,7 @@ impl Channel {
 #[derive(Default)]
 pub struct Channels {
     handles: Vec<Handle>,
-    /// Where a handle is, by its link, and where a channel of it is.
+    /// Where a handle is, by its connection, and where a channel of it is.
     places: HashMap<Link, (usize, HashMap<Key, usize>)>,
 }
 

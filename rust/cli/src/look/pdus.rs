@@ -1,4 +1,4 @@
-//! PDUs, put together from packets for each link and direction.
+//! PDUs, put together from packets for each connection and direction.
 
 use std::collections::HashMap;
 

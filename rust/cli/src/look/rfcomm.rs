@@ -10,7 +10,7 @@ use lumbryth::{unpack, Refusal};
 /// The most bytes that wait for their end marker.
 const HELD_MAX: usize = 65_536;
 
-/// What came on a DLCI.
+/// How much came on a DLCI: over one connection, or over all.
 #[derive(Debug, Clone, Copy, PartialEq, Eq, Default)]
 pub struct Share {
     pub pieces: usize,
@@ -37,9 +37,9 @@ impl Share {
 #[derive(Debug, Clone, PartialEq, Eq)]
 pub struct Dlci {
     pub dlci: u8,
-    /// Over all links together.
+    /// Over all connections together.
     pub all: Share,
-    /// Over each link, in the order of their first pieces.
+    /// Over each connection, in the order of their first pieces.
     pub links: Vec<(Link, Share)>,
     /// The spans that do not unpack, by the number of the refusal.
     pub refused: Vec<Refused>,
@@ -87,15 +87,15 @@ fn frame(bytes: &[u8]) -> Option<Frame<'_>> {
     (dlci != 0 && !information.is_empty()).then_some(Frame::Uih(dlci, information))
 }
 
-/// How often a link's session, and its link of each DLCI, was opened.
+/// How often a connection's session, and its link of each DLCI, was opened.
 #[derive(Default)]
 struct Opened {
     sessions: usize,
     links: HashMap<u8, usize>,
 }
 
-/// What is held for a link, channel and DLCI, since a session and the DLCI's link were opened. Both only grow, so that what was held before is
-/// never gone on with.
+/// What is held for a connection, channel and DLCI, since a session and link were opened. Both only grow, so that what was held
+/// before is never gone on with.
 #[derive(Default)]
 struct Buffer {
     opened: (usize, usize),
@@ -107,7 +107,7 @@ struct Buffer {
 pub struct Lines {
     opened: HashMap<Link, Opened>,
     dlcis: Vec<Dlci>,
-    /// Where a link is among those of a DLCI.
+    /// Where a connection is among those of a DLCI.
     places: HashMap<(u8, Link), usize>,
     buffers: HashMap<(Link, Key, u8), Buffer>,
 }
@@ -185,7 +185,7 @@ impl Buffer {
 }
 
 impl Dlci {
-    /// A span that came over one of its links.
+    /// A span that came over one of its connections, by the place of that.
     fn span(&mut self, link: usize, wire: &[u8]) {
         let share = &mut self.links[link].1;
         share.spans += 1;
