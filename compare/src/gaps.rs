@@ -68,17 +68,19 @@ pub fn rises(drops: &[u64]) -> Vec<u64> {
 #[derive(Clone, Copy)]
 pub struct Packet<'a> {
     pub at: usize,
+    /// 4096 times the adapter's index, and the handle.
     pub link: usize,
     pub rx: bool,
     pub start: bool,
     pub bytes: &'a [u8],
 }
 
-/// A packet's fields. One that is not there, or data, skips it; bytes past the data are ignored.
-fn fragment(at: usize, rx: bool, bytes: &[u8]) -> Option<Packet<'_>> {
+/// A packet's fields, by its adapter's index. One that is not there, or data, skips it; bytes past the data are ignored.
+fn fragment(at: usize, index: u64, rx: bool, bytes: &[u8]) -> Option<Packet<'_>> {
     let (field, length) = (le16(bytes, 0), le16(bytes, 2));
     let start = field / 4096 % 4 != 1;
-    (4 + length <= bytes.len()).then(|| Packet { at, link: field % 4096, rx, start, bytes: &bytes[4..4 + length] })
+    let link = 4096 * index as usize + field % 4096;
+    (4 + length <= bytes.len()).then(|| Packet { at, link, rx, start, bytes: &bytes[4..4 + length] })
 }
 
 /// The packet of a record.
@@ -86,9 +88,9 @@ pub fn packet_of(datalink: u64, at: usize, record: &[u8]) -> Option<Packet<'_>> 
     let (flags, bytes) = (be32(record, 8), &record[24..]);
     let rx = flags % 2 == 1;
     match datalink {
-        2001 if [4, 5].contains(&(flags % 65536)) => fragment(at, rx, bytes),
-        1001 if flags / 2 % 2 != 1 => fragment(at, rx, bytes),
-        1002 if flags / 2 % 2 != 1 => fragment(at, rx, bytes.strip_prefix(&[2])?),
+        2001 if [4, 5].contains(&(flags % 65536)) => fragment(at, flags / 65536, rx, bytes),
+        1001 if flags / 2 % 2 != 1 => fragment(at, 0, rx, bytes),
+        1002 if flags / 2 % 2 != 1 => fragment(at, 0, rx, bytes.strip_prefix(&[2])?),
         _ => None,
     }
 }
