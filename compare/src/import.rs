@@ -2,6 +2,7 @@
 
 use std::cell::RefCell;
 
+use crate::adapters;
 use crate::answer::{Answer, Case, Checked, Difference, Lender, Stretch, Subject, NO_CHANNEL};
 use crate::codec::each_string;
 use crate::expected::{self, LONGEST_FILE};
@@ -795,6 +796,8 @@ pub fn run_rule(subject: &dyn Subject, options: &Options, group: &'static str, r
     log.line("long buffers", &import.lender);
     fixed(&mut import)?;
     log.line("fixed traces", &import.lender);
+    adapters::by_hand(&mut import)?;
+    log.line("fixed traces of two adapters", &import.lender);
     short(&mut import, &mut rng)?;
     log.line("short files and every beginning of good ones", &import.lender);
     if rule == Rule::NotTolerant {
@@ -816,6 +819,8 @@ pub fn run_rule(subject: &dyn Subject, options: &Options, group: &'static str, r
     log.line("every short RFCOMM frame", &import.lender);
     stretches(&mut import)?;
     log.line("every six steps of sessions and links", &import.lender);
+    adapters::steps(&mut import, if rule == Rule::Strict { 4 } else { 3 })?;
+    log.line("every few steps on two adapters", &import.lender);
     choices(&mut import)?;
     log.line("every four pieces on several DLCIs", &import.lender);
     large(&mut import, &mut rng)?;
@@ -831,6 +836,14 @@ pub fn run_random(subject: &dyn Subject, options: &Options) -> Checked {
 /// One part alone.
 pub fn run_fixed(subject: &dyn Subject, _: &Options) -> Checked {
     fixed(&mut Import::new(subject, Rule::Strict))
+}
+
+pub fn run_by_hand(subject: &dyn Subject, _: &Options) -> Checked {
+    adapters::by_hand(&mut Import::new(subject, Rule::Strict))
+}
+
+pub fn run_steps(subject: &dyn Subject, _: &Options) -> Checked {
+    adapters::steps(&mut Import::new(subject, Rule::Strict), 3)
 }
 
 pub fn run_excess(subject: &dyn Subject, _: &Options) -> Checked {

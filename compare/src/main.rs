@@ -1,5 +1,6 @@
 //! Holds the proved library against the Rust it was ported from.
 
+mod adapters;
 mod answer;
 mod bench;
 mod codec;
@@ -152,6 +153,19 @@ fn verdict(checked: Checked) -> bool {
     checked.is_ok()
 }
 
+/// Runs a group, and says by which way the imports that it was held to were found.
+fn compared((name, group): &(&str, Group), subject: &dyn Subject, options: &Options) -> bool {
+    let good = verdict(group(subject, options));
+    let [direct, renamed, model] = expected::asked();
+    if direct + renamed + model > 0 {
+        println!(
+            "{name}: held to the Rust {direct} times by the file as it is, {renamed} times with a handle of its own for \
+             each adapter's index and handle; to the model {model} times, with more of these than handles"
+        );
+    }
+    good
+}
+
 fn number(text: Option<String>) -> Result<u64, String> {
     text.and_then(|t| t.parse().ok()).ok_or_else(|| "a number is missing".to_string())
 }
@@ -210,7 +224,7 @@ fn run() -> Result<bool, String> {
     let linked = |group: &str| options.model || proved::has(group);
     let need = |group: &str| if linked(group) { Ok(()) } else { Err(format!("built without the feature `{group}`")) };
     match words[..] {
-        ["all"] => Ok(GROUPS.iter().all(|(name, group)| !linked(name) || verdict(group(subject, &options)))),
+        ["all"] => Ok(GROUPS.iter().all(|group| !linked(group.0) || compared(group, subject, &options))),
         ["traceprint", program] => Ok(verdict(traceprint::run_program(program, &options))),
         ["selfcheck"] => Ok(selfcheck(options)),
         ["bench", group] => {
@@ -237,9 +251,9 @@ fn run() -> Result<bool, String> {
             Ok(true)
         }
         [name] => {
-            let (_, group) = GROUPS.iter().find(|(group, _)| *group == name).ok_or(USAGE)?;
+            let group = GROUPS.iter().find(|(group, _)| *group == name).ok_or(USAGE)?;
             need(name)?;
-            Ok(verdict(group(subject, &options)))
+            Ok(compared(group, subject, &options))
         }
         _ => Err(USAGE.into()),
     }
