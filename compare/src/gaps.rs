@@ -124,6 +124,8 @@ pub struct Reading {
     /// The place at which what is open after a packet began.
     pub began: fn(Option<&Begun>, &Packet) -> usize,
     pub still_open: fn(Vec<u8>) -> Option<Vec<u8>>,
+    /// A start gives up nothing of another adapter.
+    pub start_apart: bool,
     /// The place that is told of all those where a sign shows; 0 if there is none.
     pub first: fn(&[usize]) -> usize,
     /// Changes what was found.
@@ -143,6 +145,7 @@ pub const RIGHT: Reading = Reading {
         _ => packet.at,
     },
     still_open,
+    start_apart: true,
     first: |places| places.first().copied().unwrap_or(0),
     change: |_, _| (),
 };
@@ -196,6 +199,9 @@ fn follow(packets: &[Packet], reading: Reading, found: &mut Found) {
         let before = open.remove(&(packet.link, packet.rx));
         if packet.start {
             found.starts.push(packet.at);
+            open.retain(|(link, rx), _| {
+                reading.start_apart || (link % 4096, *rx) != (packet.link % 4096, packet.rx)
+            });
         }
         if (reading.is_stray)(before.as_ref(), packet) {
             found.stray.push(packet.at);

@@ -128,11 +128,53 @@ impl<'a> Import<'a> {
         checked
     }
 
+    /// Whether the rule is tolerant.
+    pub fn tolerant(&self) -> bool {
+        self.rule == Rule::Tolerant
+    }
+
+    /// The ways in which the call is told what to import.
+    fn ways(&self) -> &'static [By] {
+        if self.rule == Rule::Strict {
+            &[By::Numbers]
+        } else {
+            &[By::Numbers, By::Options]
+        }
+    }
+
+    /// The file with so much work and output, where they are given; else with enough.
+    pub fn lent(
+        &mut self,
+        file: &[u8],
+        channel: u32,
+        expected: &Answer,
+        work: Option<usize>,
+        out: Option<usize>,
+    ) -> Checked {
+        self.files += 1;
+        let mut lender = std::mem::take(&mut self.lender);
+        let work = work.unwrap_or(8 * file.len());
+        let out = out.unwrap_or(expected.written.len());
+        for &by in self.ways() {
+            self.lend(work, None);
+            let room = expected.values.len();
+            lender.call(
+                expected,
+                out,
+                room,
+                &mut |out, values| self.call(file, work, by, out, channel, values),
+                &|| self.case(file, channel, work, by),
+            )?;
+            self.guards(work, file, channel, by)?;
+        }
+        self.lender = lender;
+        Ok(())
+    }
+
     fn held_by(&self, lender: &mut Lender, file: &[u8], channel: u32, expected: &Answer) -> Checked {
         let enough = 8 * file.len() + [0, 0, 1, 64][self.files % 4];
         let fill = [None, None, Some(0), Some(0xFF), Some(0x3E)][self.files % 5];
-        let ways: &[By] = if self.rule == Rule::Strict { &[By::Numbers] } else { &[By::Numbers, By::Options] };
-        for &by in ways {
+        for &by in self.ways() {
             self.lend(enough, fill);
             lender.about(expected, &mut |out, values| self.call(file, enough, by, out, channel, values), &|| {
                 self.case(file, channel, enough, by)
@@ -225,7 +267,7 @@ impl<'a> Import<'a> {
         }
         let found = self.stretches.borrow()[..unfinished].to_vec();
         let wrong = if file.len() < 20_000 {
-            let open = model::open(file, expected.values[0]);
+            let open = model::open(file, expected.values[0], model::RIGHT);
             (found != open).then(|| format!("{open:?}"))
         } else {
             let fits = |s: &Stretch| u64::from(s.dlci) == expected.values[0] && (1..=65_536).contains(&s.held);

@@ -14,6 +14,7 @@ mod items;
 mod lacking;
 mod misprint;
 mod misread;
+mod mistaken;
 mod model;
 mod names;
 mod order;
@@ -28,6 +29,7 @@ mod times;
 mod tolerant;
 mod trace;
 mod traceprint;
+mod vectors;
 
 use std::process::ExitCode;
 
@@ -117,7 +119,7 @@ fn cases(counts: &[u64]) -> String {
 
 pub type Group = fn(&dyn Subject, &Options) -> Checked;
 
-const GROUPS: [(&str, Group); 7] = [
+const GROUPS: [(&str, Group); 8] = [
     ("codec", codec::run),
     ("names", names::run),
     ("plan", plan::run),
@@ -125,6 +127,7 @@ const GROUPS: [(&str, Group); 7] = [
     ("import", import::run),
     ("tolerant", tolerant::run),
     ("gaps", signs::run),
+    ("vectors", vectors::run),
 ];
 
 /// Prints a difference; an input too long to print is left in a file.
@@ -208,7 +211,7 @@ fn selfcheck(options: Options) -> bool {
     let (calls, mut missed) = planted::unreported(&GROUPS, &options);
     let (prints, unseen) = misprint::unreported(&options);
     let planted = calls + prints;
-    missed.extend(unseen);
+    missed.extend(unseen.iter().map(ToString::to_string));
     println!("selfcheck: {} of {planted} planted faults reported", planted - missed.len());
     missed.iter().for_each(|label| println!("  not reported: {label}"));
     let without = planted::reported_without(&GROUPS, &options);

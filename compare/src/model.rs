@@ -85,7 +85,7 @@ impl Subject for Model {
         let answer = import_in(file, work.len(), stretches.len(), channel, tolerant != 0);
         let number = store(&answer, out, values);
         if number == 0 {
-            fill(stretches, &open(file, answer.values[0]));
+            fill(stretches, &open(file, answer.values[0], RIGHT));
         }
         number
     }
@@ -682,10 +682,10 @@ fn buffers(pieces: &[&Piece], reading: Reading) -> (Spans, BTreeMap<(Stretch, Wa
 
 /// The stretches of a DLCI that are open at the end of a file with a good header, in the
 /// order of their first pieces.
-pub fn open(file: &[u8], dlci: u64) -> Vec<answer::Stretch> {
-    let pieces = pieces(&pdus(be(&file[12..16]), &records(&file[16..]).0, RIGHT), RIGHT);
+pub fn open(file: &[u8], dlci: u64, reading: Reading) -> Vec<answer::Stretch> {
+    let pieces = pieces(&pdus(be(&file[12..16]), &records(&file[16..]).0, reading), reading);
     let own: Vec<&Piece> = pieces.iter().filter(|p| u64::from(p.dlci) == dlci).collect();
-    let mut buffers = buffers(&own, RIGHT).1;
+    let mut buffers = buffers(&own, reading).1;
     // the first piece of a key takes its buffer out
     let stretch = |piece: &&Piece| {
         let held = buffers.remove(&(piece.stretch, piece.way))?;
