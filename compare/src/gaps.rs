@@ -199,9 +199,7 @@ fn follow(packets: &[Packet], reading: Reading, found: &mut Found) {
         let before = open.remove(&(packet.link, packet.rx));
         if packet.start {
             found.starts.push(packet.at);
-            open.retain(|(link, rx), _| {
-                reading.start_apart || (link % 4096, *rx) != (packet.link % 4096, packet.rx)
-            });
+            open.retain(|(link, rx), _| reading.start_apart || (link % 4096, *rx) != (packet.link % 4096, packet.rx));
         }
         if (reading.is_stray)(before.as_ref(), packet) {
             found.stray.push(packet.at);

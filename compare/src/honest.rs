@@ -241,6 +241,8 @@ struct Maker<'a> {
     brought: Vec<Brought>,
     dlci: u8,
     scale: Scale,
+    /// Whether other adapters ask for PSM 3. If not, no response admits a channel of theirs.
+    asking: bool,
 }
 
 impl Maker<'_> {
@@ -339,16 +341,23 @@ impl Maker<'_> {
         let stamp = trace::stamp(rng);
         let direction = rng.pick(&[Rx, Tx]);
         let [own, back] = [cids[way(direction)], cids[1 - way(direction)]];
+        let psm = if self.asking { 3 } else { rng.pick(&[1, 5]) };
         let trace = self.trace.on(index);
-        match rng.below(9) {
+        match rng.below(12) {
             // A PDU that never ends, and more of it, or of nothing: here a link's PDU may be under way.
             0 => trace.fragment(direction, stamp, handle, rng.pick(&[0, 2, 3]), &[0xFF, 0x7F, own as u8]),
             1 => trace.fragment(direction, stamp, handle, 1, &[0x3E, 0x3C, 0x00][..rng.below(4)]),
-            2 | 3 => trace.pdu(direction, stamp, handle, 1, &trace::request(rng.pick(&[1, 3, 5]), back)),
+            2 | 3 => trace.pdu(direction, stamp, handle, 1, &trace::request(psm, back)),
             4 => trace.pdu(direction, stamp, handle, 1, &trace::response(back, own, rng.pick(&[0, 1]))),
             5 => trace.pdu(direction, stamp, handle, own, &trace::sabm(0)),
             6 => trace.pdu(direction, stamp, handle, own, &trace::sabm(self.dlci)),
             7 => trace.pdu(direction, stamp, handle, 1, &trace::command(2, 9, &[3, 0])),
+            8..=10 if !self.asking => {
+                // A link's request is no request here: named and not admitted, the channel is never tried.
+                let other = if direction == Rx { Tx } else { Rx };
+                trace.pdu(direction, stamp, handle, 1, &trace::response(0x71, own, 0));
+                trace.pdu(other, stamp, handle, 0x71, &trace::uih(self.dlci, &packed(0x0C, 6, &[0x22]), None, false));
+            }
             _ => {
                 let sending = free_pdu(rng, own, self.dlci);
                 trace.fragment(direction, stamp, handle, 0, &sending.bytes);
@@ -373,8 +382,9 @@ pub fn recording(rng: &mut Rng, scale: Scale) -> Honest {
     pairs.truncate(rng.within(2, scale.links + 1));
     pairs.remove(rng.below(pairs.len()));
     let mut links: Vec<Link> = pairs.iter().map(|&pair| link(rng, pair, dlci, scale)).collect();
-    let noisy = rng.pick(&[0, 3, 15]);
-    let mut maker = Maker { rng, trace, brought: Vec::new(), dlci, scale };
+    let noisy = if adapters.len() == 1 { rng.pick(&[0, 3, 15]) } else { rng.pick(&[3, 15, 40]) };
+    let asking = rng.percent(30);
+    let mut maker = Maker { rng, trace, brought: Vec::new(), dlci, scale, asking };
     // Now and then a recording stops before everything was sent.
     let stops = maker.rng.pick(&[0, 0, 0, 2]);
     while links.iter().any(Link::waits) && !(stops > 0 && maker.rng.below(100) < stops) {
@@ -403,7 +413,7 @@ fn sent(rng: &mut Rng, sending: [VecDeque<Sending>; 2]) -> Honest {
     let (setup, open) = (VecDeque::new(), [None, None]);
     let mut link = Link { pair, cids: [0x41, 0x42], setup, sending, open, begun: false, held: None };
     let scale = Scale { fragment: 40_000, ..SMALL };
-    let mut maker = Maker { rng, trace: Trace::new(2001), brought: Vec::new(), dlci: 18, scale };
+    let mut maker = Maker { rng, trace: Trace::new(2001), brought: Vec::new(), dlci: 18, scale, asking: false };
     while link.waits() {
         maker.step(0, &mut link);
     }

@@ -58,8 +58,7 @@ struct Mood {
 impl Mood {
     fn new(rng: &mut Rng, datalink: u32) -> Mood {
         let indexes = trace::adapters(rng, datalink);
-        let handles: Vec<u16> =
-            (0..rng.within(1, 3)).map(|_| rng.pick(&[0x000, 0x001, 0x040, 0x041, 0xFFF])).collect();
+        let handles: Vec<u16> = (0..rng.within(1, 3)).map(|_| rng.pick(&[0x000, 0x001, 0x040, 0x041, 0xFFF])).collect();
         let often = [0, 0, 3, 10, 40];
         Mood {
             links: trace::on_each(&indexes, &handles),

@@ -156,7 +156,9 @@ fn of_adapters() -> impl Iterator<Item = (&'static str, String, Misread)> {
         |d, at, r| linked(d, at, r, |index, handle| 256 * handle + index),
     ];
     let packed = packed.into_iter().enumerate();
-    faults.extend(packed.map(|(i, packet_of)| (&[BY_HAND][..], format!("links are packed wrong, {i}"), takes(packet_of))));
+    faults.extend(
+        packed.map(|(i, packet_of)| (&[BY_HAND][..], format!("links are packed wrong, {i}"), takes(packet_of))),
+    );
     let each = |(groups, label, misread): (&'static [&'static str], String, Misread)| {
         groups.iter().map(move |group| (*group, format!("gaps: {label}"), misread))
     };

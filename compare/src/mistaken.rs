@@ -5,11 +5,13 @@ use crate::model::{index, Keys, Reading, BY_LINK, RIGHT};
 /// Parts of the groups, for faults that each of them has to report alone.
 pub const BY_HAND: &str = "import, fixed traces of two adapters";
 pub const STEPS: &str = "import, every few steps on two adapters";
+pub const RANDOM: &str = "import, random traces";
 pub const HONEST: &str = "tolerant, every cut of honest recordings";
 
-/// All that has traces of two adapters; and without the every few steps, which know two indexes of one handle.
-const ALL: &[&str] = &[BY_HAND, STEPS, "import, random traces", HONEST, "tolerant", "vectors"];
-const OF_MANY: &[&str] = &[BY_HAND, "import, random traces", HONEST, "tolerant"];
+/// All that has traces of two adapters; without the vectors; and without the every few steps, which know two indexes.
+const ALL: &[&str] = &[BY_HAND, STEPS, RANDOM, HONEST, "tolerant", "vectors"];
+const MADE: &[&str] = &[BY_HAND, STEPS, RANDOM, HONEST, "tolerant"];
+const OF_MANY: &[&str] = &[BY_HAND, RANDOM, HONEST, "tolerant", "vectors"];
 
 /// A wrong reading with its label and the groups, or parts of them, each of which has to report it.
 type Fault = (&'static [&'static str], String, Reading);
@@ -24,10 +26,13 @@ fn by_handle() -> Vec<Fault> {
         ("channels are named", Keys { channel: ALONE, ..BY_LINK }),
         ("an earlier request is found", Keys { requested: ALONE, ..BY_LINK }),
         ("sessions are counted", Keys { sessions: ALONE, ..BY_LINK }),
-        ("links are counted", Keys { links: ALONE, ..BY_LINK }),
         ("stretches are told apart", Keys { stretch: ALONE, ..BY_LINK }),
     ];
-    keys.map(|(what, keys)| (ALL, format!("{what} by the handle alone"), Reading { keys, ..RIGHT })).into()
+    let alone = |what: &str, keys| (format!("{what} by the handle alone"), Reading { keys, ..RIGHT });
+    let with = |groups, (label, reading)| (groups, label, reading);
+    let links = alone("links are counted", Keys { links: ALONE, ..BY_LINK });
+    let all = keys.map(|(what, keys)| with(ALL, alone(what, keys))).into_iter();
+    all.chain([with(MADE, links)]).collect()
 }
 
 /// The index is read wrong.
@@ -38,7 +43,7 @@ fn of_index() -> Vec<Fault> {
     let zero = reads(|datalink, flags| index(datalink, flags).filter(|index| *index == 0));
     let last = reads(|datalink, flags| index(datalink, flags).filter(|index| *index < 0xFFFF));
     vec![
-        (&[BY_HAND, "import, random traces", HONEST], "upper flag bits of 1001 and 1002 are an index".into(), upper),
+        (&[BY_HAND, RANDOM, HONEST], "upper flag bits of 1001 and 1002 are an index".into(), upper),
         (OF_MANY, "an index has 8 bits".into(), bytes),
         (ALL, "all flag bits are compared with 4 and 5".into(), zero),
         (OF_MANY, "index FFFF is skipped".into(), last),
@@ -80,7 +85,8 @@ fn packed() -> Vec<Fault> {
     let over = over.iter().enumerate().map(|(bits, link)| (format!("index {bits} bits above the handle"), *link));
     let few = few.iter().map(|link| (format!("the index's {} upper bits dropped", dropped(*link)), *link));
     let all = over.chain(few).chain([("the handle 8 bits above the index".into(), before)]);
-    all.map(|(what, link)| (&[BY_HAND][..], format!("links are packed with {what}"), Reading { link, ..RIGHT })).collect()
+    all.map(|(what, link)| (&[BY_HAND][..], format!("links are packed with {what}"), Reading { link, ..RIGHT }))
+        .collect()
 }
 
 /// How many of an index's bits make no difference.

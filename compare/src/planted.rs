@@ -4,7 +4,7 @@
 use crate::answer::{chosen, Answer, Stretch, Subject, NO_CHANNEL};
 use crate::expected::LONGEST_FILE;
 use crate::misread::{self, Misread};
-use crate::mistaken;
+use crate::mistaken::{self, RANDOM};
 use crate::model::{self, Reading, RIGHT};
 use crate::{import, signs, tolerant, Group, Options};
 
@@ -177,7 +177,6 @@ fn changed(file: &[u8], work: usize, channel: u32, tolerant: bool, change: fn(&m
 }
 
 /// Parts of a group, for faults that each of them has to report alone.
-const RANDOM: &str = "import, random traces";
 const FIXED: &str = "import, fixed traces";
 const FRAGMENTS: &str = "import, every three fragments of two PDUs";
 const CID_1: &str = "import, every four PDUs on CID 1";
@@ -200,10 +199,8 @@ const PARTS: [(&str, Group); 15] = [
     (misread::LAW, signs::run_law),
 ];
 
-const EXCESS: Planted =
-    Planted { reading: Reading { excess_dropped: false, ..RIGHT }, ..NONE };
-const TRIED_TOO: Planted =
-    Planted { reading: Reading { request_ends: false, ..RIGHT }, ..NONE };
+const EXCESS: Planted = Planted { reading: Reading { excess_dropped: false, ..RIGHT }, ..NONE };
+const TRIED_TOO: Planted = Planted { reading: Reading { request_ends: false, ..RIGHT }, ..NONE };
 
 /// Each fault with the group, or part of one, that has to report it.
 fn faults() -> Vec<(&'static str, &'static str, Planted)> {
@@ -563,16 +560,8 @@ fn faults() -> Vec<(&'static str, &'static str, Planted)> {
         (FIXED, "a PDU with a PSM 3 request is tried as well, fixed traces", TRIED_TOO),
         (CID_1, "a PDU with a PSM 3 request is tried as well, every four PDUs on CID 1", TRIED_TOO),
         ("tolerant", "a PDU with a PSM 3 request is tried as well, tolerant", TRIED_TOO),
-        (
-            "import",
-            "65,536 bytes are cleared",
-            Planted { reading: Reading { longest: 65_535, ..RIGHT }, ..NONE },
-        ),
-        (
-            "import",
-            "65,537 bytes stay",
-            Planted { reading: Reading { longest: 65_537, ..RIGHT }, ..NONE },
-        ),
+        ("import", "65,536 bytes are cleared", Planted { reading: Reading { longest: 65_535, ..RIGHT }, ..NONE }),
+        ("import", "65,537 bytes stay", Planted { reading: Reading { longest: 65_537, ..RIGHT }, ..NONE }),
         (
             "import",
             "everything is refused with 6",

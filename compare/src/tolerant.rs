@@ -105,15 +105,13 @@ pub fn run(subject: &dyn Subject, options: &Options) -> Checked {
 
 /// Every cut of honest recordings, held to what is left.
 fn honest_cuts(import: &mut Import, rng: &mut Rng, size: u64) -> Checked {
-    each_cut(rng, size, &mut |recording, n| {
-        import.held(&recording.file[..n], recording.channel(), &recording.left(n))
-    })
+    each_cut(rng, size, &mut |recording, n| import.held(&recording.file[..n], recording.channel(), &recording.left(n)))
 }
 
 /// The honest recordings alone; in a short run more of them.
 pub fn run_honest(subject: &dyn Subject, options: &Options) -> Checked {
     let mut import = Import::new(subject, Rule::Tolerant);
-    honest_cuts(&mut import, &mut Rng::new(options.seed), 48.max(options.size.unwrap_or(50_000) / 100))
+    honest_cuts(&mut import, &mut Rng::new(options.seed), 100.max(options.size.unwrap_or(50_000) / 100))
 }
 
 /// The part that asks for the strict rule.
