@@ -143,8 +143,7 @@ fn count(way: usize) {
 /// a handle of its own, in place: renaming links one to one changes no answer. `None` if there are not handles enough.
 fn for_one_adapter(file: &[u8]) -> Option<Cow<'_, [u8]>> {
     let links = links(file);
-    let indexes: BTreeSet<u16> = links.iter().map(|(_, index, _)| *index).collect();
-    if indexes.len() < 2 {
+    if links.iter().all(|(_, index, _)| *index == links[0].1) {
         count(0);
         return Some(Cow::Borrowed(file));
     }
@@ -161,6 +160,11 @@ fn for_one_adapter(file: &[u8]) -> Option<Cow<'_, [u8]>> {
     }
     count(1);
     Some(Cow::Owned(renamed))
+}
+
+/// How many adapters' packets a file has, of those that have all fields.
+pub fn adapters(file: &[u8]) -> usize {
+    links(file).iter().map(|(_, index, _)| *index).collect::<BTreeSet<_>>().len()
 }
 
 /// The packets of a file of 2001 that have a handle and all other fields: where the handle's field is, the adapter's

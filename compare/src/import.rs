@@ -6,6 +6,7 @@ use crate::adapters;
 use crate::answer::{Answer, Case, Checked, Difference, Lender, Stretch, Subject, NO_CHANNEL};
 use crate::codec::each_string;
 use crate::expected::{self, LONGEST_FILE};
+use crate::hard;
 use crate::model::{self, packed};
 use crate::rng::Rng;
 use crate::trace::{self, Trace};
@@ -256,8 +257,8 @@ impl<'a> Import<'a> {
     }
 
     /// The first `unfinished` places hold the open stretches, in the order of their first
-    /// pieces, and no other place is touched. Of a long file only the DLCI and the bounds
-    /// of what is held are seen.
+    /// pieces, and no other place is touched. Of a long file with few of them only the DLCI
+    /// and the bounds of what is held are seen.
     fn listed(&self, file: &[u8], channel: u32, expected: &Answer, lent: usize, places: usize) -> Checked {
         let unfinished = expected.values[2] as usize;
         let by = By::Places(places);
@@ -266,7 +267,7 @@ impl<'a> Import<'a> {
             return Ok(());
         }
         let found = self.stretches.borrow()[..unfinished].to_vec();
-        let wrong = if file.len() < 20_000 {
+        let wrong = if file.len() < 20_000 || unfinished > 4096 {
             let open = model::open(file, expected.values[0], model::RIGHT);
             (found != open).then(|| format!("{open:?}"))
         } else {
@@ -822,6 +823,10 @@ pub fn large(taker: &mut dyn Taker, rng: &mut Rng) -> Checked {
             taker.file(&trace.file, if round % 2 == 0 { NO_CHANNEL } else { channel })?;
         }
     }
+    // More links than handles, which only the model can be asked for.
+    for twins in hard::twins() {
+        taker.file(&twins.one_handle(256), NO_CHANNEL)?;
+    }
     taker.file(&vec![0; LONGEST_FILE + 1], NO_CHANNEL)?;
     taker.file(&vec![0; LONGEST_FILE], NO_CHANNEL)
 }
@@ -870,9 +875,10 @@ pub fn run_rule(subject: &dyn Subject, options: &Options, group: &'static str, r
     Ok(())
 }
 
-/// The random traces alone.
+/// The random traces alone; in a short run more of them.
 pub fn run_random(subject: &dyn Subject, options: &Options) -> Checked {
-    random(&mut Import::new(subject, Rule::Strict), &mut Rng::new(options.seed), options.size.unwrap_or(50_000))
+    let size = options.size.unwrap_or(50_000).max(2_000);
+    random(&mut Import::new(subject, Rule::Strict), &mut Rng::new(options.seed), size)
 }
 
 /// One part alone.

@@ -40,7 +40,7 @@ usage: compare GROUP [--seed N] [--size N] [--against proved|model]
        compare all [--seed N] [--size N] [--against proved|model]
        compare traceprint PROGRAM [--seed N] [--size N]
        compare selfcheck
-       compare bench GROUP|growth [--only TEXT] [--kib N,N,..] [--judge] [--against proved|model]
+       compare bench GROUP|growth|adapters [--only TEXT] [--kib N,N,..] [--judge] [--against proved|model]
        compare once LABEL KIB [--times N] [--against proved|model]
        compare sample GROUP FILE
        compare stats import|honest|bench [--seed N] [--size N]
@@ -50,7 +50,8 @@ of random cases; what is exhaustive stays whole. `all` runs every group that thi
 build links. There is no sample of gaps. PROGRAM is the built traceprint.
 
 `bench` times the rows of a group, `bench growth` how the times of import grow,
-`bench gaps` how long the signs take as a part of import.
+`bench gaps` how long the signs take as a part of import, `bench adapters` one handle
+on many adapters against as many links that are spread over handles.
 --only takes the rows whose label has TEXT, --kib the sizes of the files of import
 (16 to 1024), and --judge says at the end which rows are over their limit. `once`
 imports the trace of a row --times times and does nothing else.";
@@ -231,7 +232,12 @@ fn run() -> Result<bool, String> {
         ["traceprint", program] => Ok(verdict(traceprint::run_program(program, &options))),
         ["selfcheck"] => Ok(selfcheck(options)),
         ["bench", group] => {
-            need(if group == "growth" { "import" } else { group })?;
+            let calls: &[&str] = match group {
+                "growth" => &["import"],
+                "adapters" => &["import", "gaps"],
+                _ => &[group],
+            };
+            calls.iter().try_for_each(|call| need(call))?;
             bench::run(group, subject, &options).map(verdict).ok_or_else(|| USAGE.into())
         }
         ["once", label, kib] => {

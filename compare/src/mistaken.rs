@@ -20,19 +20,21 @@ type Fault = (&'static [&'static str], String, Reading);
 const ALONE: fn(u32) -> u32 = |link| link % 4096;
 
 /// In one of the places where import keys on a link, the handle alone is looked at.
+pub fn by_handle_alone() -> [(&'static str, Keys); 6] {
+    [
+        ("fragments put together", Keys { open: ALONE, ..BY_LINK }),
+        ("channels named", Keys { channel: ALONE, ..BY_LINK }),
+        ("an earlier request found", Keys { requested: ALONE, ..BY_LINK }),
+        ("sessions counted", Keys { sessions: ALONE, ..BY_LINK }),
+        ("links counted", Keys { links: ALONE, ..BY_LINK }),
+        ("stretches told apart", Keys { stretch: ALONE, ..BY_LINK }),
+    ]
+}
+
 fn by_handle() -> Vec<Fault> {
-    let keys = [
-        ("fragments are put together", Keys { open: ALONE, ..BY_LINK }),
-        ("channels are named", Keys { channel: ALONE, ..BY_LINK }),
-        ("an earlier request is found", Keys { requested: ALONE, ..BY_LINK }),
-        ("sessions are counted", Keys { sessions: ALONE, ..BY_LINK }),
-        ("stretches are told apart", Keys { stretch: ALONE, ..BY_LINK }),
-    ];
-    let alone = |what: &str, keys| (format!("{what} by the handle alone"), Reading { keys, ..RIGHT });
-    let with = |groups, (label, reading)| (groups, label, reading);
-    let links = alone("links are counted", Keys { links: ALONE, ..BY_LINK });
-    let all = keys.map(|(what, keys)| with(ALL, alone(what, keys))).into_iter();
-    all.chain([with(MADE, links)]).collect()
+    let groups = |what| if what == "links counted" { MADE } else { ALL };
+    let fault = |(what, keys)| (groups(what), format!("{what} by the handle alone"), Reading { keys, ..RIGHT });
+    by_handle_alone().map(fault).into()
 }
 
 /// The index is read wrong.

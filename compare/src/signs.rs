@@ -442,6 +442,10 @@ pub fn run(subject: &dyn Subject, options: &Options) -> Checked {
     for trace in hard::traces() {
         trace.file(16).map_or(Ok(()), |file| gaps.file(&file, NO_CHANNEL))?;
     }
+    for twins in hard::twins() {
+        gaps.file(&twins.one_handle(16), NO_CHANNEL)?;
+        gaps.file(&twins.spread(16), NO_CHANNEL)?;
+    }
     log.line("random traces of import, whole and damaged, and those of its bench", &gaps.lender);
     tolerant::each_cut(&mut rng, size / 500, &mut |recording, n| gaps.file(&recording.file[..n], NO_CHANNEL))?;
     log.line("every cut of honest recordings", &gaps.lender);
