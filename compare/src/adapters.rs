@@ -112,6 +112,18 @@ pub fn by_hand(taker: &mut dyn Taker) -> Checked {
     Ok(())
 }
 
+/// The short traces for one handle on two adapters.
+pub fn short() -> Vec<Vec<u8>> {
+    let file = |(steps, _): Made| {
+        let mut trace = Trace::new(2001);
+        for (link, step) in &steps {
+            take(&mut trace, [(0, 0x40), (0x0100, 0x40)][*link], step);
+        }
+        trace.file
+    };
+    made().into_iter().map(file).collect()
+}
+
 /// The frames and the unfinished that the oracle finds.
 fn found(file: &[u8]) -> Option<[u64; 2]> {
     let answer = expected::import_strict(file, NO_CHANNEL);

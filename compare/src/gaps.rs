@@ -83,6 +83,9 @@ fn fragment(at: usize, index: u64, rx: bool, bytes: &[u8]) -> Option<Packet<'_>>
     (4 + length <= bytes.len()).then(|| Packet { at, link, rx, start, bytes: &bytes[4..4 + length] })
 }
 
+/// What reads the packet of a record, by datalink and place.
+pub type PacketOf = for<'a> fn(u64, usize, &'a [u8]) -> Option<Packet<'a>>;
+
 /// The packet of a record.
 pub fn packet_of(datalink: u64, at: usize, record: &[u8]) -> Option<Packet<'_>> {
     let (flags, bytes) = (be32(record, 8), &record[24..]);
@@ -116,7 +119,7 @@ pub struct Reading {
     pub is_zeros: fn(&[u8]) -> bool,
     pub is_acl: fn(u64, &[u8]) -> bool,
     pub rises: fn(&[u64]) -> Vec<u64>,
-    pub packet_of: for<'a> fn(u64, usize, &'a [u8]) -> Option<Packet<'a>>,
+    pub packet_of: PacketOf,
     /// A continuation with nothing open.
     pub is_stray: fn(Option<&Begun>, &Packet) -> bool,
     /// A start where a PDU is open.

@@ -3,7 +3,7 @@
 use std::collections::BTreeMap;
 
 use crate::answer::Answer;
-use crate::gaps::{self, be32, le16, packet_of, Found, Packet, Reading, RIGHT, VALUES};
+use crate::gaps::{self, be32, le16, packet_of, Found, Packet, PacketOf, Reading, RIGHT, VALUES};
 use crate::model;
 
 /// The call, with some of it replaced.
@@ -68,7 +68,7 @@ fn finds(change: fn(&mut Found, &[u8])) -> Misread {
 }
 
 /// A call that takes packets otherwise.
-fn takes(packet_of: for<'a> fn(u64, usize, &'a [u8]) -> Option<Packet<'a>>) -> Misread {
+fn takes(packet_of: PacketOf) -> Misread {
     reads(Reading { packet_of, ..RIGHT })
 }
 
@@ -139,7 +139,16 @@ fn of_adapters() -> impl Iterator<Item = (&'static str, String, Misread)> {
             reads(Reading { start_apart: false, ..RIGHT }),
         ),
     ];
-    let packed: [for<'a> fn(u64, usize, &'a [u8]) -> Option<Packet<'a>>; 14] = [
+    faults.extend(packed().into_iter().map(|(label, packet_of)| (&[BY_HAND][..], label, takes(packet_of))));
+    let each = |(groups, label, misread): (&'static [&'static str], String, Misread)| {
+        groups.iter().map(move |group| (*group, format!("gaps: {label}"), misread))
+    };
+    faults.into_iter().flat_map(each)
+}
+
+/// Links of index and handle packed into a number that does not tell them all apart.
+fn packed() -> Vec<(String, PacketOf)> {
+    let over: [PacketOf; 12] = [
         shifted::<0>,
         shifted::<1>,
         shifted::<2>,
@@ -152,17 +161,11 @@ fn of_adapters() -> impl Iterator<Item = (&'static str, String, Misread)> {
         shifted::<9>,
         shifted::<10>,
         shifted::<11>,
-        |d, at, r| linked(d, at, r, |index, handle| 4096 * (index % 16) + handle),
-        |d, at, r| linked(d, at, r, |index, handle| 256 * handle + index),
     ];
-    let packed = packed.into_iter().enumerate();
-    faults.extend(
-        packed.map(|(i, packet_of)| (&[BY_HAND][..], format!("links are packed wrong, {i}"), takes(packet_of))),
-    );
-    let each = |(groups, label, misread): (&'static [&'static str], String, Misread)| {
-        groups.iter().map(move |group| (*group, format!("gaps: {label}"), misread))
-    };
-    faults.into_iter().flat_map(each)
+    let few: PacketOf = |d, at, r| linked(d, at, r, |index, handle| 4096 * (index % 16) + handle);
+    let before: PacketOf = |d, at, r| linked(d, at, r, |index, handle| 256 * handle + index);
+    let over = (0..).zip(over).map(|(bits, packet_of)| (format!("links with the index {bits} bits up"), packet_of));
+    over.chain([("links without upper bits".into(), few), ("links with the handle 8 bits up".into(), before)]).collect()
 }
 
 /// The adapter's index of a record.

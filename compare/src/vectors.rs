@@ -10,33 +10,35 @@ use crate::import::{Import, Rule};
 use crate::model::{self, RIGHT};
 use crate::Options;
 
-/// The files, and whether their answers tell the bytes written and more before the list.
-const FILES: [(&str, Told); 7] = [
-    ("jobs-1-2-3-4-6.txt", Told::Bytes),
-    ("edges-1-2-3-4-6.txt", Told::Bytes),
-    ("edges-big.txt", Told::Bytes),
-    ("job-8.txt", Told::List),
-    ("job-10.txt", Told::List),
-    ("edges-7-8-9-12-13.txt", Told::List),
-    ("edges-10-11.txt", Told::List),
+/// All files have to be there, also those of calls that are not run.
+const FILES: [&str; 12] = [
+    "jobs-1-2-3-4-6.txt",
+    "edges-1-2-3-4-6.txt",
+    "edges-big.txt",
+    "job-7.txt",
+    "job-8.txt",
+    "job-9.txt",
+    "job-10.txt",
+    "job-11.txt",
+    "job-12.txt",
+    "job-13.txt",
+    "edges-7-8-9-12-13.txt",
+    "edges-10-11.txt",
 ];
 
-/// What an answer of import tells after the tail offset.
-#[derive(Clone, Copy, PartialEq)]
-enum Told {
-    /// The bytes written, words with numbers, and the list.
-    Bytes,
-    /// The list.
-    List,
-}
+/// Whether a case asks for something.
+type Asks = fn(&Line) -> bool;
 
-/// What the calls do not do: a case that asks for it is passed over. A request takes its lines out.
-const LATER: [(&str, fn(&Line) -> bool); 4] = [
+/// What the calls do not do: a case that asks for it is passed over.
+const LATER: [(&str, Asks); 4] = [
     ("pcap", |line| line.has("box", &["pcap"])),
     ("FCS checked", |line| line.has("fcs", &["on", "yes"])),
     ("the strict channel rule", |line| line.has("rule", &["strict"])),
     ("heads before wires", |line| line.has("heads", &["yes"])),
 ];
+
+/// What a case is called that has no name.
+const UNNAMED: &str = "a case";
 
 /// The calls that are run.
 const CALLS: [&str; 1] = ["import"];
@@ -45,7 +47,7 @@ const CALLS: [&str; 1] = ["import"];
 struct Line<'a> {
     file: &'static str,
     number: usize,
-    /// The line before, if it names the case.
+    /// By the line before, if it has one.
     name: &'a str,
     text: &'a str,
     call: &'a str,
@@ -88,7 +90,7 @@ impl<'a> Line<'a> {
     }
 
     fn differs(&self, what: &str, expected: String, got: String) -> Box<Difference> {
-        let call = format!("{what}, {} line {} ({}): {:.4096}", self.file, self.number, self.name, self.text);
+        let call = format!("{what}, {} line {}, {}: {:.4096}", self.file, self.number, self.name, self.text);
         Box::new(Difference { call, inputs: Vec::new(), lent: "what the line says".into(), expected, got })
     }
 }
@@ -102,26 +104,22 @@ fn bytes(hex: &str) -> Vec<u8> {
     hex.as_bytes().chunks(2).map(|pair| digit(pair[0]) << 4 | digit(pair[1])).collect()
 }
 
-/// The answer that a line tells; of the words with numbers, those that import answers.
-fn answer(line: &Line, told: Told) -> Answer {
-    let mut words = line.answer.split(' ');
-    let refused = match words.next() {
-        Some("ok") => None,
-        Some("refused") => Some(words.next().and_then(|n| n.parse().ok()).expect("a number")),
-        _ => panic!("{} line {} has no answer", line.file, line.number),
-    };
-    let words: Vec<&str> = words.collect();
+/// The answer of import that a line tells. After `ok` come DLCI, frames, unfinished and the tail offset; then the list, or
+/// the bytes written, words with numbers that import does not answer, and `list=` with the list.
+fn answer(line: &Line) -> Answer {
+    let words: Vec<&str> = line.answer.split(' ').collect();
     let values = |words: &[&str]| -> Vec<u64> { words.iter().map(|n| n.parse().expect("a number")).collect() };
-    match refused {
-        Some(number) => Answer::refused(number, &values(&words)),
+    if words[0] == "refused" {
+        let numbers = values(&words[1..]);
+        return Answer::refused(numbers[0] as u32, &numbers[1..]);
+    }
+    let last = words[words.len() - 1];
+    match last.strip_prefix("list=") {
+        Some(list) => Answer::done(&values(&words[1..6]), bytes(list)),
         None => {
-            let last = words[words.len() - 1];
-            let list = bytes(last.strip_prefix("list=").unwrap_or(last));
-            let mut values = values(&words[..if told == Told::Bytes { 5 } else { 4 }]);
-            if told == Told::List {
-                values.push(list.len() as u64);
-            }
-            Answer::done(&values, list)
+            let list = bytes(last);
+            let written = [list.len() as u64];
+            Answer::done(&[&values(&words[1..5])[..], &written].concat(), list)
         }
     }
 }
@@ -140,13 +138,13 @@ struct Vectors<'a> {
 }
 
 impl Vectors<'_> {
-    fn case(&mut self, line: &Line, told: Told) -> Checked {
+    fn case(&mut self, line: &Line) -> Checked {
         if let Some(why) = line.later() {
             *self.tally.passed.entry(why).or_default() += 1;
             return Ok(());
         }
         *self.tally.run.entry(line.file).or_default() += 1;
-        let expected = answer(line, told);
+        let expected = answer(line);
         let file = bytes(line.get("file").expect("a file"));
         let channel = line.number_of("channel").map_or(NO_CHANNEL, |channel| channel as u32);
         let lent = (line.number_of("work_len"), line.number_of("out_len"));
@@ -204,11 +202,11 @@ fn unusable(expected: &str, got: String) -> Box<Difference> {
 pub fn run(subject: &dyn Subject, options: &Options) -> Checked {
     let imports = [Rule::Strict, Rule::NotTolerant, Rule::Tolerant].map(|rule| Import::new(subject, rule));
     let mut vectors = Vectors { imports, tally: Tally::default() };
-    for (file, told) in FILES {
+    for file in FILES {
         let path = directory().join(file);
         let text = std::fs::read_to_string(&path)
             .map_err(|e| unusable("a file of cases", format!("{}: {e}", path.display())))?;
-        let mut name = "";
+        let mut name = UNNAMED;
         for (number, text) in (1..).zip(text.lines()) {
             if let Some(named) = text.strip_prefix("# ") {
                 name = named;
@@ -216,8 +214,8 @@ pub fn run(subject: &dyn Subject, options: &Options) -> Checked {
             }
             let line = Line::read(file, number, name, text)
                 .ok_or_else(|| unusable("a case", format!("{file} line {number}: {text:.200}")))?;
-            vectors.case(&line, told)?;
-            name = "";
+            vectors.case(&line)?;
+            name = UNNAMED;
         }
     }
     let Tally { run, passed } = vectors.tally;
