@@ -375,6 +375,12 @@ impl Files {
     }
 }
 
+/// The files as the Rust can read them: each index and handle has a handle of its own, if there is more than one adapter.
+fn for_rust(files: &[Vec<u8>]) -> Vec<Vec<u8>> {
+    let known = |file: &Vec<u8>| expected::for_one_adapter(file).expect("no more links than handles").into_owned();
+    files.iter().map(known).collect()
+}
+
 fn import_rust(files: &[Vec<u8>]) {
     for file in files {
         black_box(capture::import(black_box(file), None).is_ok());
@@ -383,7 +389,11 @@ fn import_rust(files: &[Vec<u8>]) {
 
 fn import(bench: &mut Bench) -> Checked {
     bench.head("import", true);
-    for trace in hard::traces() {
+    import_rows(bench, hard::traces())
+}
+
+fn import_rows(bench: &mut Bench, traces: Vec<Hard>) -> Checked {
+    for trace in traces {
         if !bench.wants(&trace.label) {
             continue;
         }
@@ -401,7 +411,8 @@ fn import_row(bench: &mut Bench, trace: &Hard, files: Vec<Vec<u8>>) -> Checked {
     let mut ours = Files::checked(subject, &trace.label, files.clone())?;
     let label = ours.label(&trace.label);
     let row = Row { label: &label, bytes: files[0].len(), limit: Some(trace.limit), copied: &files };
-    bench.row(row, &mut || ours.import(subject), &mut || import_rust(&files));
+    let known = for_rust(&files);
+    bench.row(row, &mut || ours.import(subject), &mut || import_rust(&known));
     Ok(())
 }
 
@@ -443,7 +454,7 @@ fn gaps_row(subject: &dyn Subject, label: &str, files: Vec<Vec<u8>>) -> Checked 
 }
 
 /// One handle on as many adapters as fit, timed against as many links that are spread over handles: by import, and by gaps
-/// where a PDU is open.
+/// where a PDU is open. Then traces of fewer links against the Rust.
 fn adapters(bench: &mut Bench) -> Checked {
     println!("{:64} {:>10} {:>10} {:>10} {:>7} {:>7}", "adapters", "bytes", "one handle", "spread", "ratio", "least");
     for twins in hard::twins() {
@@ -465,7 +476,8 @@ fn adapters(bench: &mut Bench) -> Checked {
             }
         }
     }
-    Ok(())
+    bench.head("adapters, import against the Rust", true);
+    import_rows(bench, hard::of_many_adapters())
 }
 
 /// How many links a file has.
@@ -527,11 +539,12 @@ fn growth_row(bench: &mut Bench, label: &str, small: Vec<Vec<u8>>, large: Vec<Ve
     let mut less = Files::checked(subject, label, small.clone())?;
     let mut more = Files::checked(subject, label, large.clone())?;
     let bytes = more.bytes() / less.bytes();
+    let (small_known, large_known) = (for_rust(&small), for_rust(&large));
     let times = times::turns(&mut [
         &mut || less.import(subject),
         &mut || more.import(subject),
-        &mut || import_rust(&small),
-        &mut || import_rust(&large),
+        &mut || import_rust(&small_known),
+        &mut || import_rust(&large_known),
     ]);
     let ours = times::ratio(&times[1], &times[0]) / bytes;
     let least = times::least(&times[1]) / times::least(&times[0]) / bytes;
@@ -563,7 +576,7 @@ pub fn run(group: &str, subject: &dyn Subject, options: &Options) -> Option<Chec
 /// Imports of one trace and nothing else, to be counted or profiled: the trace of that label,
 /// or the first whose label has it.
 pub fn once(label: &str, kib: usize, subject: &dyn Subject, options: &Options) -> Result<(), String> {
-    let traces = hard::traces();
+    let traces = [hard::traces(), hard::of_many_adapters()].into_iter().flatten().collect::<Vec<Hard>>();
     let same = traces.iter().find(|t| t.label == label);
     let trace = same.or_else(|| traces.iter().find(|t| t.label.contains(label)));
     let trace = trace.ok_or_else(|| format!("no trace has the label `{label}`"))?;

@@ -141,7 +141,7 @@ fn count(way: usize) {
 
 /// The file for the oracle, which knows one adapter. Where packets have more than one index, each index and handle gets
 /// a handle of its own, in place: renaming links one to one changes no answer. `None` if there are not handles enough.
-fn for_one_adapter(file: &[u8]) -> Option<Cow<'_, [u8]>> {
+pub fn for_one_adapter(file: &[u8]) -> Option<Cow<'_, [u8]>> {
     let links = links(file);
     if links.iter().all(|(_, index, _)| *index == links[0].1) {
         count(0);

@@ -93,6 +93,12 @@ pub fn traces() -> Vec<Hard> {
     all
 }
 
+/// Traces whose keys have an adapter's index. They have no more links than the Rust has handles.
+pub fn of_many_adapters() -> Vec<Hard> {
+    let far = |(label, make)| Hard { sizes: &[1024], ..fitting(label, ANY, make) };
+    deep::of_many_adapters().map(far).collect()
+}
+
 /// Links that behave, with frames that cross pieces.
 fn honest() -> Vec<Hard> {
     let mut all = Vec::new();

@@ -827,6 +827,9 @@ pub fn large(taker: &mut dyn Taker, rng: &mut Rng) -> Checked {
     for twins in hard::twins() {
         taker.file(&twins.one_handle(256), NO_CHANNEL)?;
     }
+    for trace in hard::of_many_adapters() {
+        trace.file(128).map_or(Ok(()), |file| taker.file(&file, NO_CHANNEL))?;
+    }
     taker.file(&vec![0; LONGEST_FILE + 1], NO_CHANNEL)?;
     taker.file(&vec![0; LONGEST_FILE], NO_CHANNEL)
 }

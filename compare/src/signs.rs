@@ -439,7 +439,7 @@ pub fn run(subject: &dyn Subject, options: &Options) -> Checked {
     log.line("random bytes", &gaps.lender);
     import::random(&mut gaps, &mut rng, size / 5)?;
     import::damaged(&mut gaps, &mut rng, size / 5)?;
-    for trace in hard::traces() {
+    for trace in hard::traces().into_iter().chain(hard::of_many_adapters()) {
         trace.file(16).map_or(Ok(()), |file| gaps.file(&file, NO_CHANNEL))?;
     }
     for twins in hard::twins() {
