@@ -45,9 +45,10 @@ usage: compare GROUP [--seed N] [--size N] [--against proved|model]
        compare sample GROUP FILE
        compare stats import|honest|bench [--seed N] [--size N]
 
-GROUP is codec, names, plan, order, import, tolerant or gaps. --size is the number
-of random cases; what is exhaustive stays whole. `all` runs every group that this
-build links. There is no sample of gaps. PROGRAM is the built traceprint.
+GROUP is codec, names, plan, order, import, tolerant, gaps or vectors. --size is the
+number of random cases; what is exhaustive stays whole. `all` runs every group that
+this build links. There is no sample of gaps, and neither sample nor bench of vectors.
+PROGRAM is the built traceprint.
 
 `bench` times the rows of a group, `bench growth` how the times of import grow,
 `bench gaps` how long the signs take as a part of import, `bench adapters` one handle
