@@ -1,4 +1,4 @@
-//! The traces of `bench import`: honest ones, and those that are dear to one reading or the
+//! The traces of `bench import` and `bench adapters`: honest ones, and those that are dear to one reading or the
 //! other. Each is made for the size that is asked for.
 
 use crate::deep;

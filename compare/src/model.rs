@@ -1,4 +1,4 @@
-//! The calls once more, written plainly from document 01 and not from the source:
+//! The calls once more, written plainly from documents 01 and 02 and not from the source:
 //! a second reading to hold against the oracle, a stand-in for the library while
 //! the comparison itself is worked on, and what planted faults are made of. Only
 //! the words of the names come from the oracle; 01 does not repeat them.
