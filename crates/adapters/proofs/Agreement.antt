@@ -141,7 +141,7 @@ module _ (ρ : ℕ → ℕ) (C : Container) (f : List ℕ) (a : Apart ρ (packet
       let M : Container = relinking double C in
       let u : ℕ → ℕ = undone ρ (packetsIn C f) in
       let e : packetsIn M f ≡ map (relinked u) (packetsIn (relinking ρ C) f) =
-          packets-relinked double C f ∙ sym (all-undone ρ (packetsIn C f) a) ∙ ap (map (relinked u)) (sym (packets-relinked ρ C f)) in
+      packets-relinked double C f ∙ sym (all-undone ρ (packetsIn C f) a) ∙ ap (map (relinked u)) (sym (packets-relinked ρ C f)) in
       sym (read-renamed u (undone-one ρ (packetsIn C f)) (relinking ρ C) M f f o e (tail-relinked double C f ∙ sym (tail-relinked ρ C f)))
       ∙ read-renamed double (λ x y q. omega (arith, q)) C M f f o (packets-relinked double C f) (tail-relinked double C f)
 
@@ -231,5 +231,5 @@ pub no-index : (f : List ℕ) (o : Options) → datalink f ≢ 2001 → outcome 
 unfolding packetsIn records read filePieces
 no-index f o n =
     let e : packetsIn byHandle f ≡ packetsIn btsnoop f =
-        ap (λ (g : List ℕ → Option Packet). packets g (records btsnoop f)) (fun-ext (λ r. packet-bare (datalink f) r n)) in
+    ap (λ (g : List ℕ → Option Packet). packets g (records btsnoop f)) (fun-ext (λ r. packet-bare (datalink f) r n)) in
     outcome-by (λ l. l % 4096) btsnoop f o (rw (e, tail-relinked (λ l. l % 4096) btsnoop f))
