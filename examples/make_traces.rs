@@ -1,11 +1,13 @@
 //! Makes the example traces: `headset.btsnoop`, and `cut.btsnoop`, which is the same
-//! recording cut off inside its last record but one, while a reply is under way.
+//! recording cut off inside its last record but one, while a reply is under way; and
+//! `two-adapters.btsnoop`.
 //!
 //!     cargo run --example make_traces -- DIR
 //!
 //! A phone opens RFCOMM to a headset, asks for this and that, and the headset replies. The
 //! recording keeps the rules of an honest one (document 01), but for one frame that was
-//! damaged on its way. The same bytes come out each time.
+//! damaged on its way. In the last one a desk with two adapters does so with two headsets
+//! at once. The same bytes come out each time.
 
 mod trace;
 
@@ -41,6 +43,12 @@ impl Recording {
         // Steps that differ, so that no two records have the same distance.
         self.us += 3_250 + self.trace.starts.len() as u64 % 7 * 1_375;
         self.us
+    }
+
+    /// What comes next is of this adapter.
+    fn on(&mut self, adapter: u16) -> &mut Recording {
+        self.trace.adapter = adapter;
+        self
     }
 
     /// A PDU in fragments that end where `ends` says, and at its own end.
@@ -145,6 +153,38 @@ fn headset() -> Result<Trace, Refusal> {
     Ok(r.trace)
 }
 
+/// A desk with two adapters, as the Linux monitor records it, and a headset on each. Both use
+/// one handle and the same CIDs, and the fragments of their replies cross. At the end a reply
+/// on adapter 1 lacks its second piece, and a notice on adapter 0 its second fragment.
+fn two_adapters() -> Result<Trace, Refusal> {
+    let mut r = Recording { trace: Trace::new(2001), us: START };
+    for adapter in [0, 1] {
+        r.on(adapter).send(Tx, &signal(2, 3, &[3, PHONE]), &[]);
+        r.send(Rx, &signal(3, 3, &[HEADSET, PHONE, 0, 0]), &[]);
+    }
+    // What adapter 0 exchanges has sequence number 0, what adapter 1 does has 1.
+    r.on(0).data(Tx, &pack(MDR, 0, &[0x22, 0x00])?);
+    r.on(1).data(Tx, &pack(MDR, 1, &[0x66, 0x17])?);
+    r.on(0).data(Rx, &pack(ACK, 1, &[])?);
+    r.on(1).data(Rx, &pack(ACK, 0, &[])?);
+    let frame = |seq, payload: &[u8]| pack(MDR, seq, payload).map(|wire| pdu(PHONE, &uih(DLCI, false, None, &wire)));
+    let replies = [frame(0, &[0x23, 0x00, 0x3C, 0x00])?, frame(1, &[0x67, 0x17, 0x01, 0x01, 0x00, 0x00, 0x0E])?];
+    for first in [true, false] {
+        for (adapter, reply) in (0..).zip(&replies) {
+            let (us, (begin, end)) = (r.tick(), reply.split_at(12));
+            r.on(adapter).trace.fragment(Rx, us, HANDLE, first, if first { begin } else { end });
+        }
+    }
+    r.on(0).data(Tx, &pack(ACK, 1, &[])?);
+    r.on(1).data(Tx, &pack(ACK, 0, &[])?);
+    r.data(Tx, &pack(MDR, 0, &[0x22, 0x00])?);
+    r.data(Rx, &pack(ACK, 1, &[])?);
+    r.data(Rx, &pack(MDR, 0, &[0x23, 0x00, 0x50, 0x00])?[..8]);
+    let us = r.tick();
+    r.on(0).trace.fragment(Rx, us, HANDLE, true, &frame(1, &[0x25, 0x00, 0x3B, 0x00])?[..12]);
+    Ok(r.trace)
+}
+
 fn main() -> Result<(), Box<dyn Error>> {
     let dir = env::args_os().nth(1).ok_or("say which directory to write the traces to")?;
     let trace = headset()?;
@@ -152,5 +192,8 @@ fn main() -> Result<(), Box<dyn Error>> {
     fs::write(Path::new(&dir).join("headset.btsnoop"), &trace.file)?;
     fs::write(Path::new(&dir).join("cut.btsnoop"), &trace.file[..last_but_one + 30])?;
     println!("{} records, {} bytes; the other is cut at {}", trace.starts.len(), trace.file.len(), last_but_one + 30);
+    let trace = two_adapters()?;
+    fs::write(Path::new(&dir).join("two-adapters.btsnoop"), &trace.file)?;
+    println!("two adapters: {} records, {} bytes", trace.starts.len(), trace.file.len());
     Ok(())
 }

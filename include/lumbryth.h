@@ -173,6 +173,11 @@ uint32_t lumbryth_capture_order(const uint8_t *names, size_t names_len,
  * in which they were complete. It is the first DLCI seen that has a span which
  * unpacks; with a `channel` from 0 to 255, one of that channel.
  *
+ * A trace of datalink 2001 may be of several adapters, and each of its records tells the
+ * adapter's index. Connections are told apart by index and handle, so that two adapters
+ * may use the same handle. The list has the spans of all of them, and does not tell which
+ * adapter or handle a span came from.
+ *
  * `tolerant` 0 is the strict rule, which refuses a file that ends inside a record;
  * any other number reads what comes before that record.
  *
@@ -234,19 +239,35 @@ uint32_t lumbryth_import_with(const uint8_t *file, size_t file_len,
     const uint64_t *options, size_t options_len, uint64_t *values, size_t values_len);
 
 /*
- * A stretch and direction that holds bytes without an end marker at the end of a trace:
- * twice the handle, and one more if they came from the headset; CID and DLCI; the
- * sessions and links of the handle that were counted before it; and how many bytes are
- * held.
+ * A stretch and direction that holds bytes without an end marker at the end of a trace.
+ *
+ * `way` tells the connection and the direction in one number. A connection is an
+ * adapter's index and a handle, since two adapters may use the same handle for two
+ * connections:
+ *
+ *   way  = 2 * link + direction    direction: 1 from the headset, 0 to it
+ *   link = 4096 * index + handle   handle: 0 to 4095
+ *
+ * The index is 0 to 65535 in a trace of datalink 2001, whose records tell it, and 0 in
+ * one of 1001 or 1002; there `way` is 2 * handle + direction. The three macros below
+ * take `way` apart.
+ *
+ * Sessions and links are those of the connection, by index and handle, that were counted
+ * before the stretch.
  */
 struct lumbryth_stretch {
-    uint32_t way;
+    uint32_t way;      /* connection and direction, as above */
     uint32_t cid;
     uint32_t dlci;
-    uint32_t sessions;
-    uint32_t links;
-    uint32_t held;
+    uint32_t sessions; /* how often a session of the connection was opened */
+    uint32_t links;    /* how often the connection's link of the DLCI was opened */
+    uint32_t held;     /* how many bytes are held */
 };
+
+/* The parts of a stretch's `way`. */
+#define LUMBRYTH_WAY_ADAPTER(way) ((uint32_t)(way) / 8192)      /* the adapter's index */
+#define LUMBRYTH_WAY_HANDLE(way) ((uint32_t)(way) / 2 % 4096)   /* the handle */
+#define LUMBRYTH_WAY_RX(way) ((uint32_t)(way) % 2)              /* 1 from the headset, 0 to it */
 
 /*
  * Imports as lumbryth_import does, and puts the stretches of the DLCI that hold bytes at
@@ -300,7 +321,8 @@ struct lumbryth_signs {
  * The packets dropped are by how much the drops field rises from record to record, from
  * 0; where it falls nothing is counted, and the first is the first record where it rises.
  * A partial PDU is given up at the record of the packet that starts another; one that is
- * open at the end is told by the record of the packet that began it.
+ * open at the end is told by the record of the packet that began it. PDUs are put together
+ * for each connection, by index and handle, and each direction.
  *
  * `tolerant` and `work` are as for lumbryth_import. For example
  *

@@ -94,7 +94,7 @@ pub fn chosen(options: &[u64]) -> (u32, bool) {
 #[repr(C)]
 #[derive(Clone, Copy, Debug, PartialEq, Eq, PartialOrd, Ord)]
 pub struct Stretch {
-    /// Twice the handle, and 1 for Rx.
+    /// Twice the link (4096 times the adapter's index, and the handle), and 1 for Rx.
     pub way: u32,
     pub cid: u32,
     pub dlci: u32,

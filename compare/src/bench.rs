@@ -6,6 +6,7 @@
 //! once and never cleared between calls. The oracle allocates what it answers, and that is
 //! part of its time, but the allocator has the memory already.
 
+use std::collections::BTreeSet;
 use std::hint::black_box;
 use std::path::Path;
 
@@ -28,6 +29,8 @@ use oracle::mdr::DataType;
 const ANY: Option<f64> = Some(1.0);
 /// What our growth is to be at most, divided by that of the bytes.
 const GROWTH: f64 = 1.1;
+/// What one handle on many adapters is to cost at most, divided by links that are spread over handles.
+const ADAPTERS: f64 = 1.1;
 
 /// The rows of a run, and those that are over their limit.
 struct Bench<'a> {
@@ -372,6 +375,12 @@ impl Files {
     }
 }
 
+/// The files as the Rust can read them: each index and handle has a handle of its own, if there is more than one adapter.
+fn for_rust(files: &[Vec<u8>]) -> Vec<Vec<u8>> {
+    let known = |file: &Vec<u8>| expected::for_one_adapter(file).expect("no more links than handles").into_owned();
+    files.iter().map(known).collect()
+}
+
 fn import_rust(files: &[Vec<u8>]) {
     for file in files {
         black_box(capture::import(black_box(file), None).is_ok());
@@ -380,7 +389,11 @@ fn import_rust(files: &[Vec<u8>]) {
 
 fn import(bench: &mut Bench) -> Checked {
     bench.head("import", true);
-    for trace in hard::traces() {
+    import_rows(bench, hard::traces())
+}
+
+fn import_rows(bench: &mut Bench, traces: Vec<Hard>) -> Checked {
+    for trace in traces {
         if !bench.wants(&trace.label) {
             continue;
         }
@@ -398,7 +411,8 @@ fn import_row(bench: &mut Bench, trace: &Hard, files: Vec<Vec<u8>>) -> Checked {
     let mut ours = Files::checked(subject, &trace.label, files.clone())?;
     let label = ours.label(&trace.label);
     let row = Row { label: &label, bytes: files[0].len(), limit: Some(trace.limit), copied: &files };
-    bench.row(row, &mut || ours.import(subject), &mut || import_rust(&files));
+    let known = for_rust(&files);
+    bench.row(row, &mut || ours.import(subject), &mut || import_rust(&known));
     Ok(())
 }
 
@@ -439,6 +453,70 @@ fn gaps_row(subject: &dyn Subject, label: &str, files: Vec<Vec<u8>>) -> Checked 
     Ok(())
 }
 
+/// One handle on as many adapters as fit, timed against as many links that are spread over handles: by import, and by gaps
+/// where a PDU is open. Then traces of fewer links against the Rust.
+fn adapters(bench: &mut Bench) -> Checked {
+    println!("{:64} {:>10} {:>10} {:>10} {:>7} {:>7}", "adapters", "bytes", "one handle", "spread", "ratio", "least");
+    for twins in hard::twins() {
+        for &kib in bench.options.kib.as_deref().unwrap_or(&[1024]) {
+            let (one, spread) = (twins.one_handle(kib), twins.spread(kib));
+            let label = |call: &str| format!("{call}, {}, {} links", twins.label, links(&one));
+            if bench.wants(&label("import")) {
+                let subject = bench.subject;
+                let [mut left, mut right] = [
+                    Files::checked(subject, twins.label, vec![one.clone()])?,
+                    Files::checked(subject, twins.label, vec![spread.clone()])?,
+                ];
+                adapters_row(bench, &label("import"), one.len(), &mut || left.import(subject), &mut || {
+                    right.import(subject)
+                });
+            }
+            if twins.label.starts_with("open PDUs") && bench.wants(&label("gaps")) {
+                gaps_twins(bench, &label("gaps"), &one, &spread)?;
+            }
+        }
+    }
+    bench.head("adapters, import against the Rust", true);
+    import_rows(bench, hard::of_many_adapters())
+}
+
+/// How many links a file has.
+fn links(file: &[u8]) -> usize {
+    let rows = model::records(&file[16..]).0;
+    rows.iter().map(|row| (&row[8..10], row[24], row[25] % 16)).collect::<BTreeSet<_>>().len()
+}
+
+fn gaps_twins(bench: &mut Bench, label: &str, one: &[u8], spread: &[u8]) -> Checked {
+    let subject = bench.subject;
+    let mut work = vec![0; 8 * one.len().max(spread.len())];
+    for file in [one, spread] {
+        let expected = gaps::answer(file, work.len(), false, gaps::RIGHT);
+        check(label, &expected, &mut |_, values| subject.gaps(file, &mut work, 0, values))?;
+    }
+    let mut other = work.clone();
+    let (mut values, mut others) = ([0; gaps::VALUES], [0; gaps::VALUES]);
+    adapters_row(
+        bench,
+        label,
+        one.len(),
+        &mut || {
+            black_box(subject.gaps(black_box(one), &mut work, 0, &mut values));
+        },
+        &mut || {
+            black_box(subject.gaps(black_box(spread), &mut other, 0, &mut others));
+        },
+    );
+    Ok(())
+}
+
+fn adapters_row(bench: &mut Bench, label: &str, bytes: usize, one: &mut dyn FnMut(), spread: &mut dyn FnMut()) {
+    let times = times::turns(&mut [one, spread]);
+    let (ratio, least) = (times::ratio(&times[0], &times[1]), times::least(&times[0]) / times::least(&times[1]));
+    let [one, spread] = [0, 1].map(|i| times::shown(times::median(times[i].clone())));
+    println!("{label:64} {bytes:>10} {one:>10} {spread:>10} {ratio:>7.3} {least:>7.3}");
+    bench.judge(label, bytes, ratio, Some(ADAPTERS));
+}
+
 /// How the times of each trace grow from 128 KiB to 1 MiB, divided by the growth of the bytes.
 fn growth(bench: &mut Bench) -> Checked {
     println!(
@@ -461,11 +539,12 @@ fn growth_row(bench: &mut Bench, label: &str, small: Vec<Vec<u8>>, large: Vec<Ve
     let mut less = Files::checked(subject, label, small.clone())?;
     let mut more = Files::checked(subject, label, large.clone())?;
     let bytes = more.bytes() / less.bytes();
+    let (small_known, large_known) = (for_rust(&small), for_rust(&large));
     let times = times::turns(&mut [
         &mut || less.import(subject),
         &mut || more.import(subject),
-        &mut || import_rust(&small),
-        &mut || import_rust(&large),
+        &mut || import_rust(&small_known),
+        &mut || import_rust(&large_known),
     ]);
     let ours = times::ratio(&times[1], &times[0]) / bytes;
     let least = times::least(&times[1]) / times::least(&times[0]) / bytes;
@@ -486,6 +565,7 @@ pub fn run(group: &str, subject: &dyn Subject, options: &Options) -> Option<Chec
         "import" => import,
         "growth" => growth,
         "gaps" => gaps,
+        "adapters" => adapters,
         _ => return None,
     };
     times::keep_memory();
@@ -496,7 +576,7 @@ pub fn run(group: &str, subject: &dyn Subject, options: &Options) -> Option<Chec
 /// Imports of one trace and nothing else, to be counted or profiled: the trace of that label,
 /// or the first whose label has it.
 pub fn once(label: &str, kib: usize, subject: &dyn Subject, options: &Options) -> Result<(), String> {
-    let traces = hard::traces();
+    let traces = [hard::traces(), hard::of_many_adapters()].into_iter().flatten().collect::<Vec<Hard>>();
     let same = traces.iter().find(|t| t.label == label);
     let trace = same.or_else(|| traces.iter().find(|t| t.label.contains(label)));
     let trace = trace.ok_or_else(|| format!("no trace has the label `{label}`"))?;

@@ -2,10 +2,14 @@
 //! refusals 1, 2, 18, 19 and 20. Refusal 7 depends on what is lent, and
 //! `Answer::within` adds it.
 
+use std::borrow::Cow;
+use std::cell::Cell;
+use std::collections::{BTreeMap, BTreeSet};
 use std::path::Path;
 
 use crate::answer::{Answer, NO_CHANNEL};
 use crate::items;
+use crate::model::{self, RIGHT};
 use oracle::capture::{self, Direction, ImportError, Imported};
 use oracle::mdr::frame::{self, FrameError};
 use oracle::mdr::DataType;
@@ -102,8 +106,11 @@ fn import_judged(file: &[u8], whole: usize, channel: u32) -> Answer {
     if whole > LONGEST_FILE {
         return Answer::refused(1, &[]);
     }
+    let Some(known) = for_one_adapter(file) else {
+        return model::import(file, usize::MAX, channel, false, RIGHT);
+    };
     let channel = if channel == NO_CHANNEL { None } else { Some(channel as u8) };
-    match capture::import(file, channel) {
+    match capture::import(&known, channel) {
         Ok(imported) => {
             let list = items::span_list(&imported.frames);
             let values = [imported.dlci.into(), imported.frames.len(), imported.unfinished, file.len(), list.len()];
@@ -116,18 +123,83 @@ fn import_judged(file: &[u8], whole: usize, channel: u32) -> Answer {
     }
 }
 
+thread_local! {
+    static ASKED: Cell<[u64; 3]> = const { Cell::new([0; 3]) };
+}
+
+/// How many imports the oracle was asked for with the file as it is, how many with handles given anew, and how many
+/// the model was asked for; since this was last called.
+pub fn asked() -> [u64; 3] {
+    ASKED.replace([0; 3])
+}
+
+fn count(way: usize) {
+    let mut asked = ASKED.get();
+    asked[way] += 1;
+    ASKED.set(asked);
+}
+
+/// The file for the oracle, which knows one adapter. Where packets have more than one index, each index and handle gets
+/// a handle of its own, in place: renaming links one to one changes no answer. `None` if there are not handles enough.
+pub fn for_one_adapter(file: &[u8]) -> Option<Cow<'_, [u8]>> {
+    let links = links(file);
+    if links.iter().all(|(_, index, _)| *index == links[0].1) {
+        count(0);
+        return Some(Cow::Borrowed(file));
+    }
+    let mut own: BTreeMap<(u16, u16), u16> = BTreeMap::new();
+    let mut renamed = file.to_vec();
+    for (at, index, field) in links {
+        let free = own.len() as u16;
+        let handle = *own.entry((index, field % 4096)).or_insert(free);
+        if handle == 4096 {
+            count(2);
+            return None;
+        }
+        renamed[at..at + 2].copy_from_slice(&(field / 4096 * 4096 + handle).to_le_bytes());
+    }
+    count(1);
+    Some(Cow::Owned(renamed))
+}
+
+/// How many adapters' packets a file has, of those that have all fields.
+pub fn adapters(file: &[u8]) -> usize {
+    links(file).iter().map(|(_, index, _)| *index).collect::<BTreeSet<_>>().len()
+}
+
+/// The packets of a file of 2001 that have a handle and all other fields: where the handle's field is, the adapter's
+/// index, and the field.
+fn links(file: &[u8]) -> Vec<(usize, u16, u16)> {
+    let mut links = Vec::new();
+    if file.get(12..16) != Some(&2001u32.to_be_bytes()) {
+        return links;
+    }
+    let mut at = 16;
+    while let Some(row) = record(file, at) {
+        let half = |i: usize| u16::from_be_bytes([row[i], row[i + 1]]);
+        let field = |i: usize| u16::from_le_bytes([row[i], row[i + 1]]);
+        if [4, 5].contains(&half(10)) && row.len() >= 28 && row.len() - 28 >= usize::from(field(26)) {
+            links.push((at + 24, half(8), field(24)));
+        }
+        at += row.len();
+    }
+    links
+}
+
+/// The whole record at a place, if there is one.
+fn record(file: &[u8], at: usize) -> Option<&[u8]> {
+    let included = file.get(at + 4..at + 8)?;
+    file.get(at..)?.get(..24 + u32::from_be_bytes(included.try_into().unwrap()) as usize)
+}
+
 /// Where the whole records end; the file's length if it has no header to follow.
 pub fn tail(file: &[u8]) -> usize {
     let mut at = 16;
     if file.len() < at {
         return file.len();
     }
-    while let Some(length) = file.get(at + 4..at + 8) {
-        let end = at + 24 + u32::from_be_bytes(length.try_into().unwrap()) as usize;
-        if end > file.len() {
-            break;
-        }
-        at = end;
+    while let Some(row) = record(file, at) {
+        at += row.len();
     }
     at
 }

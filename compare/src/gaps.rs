@@ -68,27 +68,32 @@ pub fn rises(drops: &[u64]) -> Vec<u64> {
 #[derive(Clone, Copy)]
 pub struct Packet<'a> {
     pub at: usize,
+    /// 4096 times the adapter's index, and the handle.
     pub link: usize,
     pub rx: bool,
     pub start: bool,
     pub bytes: &'a [u8],
 }
 
-/// A packet's fields. One that is not there, or data, skips it; bytes past the data are ignored.
-fn fragment(at: usize, rx: bool, bytes: &[u8]) -> Option<Packet<'_>> {
+/// A packet's fields, by its adapter's index. One that is not there, or data, skips it; bytes past the data are ignored.
+fn fragment(at: usize, index: u64, rx: bool, bytes: &[u8]) -> Option<Packet<'_>> {
     let (field, length) = (le16(bytes, 0), le16(bytes, 2));
     let start = field / 4096 % 4 != 1;
-    (4 + length <= bytes.len()).then(|| Packet { at, link: field % 4096, rx, start, bytes: &bytes[4..4 + length] })
+    let link = 4096 * index as usize + field % 4096;
+    (4 + length <= bytes.len()).then(|| Packet { at, link, rx, start, bytes: &bytes[4..4 + length] })
 }
+
+/// What reads the packet of a record, by datalink and place.
+pub type PacketOf = for<'a> fn(u64, usize, &'a [u8]) -> Option<Packet<'a>>;
 
 /// The packet of a record.
 pub fn packet_of(datalink: u64, at: usize, record: &[u8]) -> Option<Packet<'_>> {
     let (flags, bytes) = (be32(record, 8), &record[24..]);
     let rx = flags % 2 == 1;
     match datalink {
-        2001 if [4, 5].contains(&(flags % 65536)) => fragment(at, rx, bytes),
-        1001 if flags / 2 % 2 != 1 => fragment(at, rx, bytes),
-        1002 if flags / 2 % 2 != 1 => fragment(at, rx, bytes.strip_prefix(&[2])?),
+        2001 if [4, 5].contains(&(flags % 65536)) => fragment(at, flags / 65536, rx, bytes),
+        1001 if flags / 2 % 2 != 1 => fragment(at, 0, rx, bytes),
+        1002 if flags / 2 % 2 != 1 => fragment(at, 0, rx, bytes.strip_prefix(&[2])?),
         _ => None,
     }
 }
@@ -114,7 +119,7 @@ pub struct Reading {
     pub is_zeros: fn(&[u8]) -> bool,
     pub is_acl: fn(u64, &[u8]) -> bool,
     pub rises: fn(&[u64]) -> Vec<u64>,
-    pub packet_of: for<'a> fn(u64, usize, &'a [u8]) -> Option<Packet<'a>>,
+    pub packet_of: PacketOf,
     /// A continuation with nothing open.
     pub is_stray: fn(Option<&Begun>, &Packet) -> bool,
     /// A start where a PDU is open.
@@ -122,6 +127,8 @@ pub struct Reading {
     /// The place at which what is open after a packet began.
     pub began: fn(Option<&Begun>, &Packet) -> usize,
     pub still_open: fn(Vec<u8>) -> Option<Vec<u8>>,
+    /// A start gives up nothing of another adapter.
+    pub start_apart: bool,
     /// The place that is told of all those where a sign shows; 0 if there is none.
     pub first: fn(&[usize]) -> usize,
     /// Changes what was found.
@@ -141,6 +148,7 @@ pub const RIGHT: Reading = Reading {
         _ => packet.at,
     },
     still_open,
+    start_apart: true,
     first: |places| places.first().copied().unwrap_or(0),
     change: |_, _| (),
 };
@@ -194,6 +202,7 @@ fn follow(packets: &[Packet], reading: Reading, found: &mut Found) {
         let before = open.remove(&(packet.link, packet.rx));
         if packet.start {
             found.starts.push(packet.at);
+            open.retain(|(link, rx), _| reading.start_apart || (link % 4096, *rx) != (packet.link % 4096, packet.rx));
         }
         if (reading.is_stray)(before.as_ref(), packet) {
             found.stray.push(packet.at);

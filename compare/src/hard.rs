@@ -1,4 +1,4 @@
-//! The traces of `bench import`: honest ones, and those that are dear to one reading or the
+//! The traces of `bench import` and `bench adapters`: honest ones, and those that are dear to one reading or the
 //! other. Each is made for the size that is asked for.
 
 use crate::deep;
@@ -91,6 +91,12 @@ pub fn traces() -> Vec<Hard> {
     all.extend(many_keys());
     all.extend(deep::traces().map(|(label, make)| fitting(label, ANY, make)));
     all
+}
+
+/// Traces whose keys have an adapter's index. They have no more links than the Rust has handles.
+pub fn of_many_adapters() -> Vec<Hard> {
+    let far = |(label, make)| Hard { sizes: &[1024], ..fitting(label, ANY, make) };
+    deep::of_many_adapters().map(far).collect()
 }
 
 /// Links that behave, with frames that cross pieces.
@@ -474,4 +480,101 @@ fn few_channels() -> Vec<u8> {
     let mut filler = Filler::new(1001, 1 << 20);
     (0..200).for_each(|i| assert!(name_channels(&mut filler, i, 1, regular)));
     filler.ended(18)
+}
+
+// Many links of many adapters.
+
+/// A trace of as many links as fit, made twice: of one handle on an adapter each, and of links that are spread over
+/// handles first.
+pub struct Twins {
+    pub label: &'static str,
+    make: fn(&mut Filler, &dyn Fn(u32) -> Pair),
+}
+
+/// An adapter's index and a handle, by a link's number.
+type Pair = (u16, u16);
+
+impl Twins {
+    /// The file of one handle, of at most so many KiB.
+    pub fn one_handle(&self, kib: usize) -> Vec<u8> {
+        self.file(kib, &|link| (link as u16, 0x40))
+    }
+
+    /// Its twin.
+    pub fn spread(&self, kib: usize) -> Vec<u8> {
+        self.file(kib, &|link| ((link / 4096) as u16, (link % 4096) as u16))
+    }
+
+    fn file(&self, kib: usize, pair: &dyn Fn(u32) -> Pair) -> Vec<u8> {
+        let mut filler = Filler::new(2001, kib << 10);
+        (self.make)(&mut filler, pair);
+        filler.ended(18)
+    }
+}
+
+/// Each place where import keys on a link, by as many as fit.
+pub fn twins() -> [Twins; 9] {
+    [
+        Twins { label: "open PDUs, two bytes of each", make: |filler, pair| fragments(filler, pair, 1) },
+        Twins { label: "open PDUs, begun and then ended", make: |filler, pair| fragments(filler, pair, 2) },
+        Twins {
+            label: "channels, a PSM 1 request each",
+            make: |filler, pair| pdus(filler, pair, 1, &|_| (Tx, 1, trace::request(1, 0x41))),
+        },
+        Twins { label: "channels, PSM 3 requests, then responses", make: requests_and_responses },
+        Twins {
+            label: "sessions, a SABM each",
+            make: |filler, pair| pdus(filler, pair, 1, &|_| (Rx, 0x41, vec![3, 0x2F])),
+        },
+        Twins {
+            label: "links, a SABM each",
+            make: |filler, pair| pdus(filler, pair, 1, &|_| (Rx, 0x41, vec![73, 0x2F])),
+        },
+        Twins {
+            label: "links, SABMs, then a piece each",
+            make: |filler, pair| {
+                pdus(filler, pair, 2, &|turn| (Rx, 0x41, if turn == 0 { vec![73, 0x2F] } else { byte(18, 0x3E) }))
+            },
+        },
+        Twins {
+            label: "a buffer for every piece",
+            make: |filler, pair| pdus(filler, pair, 1, &|_| (Rx, 0x41, byte(18, 0x3E))),
+        },
+        Twins {
+            label: "buffers, two pieces each",
+            make: |filler, pair| pdus(filler, pair, 2, &|_| (Rx, 0x41, byte(18, 0x3E))),
+        },
+    ]
+}
+
+/// So many turns through as many links as fit, each with a record of so many bytes.
+fn turns(filler: &mut Filler, turns: u32, bytes: usize, record: &mut dyn FnMut(&mut Filler, u32, u32)) {
+    let links = (filler.most - filler.trace.file.len()) / (turns as usize * bytes);
+    for turn in 0..turns {
+        (0..links as u32).for_each(|link| record(filler, turn, link));
+    }
+}
+
+/// Fragments of two bytes, one or two of each PDU.
+fn fragments(filler: &mut Filler, pair: &dyn Fn(u32) -> Pair, parts: u32) {
+    turns(filler, parts, 30, &mut |filler, turn, link| {
+        let ((index, handle), flag) = (pair(link), if turn == 0 { 2 } else { 1 });
+        filler.trace.on(index).fragment(Tx, EPOCH, handle, flag, &[[0, 0], [0x41, 0]][turn as usize]);
+    });
+}
+
+/// A PDU for each link in each of so many turns.
+fn pdus(filler: &mut Filler, pair: &dyn Fn(u32) -> Pair, many: u32, pdu: &dyn Fn(u32) -> (Direction, u16, Vec<u8>)) {
+    let bytes = (0..many).map(|turn| 32 + pdu(turn).2.len()).max().unwrap_or(32);
+    turns(filler, many, bytes, &mut |filler, turn, link| {
+        let ((index, handle), (direction, cid, payload)) = (pair(link), pdu(turn));
+        filler.trace.on(index).pdu(direction, EPOCH, handle, cid, &payload);
+    });
+}
+
+fn requests_and_responses(filler: &mut Filler, pair: &dyn Fn(u32) -> Pair) {
+    pdus(filler, pair, 2, &|turn| match turn {
+        0 => (Tx, 1, trace::request(3, 0x41)),
+        _ => (Rx, 1, trace::response(0x42, 0x41, 0)),
+    });
 }

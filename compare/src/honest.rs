@@ -74,10 +74,11 @@ fn plain(cid: u16, payload: &[u8]) -> Sending {
 /// The PDU under way, what is left of it to send, and whether it has begun.
 type Open = (Sending, VecDeque<Vec<u8>>, bool);
 
-/// One link: its handle, what has to be complete before any of its data, and what
-/// each way (Rx first) then sends.
+/// One link: its adapter's index and handle, its CIDs (Rx first), what has to be complete before any of its data, and
+/// what each way then sends.
 struct Link {
-    handle: u16,
+    pair: (u16, u16),
+    cids: [u16; 2],
     setup: VecDeque<(Direction, Sending)>,
     sending: [VecDeque<Sending>; 2],
     open: [Option<Open>; 2],
@@ -167,7 +168,7 @@ fn before(rng: &mut Rng, cids: [u16; 2], dlci: u8) -> (Direction, Sending) {
     (direction, sending)
 }
 
-fn link(rng: &mut Rng, handle: u16, dlci: u8, scale: Scale) -> Link {
+fn link(rng: &mut Rng, pair: (u16, u16), dlci: u8, scale: Scale) -> Link {
     let cids = [rng.pick(&[0x40, 0x41, 0x42, 0xFFFF]), rng.pick(&[0x40, 0x41, 0x1234])];
     let mut setup = VecDeque::new();
     let mut late = [VecDeque::new(), VecDeque::new()];
@@ -218,7 +219,7 @@ fn link(rng: &mut Rng, handle: u16, dlci: u8, scale: Scale) -> Link {
             sending[way(direction)].push_back(pdu);
         }
     }
-    Link { handle, setup, sending, open: [None, None], begun: false, held }
+    Link { pair, cids, setup, sending, open: [None, None], begun: false, held }
 }
 
 /// The parts of a PDU, each of at least one byte.
@@ -240,6 +241,8 @@ struct Maker<'a> {
     brought: Vec<Brought>,
     dlci: u8,
     scale: Scale,
+    /// Whether other adapters ask for PSM 3. If not, no response admits a channel of theirs.
+    asking: bool,
 }
 
 impl Maker<'_> {
@@ -270,12 +273,12 @@ impl Maker<'_> {
         let part = parts.pop_front().expect("a PDU under way has bytes left");
         let flag = if begun { 1 } else { self.rng.pick(&[0, 2, 3]) };
         let stamp = trace::stamp(self.rng);
-        let mut packet = trace::acl_packet(link.handle, flag, &part);
+        let mut packet = trace::acl_packet(link.pair.1, flag, &part);
         if self.rng.percent(10) {
             packet.extend([0x3E, 0x3C]);
         }
-        let extra = self.rng.next() as u32 & 0x3FFF;
-        self.trace.acl(direction, stamp, extra, &packet);
+        let extra = self.rng.next() as u32;
+        self.trace.on(link.pair.0).acl(direction, stamp, extra, &packet);
         if !parts.is_empty() {
             link.open[i] = Some((sending, parts, true));
             return;
@@ -290,16 +293,20 @@ impl Maker<'_> {
         }
     }
 
-    /// A record that the rules leave free, of other handles or of none.
-    fn noise(&mut self, handles: &[u16]) {
+    /// A record that the rules leave free, of other links or of none.
+    fn noise(&mut self, links: &[Link], adapters: &[u16]) {
+        if adapters.len() > 1 && self.rng.percent(70) {
+            return self.beside(links, adapters);
+        }
         let rng = &mut *self.rng;
+        self.trace.index = rng.pick(adapters);
         let stamp = trace::stamp(rng);
         let direction = rng.pick(&[Rx, Tx]);
         let handle = 0x0A0 + rng.below(2) as u16;
         let wire = packed(0x0C, 5, &[0x22]);
         match rng.below(8) {
             0 => {
-                let own = trace::acl_packet(rng.pick(handles), 2, &[1, 2, 3]);
+                let own = trace::acl_packet(links[rng.below(links.len())].pair.1, 2, &[1, 2, 3]);
                 let n = rng.below(own.len());
                 self.trace.acl(direction, stamp, 0, &own[..n]);
             }
@@ -321,6 +328,42 @@ impl Maker<'_> {
             _ => trace::noise(rng, &mut self.trace),
         }
     }
+
+    /// A record of another adapter on a link's handle and CID, where no link is: what it does there is free, but for
+    /// data on either DLCI of the channel.
+    fn beside(&mut self, links: &[Link], adapters: &[u16]) {
+        let rng = &mut *self.rng;
+        let Link { pair: (_, handle), cids, .. } = links[rng.below(links.len())];
+        let index = rng.pick(adapters);
+        if links.iter().any(|link| link.pair == (index, handle)) {
+            return;
+        }
+        let stamp = trace::stamp(rng);
+        let direction = rng.pick(&[Rx, Tx]);
+        let [own, back] = [cids[way(direction)], cids[1 - way(direction)]];
+        let psm = if self.asking { 3 } else { rng.pick(&[1, 5]) };
+        let trace = self.trace.on(index);
+        match rng.below(12) {
+            // A PDU that never ends, and more of it, or of nothing: here a link's PDU may be under way.
+            0 => trace.fragment(direction, stamp, handle, rng.pick(&[0, 2, 3]), &[0xFF, 0x7F, own as u8]),
+            1 => trace.fragment(direction, stamp, handle, 1, &[0x3E, 0x3C, 0x00][..rng.below(4)]),
+            2 | 3 => trace.pdu(direction, stamp, handle, 1, &trace::request(psm, back)),
+            4 => trace.pdu(direction, stamp, handle, 1, &trace::response(back, own, rng.pick(&[0, 1]))),
+            5 => trace.pdu(direction, stamp, handle, own, &trace::sabm(0)),
+            6 => trace.pdu(direction, stamp, handle, own, &trace::sabm(self.dlci)),
+            7 => trace.pdu(direction, stamp, handle, 1, &trace::command(2, 9, &[3, 0])),
+            8..=10 if !self.asking => {
+                // A link's request is no request here: named and not admitted, the channel is never tried.
+                let other = if direction == Rx { Tx } else { Rx };
+                trace.pdu(direction, stamp, handle, 1, &trace::response(0x71, own, 0));
+                trace.pdu(other, stamp, handle, 0x71, &trace::uih(self.dlci, &packed(0x0C, 6, &[0x22]), None, false));
+            }
+            _ => {
+                let sending = free_pdu(rng, own, self.dlci);
+                trace.fragment(direction, stamp, handle, 0, &sending.bytes);
+            }
+        }
+    }
 }
 
 impl Link {
@@ -332,16 +375,21 @@ impl Link {
 /// A random honest recording.
 pub fn recording(rng: &mut Rng, scale: Scale) -> Honest {
     let dlci = rng.pick(&[1, 2, 18, 19, 63]);
-    let handles: Vec<u16> = [0x040, 0x041, 0x000, 0xFFF].into_iter().take(rng.within(1, scale.links)).collect();
-    let mut links: Vec<Link> = handles.iter().map(|&handle| link(rng, handle, dlci, scale)).collect();
     let trace = Trace::new(rng.pick(&trace::DATALINKS));
-    let noisy = rng.pick(&[0, 3, 15]);
-    let mut maker = Maker { rng, trace, brought: Vec::new(), dlci, scale };
+    let adapters = trace::adapters(rng, trace.datalink);
+    // Of two or three adapters, links share handles.
+    let mut pairs = trace::on_each(&adapters, &[0x040, 0x041, 0x000, 0xFFF]);
+    pairs.truncate(rng.within(2, scale.links + 1));
+    pairs.remove(rng.below(pairs.len()));
+    let mut links: Vec<Link> = pairs.iter().map(|&pair| link(rng, pair, dlci, scale)).collect();
+    let noisy = if adapters.len() == 1 { rng.pick(&[0, 3, 15]) } else { rng.pick(&[3, 15, 40]) };
+    let asking = rng.percent(30);
+    let mut maker = Maker { rng, trace, brought: Vec::new(), dlci, scale, asking };
     // Now and then a recording stops before everything was sent.
     let stops = maker.rng.pick(&[0, 0, 0, 2]);
     while links.iter().any(Link::waits) && !(stops > 0 && maker.rng.below(100) < stops) {
         if maker.rng.percent(noisy) {
-            maker.noise(&handles);
+            maker.noise(&links, &adapters);
         }
         let index = maker.rng.below(links.len());
         maker.step(index, &mut links[index]);
@@ -361,9 +409,11 @@ pub fn large(rng: &mut Rng) -> Honest {
 
 /// One guessed link on DLCI 18 that sends these PDUs, Rx first.
 fn sent(rng: &mut Rng, sending: [VecDeque<Sending>; 2]) -> Honest {
-    let mut link = Link { handle: 0x40, setup: VecDeque::new(), sending, open: [None, None], begun: false, held: None };
+    let pair = (rng.pick(&[0, 1, 0xFFFF]), 0x40);
+    let (setup, open) = (VecDeque::new(), [None, None]);
+    let mut link = Link { pair, cids: [0x41, 0x42], setup, sending, open, begun: false, held: None };
     let scale = Scale { fragment: 40_000, ..SMALL };
-    let mut maker = Maker { rng, trace: Trace::new(2001), brought: Vec::new(), dlci: 18, scale };
+    let mut maker = Maker { rng, trace: Trace::new(2001), brought: Vec::new(), dlci: 18, scale, asking: false };
     while link.waits() {
         maker.step(0, &mut link);
     }

@@ -2,9 +2,11 @@
 
 use std::cell::RefCell;
 
+use crate::adapters;
 use crate::answer::{Answer, Case, Checked, Difference, Lender, Stretch, Subject, NO_CHANNEL};
 use crate::codec::each_string;
 use crate::expected::{self, LONGEST_FILE};
+use crate::hard;
 use crate::model::{self, packed};
 use crate::rng::Rng;
 use crate::trace::{self, Trace};
@@ -127,11 +129,53 @@ impl<'a> Import<'a> {
         checked
     }
 
+    /// Whether the rule is tolerant.
+    pub fn tolerant(&self) -> bool {
+        self.rule == Rule::Tolerant
+    }
+
+    /// The ways in which the call is told what to import.
+    fn ways(&self) -> &'static [By] {
+        if self.rule == Rule::Strict {
+            &[By::Numbers]
+        } else {
+            &[By::Numbers, By::Options]
+        }
+    }
+
+    /// The file with so much work and output, where they are given; else with enough.
+    pub fn lent(
+        &mut self,
+        file: &[u8],
+        channel: u32,
+        expected: &Answer,
+        work: Option<usize>,
+        out: Option<usize>,
+    ) -> Checked {
+        self.files += 1;
+        let mut lender = std::mem::take(&mut self.lender);
+        let work = work.unwrap_or(8 * file.len());
+        let out = out.unwrap_or(expected.written.len());
+        for &by in self.ways() {
+            self.lend(work, None);
+            let room = expected.values.len();
+            lender.call(
+                expected,
+                out,
+                room,
+                &mut |out, values| self.call(file, work, by, out, channel, values),
+                &|| self.case(file, channel, work, by),
+            )?;
+            self.guards(work, file, channel, by)?;
+        }
+        self.lender = lender;
+        Ok(())
+    }
+
     fn held_by(&self, lender: &mut Lender, file: &[u8], channel: u32, expected: &Answer) -> Checked {
         let enough = 8 * file.len() + [0, 0, 1, 64][self.files % 4];
         let fill = [None, None, Some(0), Some(0xFF), Some(0x3E)][self.files % 5];
-        let ways: &[By] = if self.rule == Rule::Strict { &[By::Numbers] } else { &[By::Numbers, By::Options] };
-        for &by in ways {
+        for &by in self.ways() {
             self.lend(enough, fill);
             lender.about(expected, &mut |out, values| self.call(file, enough, by, out, channel, values), &|| {
                 self.case(file, channel, enough, by)
@@ -213,8 +257,8 @@ impl<'a> Import<'a> {
     }
 
     /// The first `unfinished` places hold the open stretches, in the order of their first
-    /// pieces, and no other place is touched. Of a long file only the DLCI and the bounds
-    /// of what is held are seen.
+    /// pieces, and no other place is touched. Of a long file with few of them only the DLCI
+    /// and the bounds of what is held are seen.
     fn listed(&self, file: &[u8], channel: u32, expected: &Answer, lent: usize, places: usize) -> Checked {
         let unfinished = expected.values[2] as usize;
         let by = By::Places(places);
@@ -223,8 +267,8 @@ impl<'a> Import<'a> {
             return Ok(());
         }
         let found = self.stretches.borrow()[..unfinished].to_vec();
-        let wrong = if file.len() < 20_000 {
-            let open = model::open(file, expected.values[0]);
+        let wrong = if file.len() < 20_000 || unfinished > 4096 {
+            let open = model::open(file, expected.values[0], model::RIGHT);
             (found != open).then(|| format!("{open:?}"))
         } else {
             let fits = |s: &Stretch| u64::from(s.dlci) == expected.values[0] && (1..=65_536).contains(&s.held);
@@ -779,6 +823,13 @@ pub fn large(taker: &mut dyn Taker, rng: &mut Rng) -> Checked {
             taker.file(&trace.file, if round % 2 == 0 { NO_CHANNEL } else { channel })?;
         }
     }
+    // More links than handles, which only the model can be asked for.
+    for twins in hard::twins() {
+        taker.file(&twins.one_handle(256), NO_CHANNEL)?;
+    }
+    for trace in hard::of_many_adapters() {
+        trace.file(128).map_or(Ok(()), |file| taker.file(&file, NO_CHANNEL))?;
+    }
     taker.file(&vec![0; LONGEST_FILE + 1], NO_CHANNEL)?;
     taker.file(&vec![0; LONGEST_FILE], NO_CHANNEL)
 }
@@ -795,6 +846,8 @@ pub fn run_rule(subject: &dyn Subject, options: &Options, group: &'static str, r
     log.line("long buffers", &import.lender);
     fixed(&mut import)?;
     log.line("fixed traces", &import.lender);
+    adapters::by_hand(&mut import)?;
+    log.line("fixed traces of two adapters", &import.lender);
     short(&mut import, &mut rng)?;
     log.line("short files and every beginning of good ones", &import.lender);
     if rule == Rule::NotTolerant {
@@ -816,6 +869,8 @@ pub fn run_rule(subject: &dyn Subject, options: &Options, group: &'static str, r
     log.line("every short RFCOMM frame", &import.lender);
     stretches(&mut import)?;
     log.line("every six steps of sessions and links", &import.lender);
+    adapters::steps(&mut import, if rule == Rule::Strict { 4 } else { 3 })?;
+    log.line("every few steps on two adapters", &import.lender);
     choices(&mut import)?;
     log.line("every four pieces on several DLCIs", &import.lender);
     large(&mut import, &mut rng)?;
@@ -823,14 +878,23 @@ pub fn run_rule(subject: &dyn Subject, options: &Options, group: &'static str, r
     Ok(())
 }
 
-/// The random traces alone.
+/// The random traces alone; in a short run more of them.
 pub fn run_random(subject: &dyn Subject, options: &Options) -> Checked {
-    random(&mut Import::new(subject, Rule::Strict), &mut Rng::new(options.seed), options.size.unwrap_or(50_000))
+    let size = options.size.unwrap_or(50_000).max(2_000);
+    random(&mut Import::new(subject, Rule::Strict), &mut Rng::new(options.seed), size)
 }
 
 /// One part alone.
 pub fn run_fixed(subject: &dyn Subject, _: &Options) -> Checked {
     fixed(&mut Import::new(subject, Rule::Strict))
+}
+
+pub fn run_by_hand(subject: &dyn Subject, _: &Options) -> Checked {
+    adapters::by_hand(&mut Import::new(subject, Rule::Strict))
+}
+
+pub fn run_steps(subject: &dyn Subject, _: &Options) -> Checked {
+    adapters::steps(&mut Import::new(subject, Rule::Strict), 3)
 }
 
 pub fn run_excess(subject: &dyn Subject, _: &Options) -> Checked {

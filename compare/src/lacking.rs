@@ -6,12 +6,12 @@ use crate::gaps::{Found, SIGNS};
 use crate::rng::Rng;
 use crate::trace::{self, acl_packet, l2cap, Trace, DATALINKS};
 
-/// Flags of ACL data, at times with bits that mean nothing.
-fn acl_flags(rng: &mut Rng, datalink: u32, rx: bool) -> u32 {
-    let extra = if rng.percent(20) { rng.next() as u32 } else { 0 };
+/// Flags of ACL data of an adapter, at times with bits that mean nothing.
+fn acl_flags(rng: &mut Rng, datalink: u32, index: u16, rx: bool) -> u32 {
     if datalink == 2001 {
-        return extra << 16 | 4 | u32::from(rx);
+        return u32::from(index) << 16 | 4 | u32::from(rx);
     }
+    let extra = if rng.percent(20) { rng.next() as u32 } else { 0 };
     extra << 2 | u32::from(rx)
 }
 
@@ -42,7 +42,8 @@ fn other(rng: &mut Rng, datalink: u32, packet: &[u8]) -> (u32, Vec<u8>) {
 
 /// How often, in a hundred, a record has something; and the links that there are.
 struct Mood {
-    handles: Vec<u16>,
+    /// Adapters' indexes and handles.
+    links: Vec<(u16, u16)>,
     short: usize,
     drops: usize,
     lacking: usize,
@@ -55,11 +56,12 @@ struct Mood {
 }
 
 impl Mood {
-    fn new(rng: &mut Rng) -> Mood {
-        let handles = [0x000, 0x001, 0x040, 0x041, 0xFFF];
+    fn new(rng: &mut Rng, datalink: u32) -> Mood {
+        let indexes = trace::adapters(rng, datalink);
+        let handles: Vec<u16> = (0..rng.within(1, 3)).map(|_| rng.pick(&[0x000, 0x001, 0x040, 0x041, 0xFFF])).collect();
         let often = [0, 0, 3, 10, 40];
         Mood {
-            handles: (0..rng.within(1, 3)).map(|_| rng.pick(&handles)).collect(),
+            links: trace::on_each(&indexes, &handles),
             short: rng.pick(&often),
             drops: rng.pick(&often),
             lacking: rng.pick(&often),
@@ -144,10 +146,10 @@ fn zeros(rng: &mut Rng, trace: &mut Trace) {
 
 /// A random trace of so many records at most, in which signs meet.
 pub fn made(rng: &mut Rng, records: usize) -> Trace {
-    let mood = Mood::new(rng);
     let datalink = rng.pick(&DATALINKS);
+    let mood = Mood::new(rng, datalink);
     let mut trace = Trace::new(datalink);
-    let mut waiting: BTreeMap<(u16, bool), VecDeque<u8>> = BTreeMap::new();
+    let mut waiting: BTreeMap<((u16, u16), bool), VecDeque<u8>> = BTreeMap::new();
     let mut drops = if rng.percent(20) { rng.below(5) as u32 } else { 0 };
     for _ in 0..rng.within(1, records) {
         if rng.percent(mood.zeros) {
@@ -155,8 +157,8 @@ pub fn made(rng: &mut Rng, records: usize) -> Trace {
             continue;
         }
         drops = mood.drops(rng, drops);
-        let (handle, rx) = (rng.pick(&mood.handles), rng.percent(50));
-        let mut packet = mood.fragment(rng, handle, waiting.entry((handle, rx)).or_default());
+        let (link, rx) = (rng.pick(&mood.links), rng.percent(50));
+        let mut packet = mood.fragment(rng, link.1, waiting.entry((link, rx)).or_default());
         let there = packet.len();
         if rng.percent(mood.lacking) {
             mood.cut(rng, &mut packet);
@@ -168,7 +170,7 @@ pub fn made(rng: &mut Rng, records: usize) -> Trace {
         let (flags, packet) = if rng.percent(mood.others) {
             other(rng, datalink, &packet)
         } else {
-            (acl_flags(rng, datalink, rx), typed(datalink, &packet))
+            (acl_flags(rng, datalink, link.0, rx), typed(datalink, &packet))
         };
         let included = packet.len() as u32;
         let original = match rng.below(8) {
@@ -260,23 +262,33 @@ fn since(rng: &mut Rng) -> u64 {
 /// A mixture under construction.
 struct Mixture {
     trace: Trace,
+    /// The adapters, which share handles.
+    adapters: Vec<u16>,
     drops: u32,
     known: Found,
 }
 
 impl Mixture {
+    /// The index and the handle of a link by its number.
+    fn pair(&self, link: u16) -> (u16, u16) {
+        let many = self.adapters.len() as u16;
+        (self.adapters[usize::from(link % many)], link / many)
+    }
+
     fn packet(&mut self, rng: &mut Rng, link: u16, original: u32, packet: &[u8]) {
         let datalink = self.trace.datalink;
         let packet = typed(datalink, packet);
         let original = (packet.len() as u32).wrapping_add(original);
-        // The direction is one for each link; half of them are received.
-        let flags = acl_flags(rng, datalink, link % 2 == 1);
+        // The direction is one for each handle; half of them are received.
+        let (index, handle) = self.pair(link);
+        let flags = acl_flags(rng, datalink, index, handle % 2 == 1);
         self.trace.row(original, flags, self.drops, since(rng), &packet);
     }
 
     fn step(&mut self, rng: &mut Rng, link: u16, step: Step) {
         let at = self.trace.file.len();
-        let start = |data: &[u8]| acl_packet(link, 2, data);
+        let (_, handle) = self.pair(link);
+        let start = |data: &[u8]| acl_packet(handle, 2, data);
         let whole = start(&l2cap(0x41, &[7]));
         // Of a packet of nine bytes, and of six bytes of data, so many.
         let (part, data) = (rng.below(whole.len()), rng.below(7));
@@ -312,7 +324,7 @@ impl Mixture {
             }
             Step::Stray => {
                 self.known.stray.push(at);
-                self.packet(rng, link, 0, &acl_packet(link, 1, &[9; 6][..data]));
+                self.packet(rng, link, 0, &acl_packet(handle, 1, &[9; 6][..data]));
             }
             Step::Begin | Step::BeginOpen => {
                 if matches!(step, Step::BeginOpen) {
@@ -325,8 +337,8 @@ impl Mixture {
                 self.packet(rng, link, 0, &whole);
             }
             // After at most six bytes of a PDU of seven.
-            Step::More => self.packet(rng, link, 0, &acl_packet(link, 1, &[])),
-            Step::End => self.packet(rng, link, 0, &acl_packet(link, 1, &[0; 7])),
+            Step::More => self.packet(rng, link, 0, &acl_packet(handle, 1, &[])),
+            Step::End => self.packet(rng, link, 0, &acl_packet(handle, 1, &[0; 7])),
         }
     }
 }
@@ -342,7 +354,8 @@ pub fn mixture(rng: &mut Rng, datalink: u32, times: [usize; SIGNS.len()]) -> (Tr
             queues.push(neutral.to_vec().into());
         }
     }
-    let mut mixture = Mixture { trace: Trace::new(datalink), drops: 0, known: Found::default() };
+    let adapters = trace::adapters(rng, datalink);
+    let mut mixture = Mixture { trace: Trace::new(datalink), adapters, drops: 0, known: Found::default() };
     loop {
         let left: Vec<usize> = (0..queues.len()).filter(|i| !queues[*i].is_empty()).collect();
         if left.is_empty() {

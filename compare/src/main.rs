@@ -1,5 +1,6 @@
 //! Holds the proved library against the Rust it was ported from.
 
+mod adapters;
 mod answer;
 mod bench;
 mod codec;
@@ -13,6 +14,7 @@ mod items;
 mod lacking;
 mod misprint;
 mod misread;
+mod mistaken;
 mod model;
 mod names;
 mod order;
@@ -27,6 +29,7 @@ mod times;
 mod tolerant;
 mod trace;
 mod traceprint;
+mod vectors;
 
 use std::process::ExitCode;
 
@@ -37,17 +40,19 @@ usage: compare GROUP [--seed N] [--size N] [--against proved|model]
        compare all [--seed N] [--size N] [--against proved|model]
        compare traceprint PROGRAM [--seed N] [--size N]
        compare selfcheck
-       compare bench GROUP|growth [--only TEXT] [--kib N,N,..] [--judge] [--against proved|model]
+       compare bench GROUP|growth|adapters [--only TEXT] [--kib N,N,..] [--judge] [--against proved|model]
        compare once LABEL KIB [--times N] [--against proved|model]
        compare sample GROUP FILE
        compare stats import|honest|bench [--seed N] [--size N]
 
-GROUP is codec, names, plan, order, import, tolerant or gaps. --size is the number
-of random cases; what is exhaustive stays whole. `all` runs every group that this
-build links. There is no sample of gaps. PROGRAM is the built traceprint.
+GROUP is codec, names, plan, order, import, tolerant, gaps or vectors. --size is the
+number of random cases; what is exhaustive stays whole. `all` runs every group that
+this build links. There is no sample of gaps, and neither sample nor bench of vectors.
+PROGRAM is the built traceprint.
 
 `bench` times the rows of a group, `bench growth` how the times of import grow,
-`bench gaps` how long the signs take as a part of import.
+`bench gaps` how long the signs take as a part of import, `bench adapters` one handle
+on many adapters against as many links that are spread over handles.
 --only takes the rows whose label has TEXT, --kib the sizes of the files of import
 (16 to 1024), and --judge says at the end which rows are over their limit. `once`
 imports the trace of a row --times times and does nothing else.";
@@ -116,7 +121,7 @@ fn cases(counts: &[u64]) -> String {
 
 pub type Group = fn(&dyn Subject, &Options) -> Checked;
 
-const GROUPS: [(&str, Group); 7] = [
+const GROUPS: [(&str, Group); 8] = [
     ("codec", codec::run),
     ("names", names::run),
     ("plan", plan::run),
@@ -124,6 +129,7 @@ const GROUPS: [(&str, Group); 7] = [
     ("import", import::run),
     ("tolerant", tolerant::run),
     ("gaps", signs::run),
+    ("vectors", vectors::run),
 ];
 
 /// Prints a difference; an input too long to print is left in a file.
@@ -150,6 +156,19 @@ fn verdict(checked: Checked) -> bool {
         report(difference);
     }
     checked.is_ok()
+}
+
+/// Runs a group, and says by which way the imports that it was held to were found.
+fn compared((name, group): &(&str, Group), subject: &dyn Subject, options: &Options) -> bool {
+    let good = verdict(group(subject, options));
+    let [direct, renamed, model] = expected::asked();
+    if direct + renamed + model > 0 {
+        println!(
+            "{name}: held to the Rust {direct} times by the file as it is, {renamed} times with a handle of its own for \
+             each adapter's index and handle; to the model {model} times, with more of these than handles"
+        );
+    }
+    good
 }
 
 fn number(text: Option<String>) -> Result<u64, String> {
@@ -194,7 +213,7 @@ fn selfcheck(options: Options) -> bool {
     let (calls, mut missed) = planted::unreported(&GROUPS, &options);
     let (prints, unseen) = misprint::unreported(&options);
     let planted = calls + prints;
-    missed.extend(unseen);
+    missed.extend(unseen.iter().map(ToString::to_string));
     println!("selfcheck: {} of {planted} planted faults reported", planted - missed.len());
     missed.iter().for_each(|label| println!("  not reported: {label}"));
     let without = planted::reported_without(&GROUPS, &options);
@@ -210,11 +229,16 @@ fn run() -> Result<bool, String> {
     let linked = |group: &str| options.model || proved::has(group);
     let need = |group: &str| if linked(group) { Ok(()) } else { Err(format!("built without the feature `{group}`")) };
     match words[..] {
-        ["all"] => Ok(GROUPS.iter().all(|(name, group)| !linked(name) || verdict(group(subject, &options)))),
+        ["all"] => Ok(GROUPS.iter().all(|group| !linked(group.0) || compared(group, subject, &options))),
         ["traceprint", program] => Ok(verdict(traceprint::run_program(program, &options))),
         ["selfcheck"] => Ok(selfcheck(options)),
         ["bench", group] => {
-            need(if group == "growth" { "import" } else { group })?;
+            let calls: &[&str] = match group {
+                "growth" => &["import"],
+                "adapters" => &["import", "gaps"],
+                _ => &[group],
+            };
+            calls.iter().try_for_each(|call| need(call))?;
             bench::run(group, subject, &options).map(verdict).ok_or_else(|| USAGE.into())
         }
         ["once", label, kib] => {
@@ -237,9 +261,9 @@ fn run() -> Result<bool, String> {
             Ok(true)
         }
         [name] => {
-            let (_, group) = GROUPS.iter().find(|(group, _)| *group == name).ok_or(USAGE)?;
+            let group = GROUPS.iter().find(|(group, _)| *group == name).ok_or(USAGE)?;
             need(name)?;
-            Ok(verdict(group(subject, &options)))
+            Ok(compared(group, subject, &options))
         }
         _ => Err(USAGE.into()),
     }

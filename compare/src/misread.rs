@@ -3,7 +3,7 @@
 use std::collections::BTreeMap;
 
 use crate::answer::Answer;
-use crate::gaps::{self, be32, le16, packet_of, Found, Packet, Reading, RIGHT, VALUES};
+use crate::gaps::{self, be32, le16, packet_of, Found, Packet, PacketOf, Reading, RIGHT, VALUES};
 use crate::model;
 
 /// The call, with some of it replaced.
@@ -47,6 +47,7 @@ pub const SHORT_PACKETS: &str = "gaps, every short packet";
 pub const FOUR: &str = "gaps, every four fragments";
 pub const LONG: &str = "gaps, long files";
 pub const LAW: &str = "gaps, the law of starts";
+pub const BY_HAND: &str = "gaps, fixed traces of two adapters";
 
 /// A fault with its label and the group, or part of one, that has to report it.
 type Fault = (&'static str, &'static str, Misread);
@@ -67,7 +68,7 @@ fn finds(change: fn(&mut Found, &[u8])) -> Misread {
 }
 
 /// A call that takes packets otherwise.
-fn takes(packet_of: for<'a> fn(u64, usize, &'a [u8]) -> Option<Packet<'a>>) -> Misread {
+fn takes(packet_of: PacketOf) -> Misread {
     reads(Reading { packet_of, ..RIGHT })
 }
 
@@ -99,8 +100,119 @@ fn moved(found: &mut Found, to: &dyn Fn(usize) -> usize) {
     }
 }
 
-pub fn faults() -> Vec<Fault> {
-    [of_records(), of_packets(), of_calls()].concat()
+pub fn faults() -> Vec<(&'static str, String, Misread)> {
+    let all = [of_records(), of_packets(), of_calls()].concat().into_iter();
+    let all = all.map(|(group, label, misread)| (group, label.to_string(), misread));
+    all.chain(of_adapters()).collect()
+}
+
+/// In the adapter's index and the link, each for the parts that have to report it.
+fn of_adapters() -> impl Iterator<Item = (&'static str, String, Misread)> {
+    let all = &[BY_HAND, MADE, MIXTURES, FOUR][..];
+    let many = &[BY_HAND, MADE, MIXTURES][..];
+    let skips = |packet_of, is_acl| reads(Reading { packet_of, is_acl, ..RIGHT });
+    let first = Misread { answer: |f, w, t, r| gaps::answer(&first_adapter(f), w, t, r), ..NONE };
+    let mut faults = vec![
+        (all, "links are handles".to_string(), takes(|d, at, r| linked(d, at, r, |_, handle| handle))),
+        (many, "an index has 8 bits".into(), takes(|d, at, r| linked(d, at, r, |i, h| 4096 * (i % 256) + h))),
+        (&[BY_HAND, MADE, FOUR], "upper flag bits of 1001 and 1002 are an index".into(), takes(upper_bits)),
+        (
+            all,
+            "all flag bits are compared with 4 and 5".into(),
+            skips(
+                |d, at, r| packet_of(d, at, r).filter(|_| index(d, r) == 0),
+                |d, r| gaps::is_acl(d, r) && index(d, r) == 0,
+            ),
+        ),
+        (
+            &[BY_HAND, MADE, SHORT_PACKETS],
+            "index FFFF is skipped".into(),
+            skips(
+                |d, at, r| packet_of(d, at, r).filter(|_| index(d, r) < 0xFFFF),
+                |d, r| gaps::is_acl(d, r) && index(d, r) < 0xFFFF,
+            ),
+        ),
+        (all, "only the first adapter is read".into(), first),
+        (
+            all,
+            "a start gives up what is open on another adapter".into(),
+            reads(Reading { start_apart: false, ..RIGHT }),
+        ),
+    ];
+    faults.extend(packed().into_iter().map(|(label, packet_of)| (&[BY_HAND][..], label, takes(packet_of))));
+    let each = |(groups, label, misread): (&'static [&'static str], String, Misread)| {
+        groups.iter().map(move |group| (*group, format!("gaps: {label}"), misread))
+    };
+    faults.into_iter().flat_map(each)
+}
+
+/// Links of index and handle packed into a number that does not tell them all apart.
+fn packed() -> Vec<(String, PacketOf)> {
+    let over: [PacketOf; 12] = [
+        shifted::<0>,
+        shifted::<1>,
+        shifted::<2>,
+        shifted::<3>,
+        shifted::<4>,
+        shifted::<5>,
+        shifted::<6>,
+        shifted::<7>,
+        shifted::<8>,
+        shifted::<9>,
+        shifted::<10>,
+        shifted::<11>,
+    ];
+    let few: PacketOf = |d, at, r| linked(d, at, r, |index, handle| 4096 * (index % 16) + handle);
+    let before: PacketOf = |d, at, r| linked(d, at, r, |index, handle| 256 * handle + index);
+    let over = (0..).zip(over).map(|(bits, packet_of)| (format!("links with the index {bits} bits up"), packet_of));
+    over.chain([("links without upper bits".into(), few), ("links with the handle 8 bits up".into(), before)]).collect()
+}
+
+/// The adapter's index of a record.
+fn index(datalink: u64, record: &[u8]) -> usize {
+    if datalink == 2001 {
+        be32(record, 8) as usize / 65536
+    } else {
+        0
+    }
+}
+
+/// The packet of a record, with another link of its index and handle.
+fn linked<'a>(datalink: u64, at: usize, record: &'a [u8], link: fn(usize, usize) -> usize) -> Option<Packet<'a>> {
+    let packet = packet_of(datalink, at, record)?;
+    Some(Packet { link: link(packet.link / 4096, packet.link % 4096), ..packet })
+}
+
+/// The index so many bits above the handle's lowest.
+fn shifted<const BITS: u32>(datalink: u64, at: usize, record: &[u8]) -> Option<Packet<'_>> {
+    linked(datalink, at, record, |index, handle| (index << BITS) + handle)
+}
+
+/// The upper flag bits are an index in every datalink.
+fn upper_bits(datalink: u64, at: usize, record: &[u8]) -> Option<Packet<'_>> {
+    let packet = packet_of(datalink, at, record)?;
+    Some(Packet { link: 4096 * (be32(record, 8) as usize / 65536) + packet.link % 4096, ..packet })
+}
+
+/// The file with no packets but the first adapter's: the others' codes are of something else.
+fn first_adapter(file: &[u8]) -> Vec<u8> {
+    let mut file = file.to_vec();
+    if file.len() < 16 || be32(&file, 12) != 2001 {
+        return file;
+    }
+    let (mut at, mut first) = (16, None);
+    let rows: Vec<(usize, Option<usize>)> = model::records(&file[16..])
+        .0
+        .iter()
+        .map(|row| (row.len(), packet_of(2001, 0, row).map(|packet| packet.link / 4096)))
+        .collect();
+    for (size, index) in rows {
+        if index.is_some_and(|index| *first.get_or_insert(index) != index) {
+            file[at + 10..at + 12].copy_from_slice(&[0, 3]);
+        }
+        at += size;
+    }
+    file
 }
 
 /// In what a record shows by itself.

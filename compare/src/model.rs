@@ -1,4 +1,4 @@
-//! The calls once more, written plainly from document 01 and not from the source:
+//! The calls once more, written plainly from documents 01 and 02 and not from the source:
 //! a second reading to hold against the oracle, a stand-in for the library while
 //! the comparison itself is worked on, and what planted faults are made of. Only
 //! the words of the names come from the oracle; 01 does not repeat them.
@@ -85,7 +85,7 @@ impl Subject for Model {
         let answer = import_in(file, work.len(), stretches.len(), channel, tolerant != 0);
         let number = store(&answer, out, values);
         if number == 0 {
-            fill(stretches, &open(file, answer.values[0]));
+            fill(stretches, &open(file, answer.values[0], RIGHT));
         }
         number
     }
@@ -115,6 +115,40 @@ pub struct Reading {
     pub excess_dropped: bool,
     /// A PDU on CID 1 with a PSM 3 request is done with, and not tried as well.
     pub request_ends: bool,
+    /// The adapter's index by datalink and flags; without one the record is skipped.
+    pub index: fn(u64, u64) -> Option<u32>,
+    /// The link of an index and a handle.
+    pub link: fn(u32, u32) -> u32,
+    /// Records of every adapter are read, not of the first alone.
+    pub every_adapter: bool,
+    /// A start discards nothing of another adapter.
+    pub start_apart: bool,
+    pub keys: Keys,
+}
+
+/// What of a link is looked at, wherever import keys on it.
+#[derive(Clone, Copy)]
+pub struct Keys {
+    /// Open PDUs.
+    pub open: fn(u32) -> u32,
+    /// The channel triple.
+    pub channel: fn(u32) -> u32,
+    /// An earlier PSM 3 request.
+    pub requested: fn(u32) -> u32,
+    pub sessions: fn(u32) -> u32,
+    pub links: fn(u32) -> u32,
+    pub stretch: fn(u32) -> u32,
+}
+
+const WHOLE: fn(u32) -> u32 = |link| link;
+
+/// All of the link everywhere.
+pub const BY_LINK: Keys =
+    Keys { open: WHOLE, channel: WHOLE, requested: WHOLE, sessions: WHOLE, links: WHOLE, stretch: WHOLE };
+
+/// The upper 16 flag bits of 2001; 1001 and 1002 have one adapter.
+pub fn index(datalink: u64, flags: u64) -> Option<u32> {
+    Some(if datalink == 2001 { (flags / 65536) as u32 } else { 0 })
 }
 
 pub const RIGHT: Reading = Reading {
@@ -126,6 +160,11 @@ pub const RIGHT: Reading = Reading {
     request_admits: true,
     excess_dropped: true,
     request_ends: true,
+    index,
+    link: |index, handle| 4096 * index + handle,
+    every_adapter: true,
+    start_apart: true,
+    keys: BY_LINK,
 };
 
 // MDR frames.
@@ -355,18 +394,19 @@ pub fn capture_order(names: &[u8]) -> Answer {
 
 /// True is Rx.
 type Way = bool;
-type Triple = (u16, Way, u16);
+type Triple = (u32, Way, u16);
 
 pub struct Pdu {
     pub ms: u64,
     pub way: Way,
-    pub handle: u16,
+    /// Adapter's index and handle in one number.
+    pub link: u32,
     pub cid: u16,
     pub payload: Vec<u8>,
 }
 
-/// Handle, CID, session and link.
-type Stretch = (u16, u16, u32, u32);
+/// Adapter's index and handle in one number, CID, session, and link of the DLCI.
+type Stretch = (u32, u16, u32, u32);
 
 pub struct Piece {
     pub dlci: u8,
@@ -397,15 +437,15 @@ pub fn records(mut rest: &[u8]) -> (Vec<&[u8]>, usize) {
     (rows, taken)
 }
 
-/// Time, direction and bytes of the ACL packet in a record.
-fn packet(datalink: u64, row: &[u8]) -> Option<(u64, Way, &[u8])> {
+/// Time, direction, flags and bytes of the ACL packet in a record.
+fn packet(datalink: u64, row: &[u8]) -> Option<(u64, Way, u64, &[u8])> {
     let flags = be(&row[8..12]);
     let ms = be(&row[16..24]).saturating_sub(0x00dc_ddb3_0f2f_8000) / 1000;
     let packet = &row[24..];
     if datalink == 2001 {
         return match flags % 65536 {
-            4 => Some((ms, false, packet)),
-            5 => Some((ms, true, packet)),
+            4 => Some((ms, false, flags, packet)),
+            5 => Some((ms, true, flags, packet)),
             _ => None,
         };
     }
@@ -413,7 +453,7 @@ fn packet(datalink: u64, row: &[u8]) -> Option<(u64, Way, &[u8])> {
         return None;
     }
     let packet = if datalink == 1002 { packet.strip_prefix(&[2])? } else { packet };
-    Some((ms, flags % 2 == 1, packet))
+    Some((ms, flags % 2 == 1, flags, packet))
 }
 
 /// Handle, flag and data, if every field is there.
@@ -425,35 +465,61 @@ fn fragment(packet: &[u8]) -> Option<(u16, u16, &[u8])> {
 
 /// How many packets start a PDU.
 pub fn starts(datalink: u64, rows: &[&[u8]]) -> usize {
-    let fragments = rows.iter().filter_map(|row| packet(datalink, row)).filter_map(|(_, _, bytes)| fragment(bytes));
+    let fragments = rows.iter().filter_map(|row| packet(datalink, row)).filter_map(|(_, _, _, bytes)| fragment(bytes));
     fragments.filter(|(_, flag, _)| *flag != 1).count()
 }
 
-pub fn pdus(datalink: u64, rows: &[&[u8]], reading: Reading) -> Vec<Pdu> {
-    let mut open: BTreeMap<(u16, Way), (u64, Vec<u8>)> = BTreeMap::new();
-    let mut pdus = Vec::new();
+/// A packet all of whose fields are there.
+struct Packet<'a> {
+    ms: u64,
+    way: Way,
+    link: u32,
+    start: bool,
+    data: &'a [u8],
+}
+
+fn packets<'a>(datalink: u64, rows: &[&'a [u8]], reading: Reading) -> Vec<Packet<'a>> {
+    let mut first = None;
+    let mut packets = Vec::new();
     for row in rows {
-        let Some((ms, way, bytes)) = packet(datalink, row) else { continue };
+        let Some((ms, way, flags, bytes)) = packet(datalink, row) else { continue };
         let Some((handle, flag, data)) = fragment(bytes) else { continue };
-        let before = open.remove(&(handle, way));
-        let (first, bytes) = match (flag == 1, before) {
-            (true, None) => continue,
-            (true, Some((first, before))) => (first, [&before, data].concat()),
-            (false, Some((first, before))) if !reading.start_discards => (first, [&before, data].concat()),
-            (false, _) => (ms, data.to_vec()),
+        let Some(index) = (reading.index)(datalink, flags) else { continue };
+        if reading.every_adapter || *first.get_or_insert(index) == index {
+            let link = (reading.link)(index, u32::from(handle));
+            packets.push(Packet { ms, way, link, start: flag != 1, data });
+        }
+    }
+    packets
+}
+
+pub fn pdus(datalink: u64, rows: &[&[u8]], reading: Reading) -> Vec<Pdu> {
+    let mut open: BTreeMap<(u32, Way), (u64, Vec<u8>)> = BTreeMap::new();
+    let mut pdus = Vec::new();
+    for Packet { ms, way, link, start, data } in packets(datalink, rows, reading) {
+        let key = ((reading.keys.open)(link), way);
+        let before = open.remove(&key);
+        if start && !reading.start_apart {
+            open.retain(|(other, side), _| (other % 4096, *side) != (link % 4096, way));
+        }
+        let (first, bytes) = match (start, before) {
+            (false, None) => continue,
+            (false, Some((first, before))) => (first, [&before, data].concat()),
+            (true, Some((first, before))) if !reading.start_discards => (first, [&before, data].concat()),
+            (true, _) => (ms, data.to_vec()),
         };
         let ms = if reading.last_time { ms } else { first };
         match le16(&bytes, 0) {
             Some(length) if bytes.len() >= 4 + usize::from(length) => {
                 let cid = le16(&bytes, 2).unwrap();
                 let (pdu, excess) = bytes.split_at(4 + usize::from(length));
-                pdus.push(Pdu { ms, way, handle, cid, payload: pdu[4..].to_vec() });
+                pdus.push(Pdu { ms, way, link, cid, payload: pdu[4..].to_vec() });
                 if !reading.excess_dropped && !excess.is_empty() {
-                    open.insert((handle, way), (ms, excess.to_vec()));
+                    open.insert(key, (ms, excess.to_vec()));
                 }
             }
             _ => {
-                open.insert((handle, way), (first, bytes));
+                open.insert(key, (first, bytes));
             }
         }
     }
@@ -484,21 +550,22 @@ pub fn channels(pdus: &[Pdu], reading: Reading) -> (Vec<Triple>, Vec<Triple>) {
     let mut named = Vec::new();
     let mut requested: Vec<Triple> = Vec::new();
     for pdu in pdus.iter().filter(|p| p.cid == 1) {
+        let (own, asked) = ((reading.keys.channel)(pdu.link), (reading.keys.requested)(pdu.link));
         for (code, body) in commands(&pdu.payload) {
             let (Some(first), Some(second)) = (le16(body, 0), le16(body, 2)) else { continue };
             if code == 2 {
-                let triple = (pdu.handle, !pdu.way, second);
+                let triple = (own, !pdu.way, second);
                 named.push(triple);
                 if first == 3 {
                     if reading.request_admits {
                         admitted.push(triple);
                     }
-                    requested.push((pdu.handle, pdu.way, second));
+                    requested.push((asked, pdu.way, second));
                 }
             } else if code == 3 {
-                let triple = (pdu.handle, !pdu.way, first);
+                let triple = (own, !pdu.way, first);
                 named.push(triple);
-                if le16(body, 4) == Some(0) && requested.contains(&(pdu.handle, !pdu.way, second)) {
+                if le16(body, 4) == Some(0) && requested.contains(&(asked, !pdu.way, second)) {
                     admitted.push(triple);
                 }
             }
@@ -523,35 +590,37 @@ fn uih(frame: &[u8]) -> Option<(u8, &[u8])> {
 
 pub fn pieces(pdus: &[Pdu], reading: Reading) -> Vec<Piece> {
     let (mut admitted, mut named) = channels(pdus, reading);
-    let mut sessions: BTreeMap<u16, u32> = BTreeMap::new();
-    let mut links: BTreeMap<(u16, u8), u32> = BTreeMap::new();
+    let mut sessions: BTreeMap<u32, u32> = BTreeMap::new();
+    let mut links: BTreeMap<(u32, u8), u32> = BTreeMap::new();
     let mut pieces = Vec::new();
+    let keys = reading.keys;
     for (i, pdu) in pdus.iter().enumerate() {
+        let (of_sessions, of_links) = ((keys.sessions)(pdu.link), (keys.links)(pdu.link));
         if !reading.whole_file {
             (admitted, named) = channels(&pdus[..=i], reading);
         }
         if asks(pdu) {
-            *sessions.entry(pdu.handle).or_insert(0) += 1;
+            *sessions.entry(of_sessions).or_insert(0) += 1;
             if reading.request_ends {
                 continue;
             }
         }
-        let triple = (pdu.handle, pdu.way, pdu.cid);
+        let triple = ((keys.channel)(pdu.link), pdu.way, pdu.cid);
         let guessed = pdu.cid >= 0x40 && named.binary_search(&triple).is_err();
         if !guessed && admitted.binary_search(&triple).is_err() {
             continue;
         }
         if pdu.payload.len() >= 2 && matches!(pdu.payload[1], 0x2F | 0x3F) {
             match pdu.payload[0] / 4 {
-                0 => *sessions.entry(pdu.handle).or_insert(0) += 1,
-                dlci => *links.entry((pdu.handle, dlci)).or_insert(0) += 1,
+                0 => *sessions.entry(of_sessions).or_insert(0) += 1,
+                dlci => *links.entry((of_links, dlci)).or_insert(0) += 1,
             }
         } else if let Some((dlci, information)) = uih(&pdu.payload) {
             if dlci == 0 || information.is_empty() {
                 continue;
             }
-            let mut session = sessions.get(&pdu.handle).copied().unwrap_or(0);
-            let link = links.get(&(pdu.handle, dlci)).copied().unwrap_or(0);
+            let mut session = sessions.get(&of_sessions).copied().unwrap_or(0);
+            let link = links.get(&(of_links, dlci)).copied().unwrap_or(0);
             if !reading.sessions {
                 session = 0;
             }
@@ -559,7 +628,7 @@ pub fn pieces(pdus: &[Pdu], reading: Reading) -> Vec<Piece> {
                 dlci,
                 ms: pdu.ms,
                 way: pdu.way,
-                stretch: (pdu.handle, pdu.cid, session, link),
+                stretch: ((keys.stretch)(pdu.link), pdu.cid, session, link),
                 information: information.to_vec(),
             });
         }
@@ -613,15 +682,15 @@ fn buffers(pieces: &[&Piece], reading: Reading) -> (Spans, BTreeMap<(Stretch, Wa
 
 /// The stretches of a DLCI that are open at the end of a file with a good header, in the
 /// order of their first pieces.
-pub fn open(file: &[u8], dlci: u64) -> Vec<answer::Stretch> {
-    let pieces = pieces(&pdus(be(&file[12..16]), &records(&file[16..]).0, RIGHT), RIGHT);
+pub fn open(file: &[u8], dlci: u64, reading: Reading) -> Vec<answer::Stretch> {
+    let pieces = pieces(&pdus(be(&file[12..16]), &records(&file[16..]).0, reading), reading);
     let own: Vec<&Piece> = pieces.iter().filter(|p| u64::from(p.dlci) == dlci).collect();
-    let mut buffers = buffers(&own, RIGHT).1;
+    let mut buffers = buffers(&own, reading).1;
     // the first piece of a key takes its buffer out
     let stretch = |piece: &&Piece| {
         let held = buffers.remove(&(piece.stretch, piece.way))?;
-        let (handle, cid, sessions, links) = piece.stretch;
-        let way = 2 * u32::from(handle) + u32::from(piece.way);
+        let (link, cid, sessions, links) = piece.stretch;
+        let way = 2 * link + u32::from(piece.way);
         Some(answer::Stretch { way, cid: u32::from(cid), dlci: dlci as u32, sessions, links, held: held.len() as u32 })
     };
     own.iter().filter_map(stretch).collect()

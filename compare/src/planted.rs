@@ -4,6 +4,7 @@
 use crate::answer::{chosen, Answer, Stretch, Subject, NO_CHANNEL};
 use crate::expected::LONGEST_FILE;
 use crate::misread::{self, Misread};
+use crate::mistaken::{self, RANDOM};
 use crate::model::{self, Reading, RIGHT};
 use crate::{import, signs, tolerant, Group, Options};
 
@@ -16,7 +17,9 @@ struct Planted {
     is_command_name: fn(&[u8]) -> bool,
     plan: fn(&[u8], &[u8]) -> Answer,
     capture_order: fn(&[u8]) -> Answer,
-    import: fn(&[u8], usize, u32, bool) -> Answer,
+    /// How import reads.
+    reading: Reading,
+    import: fn(Reading, &[u8], usize, u32, bool) -> Answer,
     /// Stores an answer in what is lent.
     store: fn(&Answer, &mut [u8], &mut [u64]) -> u32,
     /// Changes work, whatever the answer.
@@ -26,7 +29,7 @@ struct Planted {
     /// Fills the places with the open stretches, after this number.
     fill: fn(u32, &mut [Stretch], &[Stretch]),
     /// Import by a list of options, with so much work, and how its answer is stored.
-    import_with: fn(&[u8], usize, &[u64]) -> Answer,
+    import_with: fn(Reading, &[u8], usize, &[u64]) -> Answer,
     store_with: fn(&Answer, &mut [u8], &mut [u64]) -> u32,
     /// Changes work in the call with options, whatever the answer.
     spoils_with: bool,
@@ -44,19 +47,23 @@ const NONE: Planted = Planted {
     is_command_name: model::is_command_name,
     plan: model::plan,
     capture_order: model::capture_order,
-    import: |file, work, channel, tolerant| read(file, work, channel, tolerant, RIGHT),
+    reading: RIGHT,
+    import: |reading, file, work, channel, tolerant| read(file, work, channel, tolerant, reading),
     store: model::store,
     spoils: false,
     import_in: |planted, file, work, places, channel, tolerant| match places_want(file.len()) {
         wanted if places < wanted => Answer::refused(2, &[]),
-        _ => (planted.import)(file, work, channel, tolerant),
+        _ => (planted.import)(planted.reading, file, work, channel, tolerant),
     },
     fill: |number, places, open| {
         if number == 0 {
             model::fill(places, open);
         }
     },
-    import_with: |file, work, options| by_options(file, work, chosen(options)),
+    import_with: |reading, file, work, options| {
+        let (channel, tolerant) = chosen(options);
+        read(file, work, channel, tolerant, reading)
+    },
     store_with: model::store,
     spoils_with: false,
     gaps: misread::NONE,
@@ -123,7 +130,8 @@ impl Subject for Planted {
         if self.spoils && !work.is_empty() {
             work[work.len() / 2] ^= 0xFF;
         }
-        (self.store)(&(self.import)(file, work.len(), channel, tolerant != 0), out, values)
+        let answer = (self.import)(self.reading, file, work.len(), channel, tolerant != 0);
+        (self.store)(&answer, out, values)
     }
 
     fn import_stretches(
@@ -138,7 +146,7 @@ impl Subject for Planted {
     ) -> u32 {
         let answer = (self.import_in)(self, file, work.len(), stretches.len(), channel, tolerant != 0);
         let number = (self.store)(&answer, out, values);
-        let open = if number == 0 { model::open(file, answer.values[0]) } else { Vec::new() };
+        let open = if number == 0 { model::open(file, answer.values[0], self.reading) } else { Vec::new() };
         (self.fill)(number, stretches, &open);
         number
     }
@@ -147,7 +155,7 @@ impl Subject for Planted {
         if self.spoils_with && !work.is_empty() {
             work[work.len() / 2] ^= 0xFF;
         }
-        (self.store_with)(&(self.import_with)(file, work.len(), options), out, values)
+        (self.store_with)(&(self.import_with)(self.reading, file, work.len(), options), out, values)
     }
 
     fn gaps(&self, file: &[u8], work: &mut [u8], tolerant: u32, values: &mut [u64]) -> u32 {
@@ -169,17 +177,20 @@ fn changed(file: &[u8], work: usize, channel: u32, tolerant: bool, change: fn(&m
 }
 
 /// Parts of a group, for faults that each of them has to report alone.
-const RANDOM: &str = "import, random traces";
 const FIXED: &str = "import, fixed traces";
 const FRAGMENTS: &str = "import, every three fragments of two PDUs";
 const CID_1: &str = "import, every four PDUs on CID 1";
 const STRICT: &str = "tolerant, switched to strict";
-const PARTS: [(&str, Group); 11] = [
+const PARTS: [(&str, Group); 15] = [
     (RANDOM, import::run_random),
     (FIXED, import::run_fixed),
     (FRAGMENTS, import::run_excess),
     (CID_1, import::run_doubled),
     (STRICT, tolerant::run_strict),
+    (mistaken::BY_HAND, import::run_by_hand),
+    (mistaken::STEPS, import::run_steps),
+    (mistaken::HONEST, tolerant::run_honest),
+    (misread::BY_HAND, signs::run_by_hand),
     (misread::MADE, signs::run_made),
     (misread::MIXTURES, signs::run_mixtures),
     (misread::SHORT_PACKETS, signs::run_packets),
@@ -188,10 +199,8 @@ const PARTS: [(&str, Group); 11] = [
     (misread::LAW, signs::run_law),
 ];
 
-const EXCESS: Planted =
-    Planted { import: |f, w, c, t| read(f, w, c, t, Reading { excess_dropped: false, ..RIGHT }), ..NONE };
-const TRIED_TOO: Planted =
-    Planted { import: |f, w, c, t| read(f, w, c, t, Reading { request_ends: false, ..RIGHT }), ..NONE };
+const EXCESS: Planted = Planted { reading: Reading { excess_dropped: false, ..RIGHT }, ..NONE };
+const TRIED_TOO: Planted = Planted { reading: Reading { request_ends: false, ..RIGHT }, ..NONE };
 
 /// Each fault with the group, or part of one, that has to report it.
 fn faults() -> Vec<(&'static str, &'static str, Planted)> {
@@ -521,27 +530,27 @@ fn faults() -> Vec<(&'static str, &'static str, Planted)> {
         (
             "import",
             "a partial PDU is kept past a start",
-            Planted { import: |f, w, c, t| read(f, w, c, t, Reading { start_discards: false, ..RIGHT }), ..NONE },
+            Planted { reading: Reading { start_discards: false, ..RIGHT }, ..NONE },
         ),
         (
             "import",
             "a new session finishes an old frame",
-            Planted { import: |f, w, c, t| read(f, w, c, t, Reading { sessions: false, ..RIGHT }), ..NONE },
+            Planted { reading: Reading { sessions: false, ..RIGHT }, ..NONE },
         ),
         (
             "import",
             "channels are judged before the file's end",
-            Planted { import: |f, w, c, t| read(f, w, c, t, Reading { whole_file: false, ..RIGHT }), ..NONE },
+            Planted { reading: Reading { whole_file: false, ..RIGHT }, ..NONE },
         ),
         (
             "import",
             "a source is admitted only by a response",
-            Planted { import: |f, w, c, t| read(f, w, c, t, Reading { request_admits: false, ..RIGHT }), ..NONE },
+            Planted { reading: Reading { request_admits: false, ..RIGHT }, ..NONE },
         ),
         (
             "import",
             "a PDU has the time of its first fragment",
-            Planted { import: |f, w, c, t| read(f, w, c, t, Reading { last_time: false, ..RIGHT }), ..NONE },
+            Planted { reading: Reading { last_time: false, ..RIGHT }, ..NONE },
         ),
         (RANDOM, "bytes in excess of a PDU begin the next, random traces", EXCESS),
         (FIXED, "bytes in excess of a PDU begin the next, fixed traces", EXCESS),
@@ -551,21 +560,13 @@ fn faults() -> Vec<(&'static str, &'static str, Planted)> {
         (FIXED, "a PDU with a PSM 3 request is tried as well, fixed traces", TRIED_TOO),
         (CID_1, "a PDU with a PSM 3 request is tried as well, every four PDUs on CID 1", TRIED_TOO),
         ("tolerant", "a PDU with a PSM 3 request is tried as well, tolerant", TRIED_TOO),
-        (
-            "import",
-            "65,536 bytes are cleared",
-            Planted { import: |f, w, c, t| read(f, w, c, t, Reading { longest: 65_535, ..RIGHT }), ..NONE },
-        ),
-        (
-            "import",
-            "65,537 bytes stay",
-            Planted { import: |f, w, c, t| read(f, w, c, t, Reading { longest: 65_537, ..RIGHT }), ..NONE },
-        ),
+        ("import", "65,536 bytes are cleared", Planted { reading: Reading { longest: 65_535, ..RIGHT }, ..NONE }),
+        ("import", "65,537 bytes stay", Planted { reading: Reading { longest: 65_537, ..RIGHT }, ..NONE }),
         (
             "import",
             "everything is refused with 6",
             Planted {
-                import: |f, w, c, t| match read(f, w, c, t, RIGHT) {
+                import: |_, f, w, c, t| match read(f, w, c, t, RIGHT) {
                     a if a.number == 0 => Answer::refused(6, &[]),
                     a => a,
                 },
@@ -575,13 +576,13 @@ fn faults() -> Vec<(&'static str, &'static str, Planted)> {
         (
             "import",
             "unfinished is invented",
-            Planted { import: |f, w, c, t| changed(f, w, c, t, |a| a.values[2] = 0), ..NONE },
+            Planted { import: |_, f, w, c, t| changed(f, w, c, t, |a| a.values[2] = 0), ..NONE },
         ),
         (
             "import",
             "the first span is listed each time",
             Planted {
-                import: |f, w, c, t| {
+                import: |_, f, w, c, t| {
                     changed(f, w, c, t, |a| {
                         let n = 6 + u32::from_le_bytes(a.written[..4].try_into().unwrap()) as usize;
                         for at in (n..a.written.len().saturating_sub(n) + 1).step_by(n) {
@@ -595,18 +596,18 @@ fn faults() -> Vec<(&'static str, &'static str, Planted)> {
         (
             "import",
             "the channel is not looked at",
-            Planted { import: |f, w, _, t| read(f, w, NO_CHANNEL, t, RIGHT), ..NONE },
+            Planted { import: |_, f, w, _, t| read(f, w, NO_CHANNEL, t, RIGHT), ..NONE },
         ),
         (
             "import",
             "work one byte short is enough",
-            Planted { import: |f, w, c, t| read(f, w + 1, c, t, RIGHT), ..NONE },
+            Planted { import: |_, f, w, c, t| read(f, w + 1, c, t, RIGHT), ..NONE },
         ),
         ("import", "work is touched by a refusal", Planted { spoils: true, ..NONE }),
         (
             "import",
             "places for stretches are not counted",
-            Planted { import_in: |p, f, w, _, c, t| (p.import)(f, w, c, t), ..NONE },
+            Planted { import_in: |p, f, w, _, c, t| (p.import)(p.reading, f, w, c, t), ..NONE },
         ),
         (
             "import",
@@ -630,7 +631,7 @@ fn faults() -> Vec<(&'static str, &'static str, Planted)> {
             Planted {
                 import_in: |p, f, w, places, c, t| match places < f.len() / 24 {
                     true => Answer::refused(2, &[]),
-                    false => (p.import)(f, w, c, t),
+                    false => (p.import)(p.reading, f, w, c, t),
                 },
                 ..NONE
             },
@@ -705,10 +706,21 @@ fn faults() -> Vec<(&'static str, &'static str, Planted)> {
             },
         ),
         (
+            mistaken::BY_HAND,
+            "a stretch that is listed has no index",
+            Planted {
+                fill: |number, places, open| {
+                    let without = |stretch: &Stretch| Stretch { way: stretch.way % 8192, ..*stretch };
+                    (NONE.fill)(number, places, &open.iter().map(without).collect::<Vec<_>>());
+                },
+                ..NONE
+            },
+        ),
+        (
             "tolerant",
             "the tail offset is the file's length",
             Planted {
-                import: |f, w, c, t| {
+                import: |_, f, w, c, t| {
                     let mut a = read(f, w, c, t, RIGHT);
                     if a.number == 0 {
                         a.values[3] = f.len() as u64;
@@ -721,7 +733,7 @@ fn faults() -> Vec<(&'static str, &'static str, Planted)> {
         (
             "tolerant",
             "the tolerant rule is strict",
-            Planted { import: |f, w, c, _| read(f, w, c, false, RIGHT), ..NONE },
+            Planted { import: |_, f, w, c, _| read(f, w, c, false, RIGHT), ..NONE },
         ),
     ]
 }
@@ -732,23 +744,23 @@ fn faults_of_options() -> Vec<(&'static str, &'static str, Planted)> {
         (
             "tolerant",
             "options: the channel is not looked at",
-            Planted { import_with: |f, w, o| by_options(f, w, (NO_CHANNEL, chosen(o).1)), ..NONE },
+            Planted { import_with: |_, f, w, o| by_options(f, w, (NO_CHANNEL, chosen(o).1)), ..NONE },
         ),
         (
             "tolerant",
             "options: the rule is strict whatever they say",
-            Planted { import_with: |f, w, o| by_options(f, w, (chosen(o).0, false)), ..NONE },
+            Planted { import_with: |_, f, w, o| by_options(f, w, (chosen(o).0, false)), ..NONE },
         ),
         (
             STRICT,
             "options: the rule is tolerant whatever they say",
-            Planted { import_with: |f, w, o| by_options(f, w, (chosen(o).0, true)), ..NONE },
+            Planted { import_with: |_, f, w, o| by_options(f, w, (chosen(o).0, true)), ..NONE },
         ),
         (
             "tolerant",
             "options: the channel is read from the place of the rule",
             Planted {
-                import_with: |f, w, o| by_options(f, w, (chosen(o.get(1..).unwrap_or(&[])).0, chosen(o).1)),
+                import_with: |_, f, w, o| by_options(f, w, (chosen(o.get(1..).unwrap_or(&[])).0, chosen(o).1)),
                 ..NONE
             },
         ),
@@ -756,7 +768,7 @@ fn faults_of_options() -> Vec<(&'static str, &'static str, Planted)> {
             STRICT,
             "options: the rule is read from the place of the channel",
             Planted {
-                import_with: |f, w, o| by_options(f, w, (chosen(o).0, o.first().is_some_and(|&n| n != 0))),
+                import_with: |_, f, w, o| by_options(f, w, (chosen(o).0, o.first().is_some_and(|&n| n != 0))),
                 ..NONE
             },
         ),
@@ -764,20 +776,20 @@ fn faults_of_options() -> Vec<(&'static str, &'static str, Planted)> {
             "tolerant",
             "options: the rule is read from the place after its own",
             Planted {
-                import_with: |f, w, o| by_options(f, w, (chosen(o).0, o.get(2).is_some_and(|&n| n != 0))),
+                import_with: |_, f, w, o| by_options(f, w, (chosen(o).0, o.get(2).is_some_and(|&n| n != 0))),
                 ..NONE
             },
         ),
         (
             "tolerant",
             "options: 1 alone is tolerant",
-            Planted { import_with: |f, w, o| by_options(f, w, (chosen(o).0, o.get(1) == Some(&1))), ..NONE },
+            Planted { import_with: |_, f, w, o| by_options(f, w, (chosen(o).0, o.get(1) == Some(&1))), ..NONE },
         ),
         (
             "tolerant",
             "options: a channel is cut to 32 bits",
             Planted {
-                import_with: |f, w, o| {
+                import_with: |_, f, w, o| {
                     by_options(f, w, (o.first().map_or(NO_CHANNEL, |&n| (n as u32).min(NO_CHANNEL)), chosen(o).1))
                 },
                 ..NONE
@@ -787,7 +799,7 @@ fn faults_of_options() -> Vec<(&'static str, &'static str, Planted)> {
             "tolerant",
             "options: a channel is cut to 8 bits",
             Planted {
-                import_with: |f, w, o| {
+                import_with: |_, f, w, o| {
                     by_options(f, w, (o.first().map_or(NO_CHANNEL, |&n| u32::from(n as u8)), chosen(o).1))
                 },
                 ..NONE
@@ -797,59 +809,59 @@ fn faults_of_options() -> Vec<(&'static str, &'static str, Planted)> {
             STRICT,
             "options: without a channel, 0 is asked for",
             Planted {
-                import_with: |f, w, o| by_options(f, w, if o.is_empty() { (0, false) } else { chosen(o) }),
+                import_with: |_, f, w, o| by_options(f, w, if o.is_empty() { (0, false) } else { chosen(o) }),
                 ..NONE
             },
         ),
         (
             STRICT,
             "options: without a rule, it is tolerant",
-            Planted { import_with: |f, w, o| by_options(f, w, (chosen(o).0, o.len() < 2 || chosen(o).1)), ..NONE },
+            Planted { import_with: |_, f, w, o| by_options(f, w, (chosen(o).0, o.len() < 2 || chosen(o).1)), ..NONE },
         ),
         (
             "tolerant",
             "options: of more than there are, none counts",
-            Planted { import_with: |f, w, o| by_options(f, w, chosen(if o.len() > 2 { &[] } else { o })), ..NONE },
+            Planted { import_with: |_, f, w, o| by_options(f, w, chosen(if o.len() > 2 { &[] } else { o })), ..NONE },
         ),
         (
             "tolerant",
             "options: one frame too many is counted",
-            Planted { import_with: |f, w, o| numbered(f, w, o, 0, |a, _| a.values[1] += 1), ..NONE },
+            Planted { import_with: |_, f, w, o| numbered(f, w, o, 0, |a, _| a.values[1] += 1), ..NONE },
         ),
         (
             "tolerant",
             "options: unfinished is invented",
-            Planted { import_with: |f, w, o| numbered(f, w, o, 0, |a, _| a.values[2] = 0), ..NONE },
+            Planted { import_with: |_, f, w, o| numbered(f, w, o, 0, |a, _| a.values[2] = 0), ..NONE },
         ),
         (
             "tolerant",
             "options: the tail offset is the file's length",
-            Planted { import_with: |f, w, o| numbered(f, w, o, 0, |a, f| a.values[3] = f.len() as u64), ..NONE },
+            Planted { import_with: |_, f, w, o| numbered(f, w, o, 0, |a, f| a.values[3] = f.len() as u64), ..NONE },
         ),
         (
             "tolerant",
             "options: the tail offset counts from after the header",
-            Planted { import_with: |f, w, o| numbered(f, w, o, 0, |a, _| a.values[3] -= 16), ..NONE },
+            Planted { import_with: |_, f, w, o| numbered(f, w, o, 0, |a, _| a.values[3] -= 16), ..NONE },
         ),
         (
             "tolerant",
             "options: a list is told one byte shorter than it is",
-            Planted { import_with: |f, w, o| numbered(f, w, o, 0, |a, _| a.values[4] -= 1), ..NONE },
+            Planted { import_with: |_, f, w, o| numbered(f, w, o, 0, |a, _| a.values[4] -= 1), ..NONE },
         ),
         (
             "tolerant",
             "options: 4 carries nothing",
-            Planted { import_with: |f, w, o| numbered(f, w, o, 4, |a, _| a.values.clear()), ..NONE },
+            Planted { import_with: |_, f, w, o| numbered(f, w, o, 4, |a, _| a.values.clear()), ..NONE },
         ),
         (
             STRICT,
             "options: 5 carries the file's length",
-            Planted { import_with: |f, w, o| numbered(f, w, o, 5, |a, f| a.values[0] = f.len() as u64), ..NONE },
+            Planted { import_with: |_, f, w, o| numbered(f, w, o, 5, |a, f| a.values[0] = f.len() as u64), ..NONE },
         ),
         (
             "tolerant",
             "options: 6 is told as 5",
-            Planted { import_with: |f, w, o| numbered(f, w, o, 6, |a, _| a.number = 5), ..NONE },
+            Planted { import_with: |_, f, w, o| numbered(f, w, o, 6, |a, _| a.number = 5), ..NONE },
         ),
         (
             "tolerant",
@@ -906,7 +918,7 @@ fn faults_of_options() -> Vec<(&'static str, &'static str, Planted)> {
         (
             "tolerant",
             "options: work one byte short is enough",
-            Planted { import_with: |f, w, o| by_options(f, w + 1, chosen(o)), ..NONE },
+            Planted { import_with: |_, f, w, o| by_options(f, w + 1, chosen(o)), ..NONE },
         ),
         ("tolerant", "options: work is touched by a refusal", Planted { spoils_with: true, ..NONE }),
     ]
@@ -927,18 +939,27 @@ pub fn reported_without(groups: &[(&'static str, Group)], options: &Options) -> 
     groups.iter().filter(|(_, group)| group(&NONE, options).is_err()).map(|(name, _)| *name).collect()
 }
 
-/// Runs every fault's group on it; the labels of those that no one reported.
-pub fn unreported(groups: &[(&'static str, Group)], options: &Options) -> (usize, Vec<&'static str>) {
-    let mut missed = Vec::new();
-    let mut faults = faults();
-    faults.extend(faults_of_options());
+/// All faults.
+fn all() -> Vec<(&'static str, String, Planted)> {
+    let labelled = [faults(), faults_of_options()].concat().into_iter();
+    let mut all: Vec<_> = labelled.map(|(group, label, planted)| (group, label.to_string(), planted)).collect();
+    let mistaken = mistaken::faults().into_iter();
+    all.extend(mistaken.map(|(group, label, reading)| (group, label, Planted { reading, ..NONE })));
     let misread = misread::faults().into_iter();
-    faults.extend(misread.map(|(group, label, gaps)| (group, label, Planted { gaps, ..NONE })));
-    for (name, label, planted) in &faults {
-        let (_, group) = groups.iter().chain(&PARTS).find(|(group, _)| group == name).expect("a group");
-        if group(planted, options).is_ok() {
-            missed.push(*label);
+    all.extend(misread.map(|(group, label, gaps)| (group, label, Planted { gaps, ..NONE })));
+    all
+}
+
+/// Runs every fault's group on it; the labels of those that no one reported.
+pub fn unreported(groups: &[(&'static str, Group)], options: &Options) -> (usize, Vec<String>) {
+    let mut missed = Vec::new();
+    let faults = all();
+    let planted = faults.len();
+    for (name, label, planted) in faults {
+        let (_, group) = groups.iter().chain(&PARTS).find(|(group, _)| *group == name).expect("a group");
+        if group(&planted, options).is_ok() {
+            missed.push(format!("{label}, by {name}"));
         }
     }
-    (faults.len(), missed)
+    (planted, missed)
 }

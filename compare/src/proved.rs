@@ -21,6 +21,8 @@ pub fn has(group: &str) -> bool {
         ("tolerant", cfg!(feature = "tolerant")),
         ("stretches", cfg!(feature = "stretches")),
         ("gaps", cfg!(feature = "gaps")),
+        // What the cases call.
+        ("vectors", cfg!(all(feature = "import", feature = "tolerant"))),
     ];
     groups.contains(&(group, true))
 }

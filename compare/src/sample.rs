@@ -1,6 +1,7 @@
 //! A fixed list of the oracle's answers, for a program that replays them where no
 //! Rust is at hand. The layout is in README.md.
 
+use crate::adapters;
 use crate::answer::{Answer, NO_CHANNEL};
 use crate::codec;
 use crate::expected;
@@ -200,13 +201,14 @@ fn order_cases(sample: &mut Sample, rng: &mut Rng) {
     }
 }
 
-/// Traces small enough for the sample, half of them with something to import.
+/// Traces small enough for the sample, most of them with something to import, and a third of more than one adapter.
 fn traces(rng: &mut Rng, count: usize) -> Vec<(trace::Trace, u32)> {
     let mut traces = Vec::new();
     while traces.len() < count {
         let (trace, channel) = trace::plain(rng, 20);
         let wanted = expected::import_strict(&trace.file, channel).number == if traces.len() % 4 == 3 { 6 } else { 0 };
-        if wanted && trace.file.len() < 1200 {
+        let many = traces.len() % 3 == 2;
+        if wanted && trace.file.len() < 1200 && many == (expected::adapters(&trace.file) > 1) {
             traces.push((trace, channel));
         }
     }
@@ -220,6 +222,9 @@ fn import_cases(sample: &mut Sample, rng: &mut Rng) {
     }
     for datalink in trace::DATALINKS {
         sample.import_strict(&import::small(datalink).file, NO_CHANNEL);
+    }
+    for file in adapters::short() {
+        sample.import_strict(&file, NO_CHANNEL);
     }
     for (trace, channel) in traces(rng, 60) {
         sample.import_strict(&trace.file, channel);
@@ -235,16 +240,17 @@ fn tolerant_cases(sample: &mut Sample, rng: &mut Rng) {
     let mut made = 0;
     while made < 6 {
         let recording = honest::recording(rng, honest::Scale { links: 2, frames: 2, ..honest::SMALL });
-        if recording.file.len() > 1200 {
+        let (length, many) = (recording.file.len(), made % 2 == 1);
+        if length > 1000 || recording.left(length).number != 0 || many != (expected::adapters(&recording.file) > 1) {
             continue;
         }
         made += 1;
         for _ in 0..15 {
-            let n = rng.within(16, recording.file.len());
+            let n = rng.within(16, length);
             sample.import_tolerant(&recording.file[..n], recording.channel());
         }
     }
-    for (trace, channel) in traces(rng, 30) {
+    for (trace, channel) in traces(rng, 24) {
         let n = rng.within(16, trace.file.len());
         sample.import_tolerant(&trace.file[..n], channel);
     }

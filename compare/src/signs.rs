@@ -2,6 +2,7 @@
 
 use std::collections::BTreeSet;
 
+use crate::adapters;
 use crate::answer::{Answer, Case, Checked, Difference, Lender, Subject, NO_CHANNEL};
 use crate::codec::each_string;
 use crate::expected::{self, LONGEST_FILE};
@@ -283,6 +284,7 @@ fn packets(gaps: &mut Gaps) -> Checked {
 }
 
 /// Every four packets out of fourteen, on two links and in both directions: parts of PDUs as starts and as continuations.
+/// In 2001 the two links are also those of one handle on two adapters.
 fn fragments(gaps: &mut Gaps) -> Checked {
     let alphabet: Vec<(u32, u16, u16, &[u8])> = vec![
         (0, 0x40, 2, &[]),
@@ -300,11 +302,24 @@ fn fragments(gaps: &mut Gaps) -> Checked {
         (0, 0x41, 1, &[0]),
         (0, 0x41, 1, &[7, 0, 0x41, 0]),
     ];
-    for (n, datalink) in [(4, 1001), (3, 1002), (3, 2001)] {
+    let shared = |index: u32| Some([0, index]);
+    for (n, datalink, adapters) in [
+        (4, 1001, None),
+        (3, 1001, shared(1)),
+        (3, 1002, None),
+        (3, 2001, None),
+        (4, 2001, shared(1)),
+        (3, 2001, shared(0x100)),
+        (3, 2001, shared(0xFFFF)),
+    ] {
         let step = |trace: &mut Trace, (rx, handle, flag, data): &(u32, u16, u16, &[u8])| {
-            let flags = if datalink == 2001 { 4 | rx } else { *rx };
-            let packet = typed(datalink, &acl_packet(*handle, *flag, data));
-            trace.row(packet.len() as u32, flags, 0, 1, &packet);
+            let way = if datalink == 2001 { 4 | rx } else { *rx };
+            let (upper, handle) = match adapters {
+                Some(indexes) => (indexes[usize::from(handle % 2)] << 16, 0x40),
+                None => (0, *handle),
+            };
+            let packet = typed(datalink, &acl_packet(handle, *flag, data));
+            trace.row(packet.len() as u32, upper | way, 0, 1, &packet);
         };
         import::sequences(n, &alphabet, &Trace::new(datalink), &step, &mut |trace| gaps.file(&trace.file, NO_CHANNEL))?;
     }
@@ -329,10 +344,10 @@ fn full(datalink: u32, record: Record) -> Vec<u8> {
     trace.file
 }
 
-/// A packet in one of 8,192 ways: half as many links, and two directions.
+/// A packet in one of 8,192 ways: half as many links, and two directions. In 2001 there are more, on other adapters.
 fn sent(trace: &mut Trace, way: u32, flag: u16, data: &[u8]) {
-    let flags = way % 2 + if trace.datalink == 2001 { 4 } else { 0 };
-    let packet = typed(trace.datalink, &acl_packet((way / 2) as u16, flag, data));
+    let flags = way % 2 + if trace.datalink == 2001 { (way / 8192) << 16 | 4 } else { 0 };
+    let packet = typed(trace.datalink, &acl_packet((way / 2 % 4096) as u16, flag, data));
     trace.row(packet.len() as u32, flags, 0, 1, &packet);
 }
 
@@ -347,7 +362,7 @@ fn flag(i: u32, from: u32) -> u16 {
 
 /// Files of 1,048,576 bytes at most with as many signs as there can be: of one kind, in all ways, or far from each other.
 fn long(gaps: &mut Gaps) -> Checked {
-    let kinds: [Record; 11] = [
+    let kinds: [Record; 12] = [
         |trace, _| trace.row(0, 0, 0, 0, &[]),
         |trace, i| trace.row(1 + i % 2, 2, 0, 1, &[9]),
         // Drops that are over 32 bits in all.
@@ -356,6 +371,8 @@ fn long(gaps: &mut Gaps) -> Checked {
         |trace, _| sent(trace, 9, 1, &[]),
         |trace, _| sent(trace, 9, 2, &[]),
         |trace, i| sent(trace, i, 2, &[1]),
+        // One handle on as many adapters as there are records, in 2001.
+        |trace, i| sent(trace, 8192 * (i % 16_000) + 7, flag(i, 16_000), &[1]),
         |trace, i| sent(trace, i.wrapping_mul(2_654_435_761) % 8192, flag(i, 12_000), &[0]),
         // One PDU that is open to the end; PDUs of some hundred packets; PDUs of two.
         |trace, i| sent(trace, 9, flag(i, 6), &[0xFF]),
@@ -422,8 +439,12 @@ pub fn run(subject: &dyn Subject, options: &Options) -> Checked {
     log.line("random bytes", &gaps.lender);
     import::random(&mut gaps, &mut rng, size / 5)?;
     import::damaged(&mut gaps, &mut rng, size / 5)?;
-    for trace in hard::traces() {
+    for trace in hard::traces().into_iter().chain(hard::of_many_adapters()) {
         trace.file(16).map_or(Ok(()), |file| gaps.file(&file, NO_CHANNEL))?;
+    }
+    for twins in hard::twins() {
+        gaps.file(&twins.one_handle(16), NO_CHANNEL)?;
+        gaps.file(&twins.spread(16), NO_CHANNEL)?;
     }
     log.line("random traces of import, whole and damaged, and those of its bench", &gaps.lender);
     tolerant::each_cut(&mut rng, size / 500, &mut |recording, n| gaps.file(&recording.file[..n], NO_CHANNEL))?;
@@ -440,6 +461,8 @@ pub fn run(subject: &dyn Subject, options: &Options) -> Checked {
     import::fragments(&mut gaps)?;
     import::excess(&mut gaps)?;
     log.line("every four fragments", &gaps.lender);
+    adapters::by_hand(&mut gaps)?;
+    log.line("fixed traces of two adapters", &gaps.lender);
     changes(&mut gaps, &mut rng)?;
     log.line("every beginning and one-byte changes of traces with every sign", &gaps.lender);
     import::short(&mut gaps, &mut rng)?;
@@ -472,6 +495,10 @@ pub fn run_packets(subject: &dyn Subject, _: &Options) -> Checked {
 
 pub fn run_fragments(subject: &dyn Subject, _: &Options) -> Checked {
     fragments(&mut Gaps::new(subject))
+}
+
+pub fn run_by_hand(subject: &dyn Subject, _: &Options) -> Checked {
+    adapters::by_hand(&mut Gaps::new(subject))
 }
 
 pub fn run_long(subject: &dyn Subject, options: &Options) -> Checked {

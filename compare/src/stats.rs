@@ -4,6 +4,7 @@ use std::collections::BTreeMap;
 
 use crate::answer::Answer;
 use crate::expected;
+use crate::mistaken;
 use crate::model::{self, Reading, RIGHT};
 use crate::rng::Rng;
 use crate::trace;
@@ -26,6 +27,9 @@ struct Stats {
     later: u64,
     excess: u64,
     tried_too: u64,
+    /// Files of more than one adapter, and of those the ones that show each place where import keys on a link.
+    adapters: u64,
+    keys: BTreeMap<&'static str, u64>,
 }
 
 /// 0, 1, 2, 3, then the power of two at or under.
@@ -46,6 +50,10 @@ impl Stats {
         let differs = |reading| model::import(file, 8 * file.len(), channel, false, reading) != answer;
         self.excess += u64::from(differs(Reading { excess_dropped: false, ..RIGHT }));
         self.tried_too += u64::from(differs(Reading { request_ends: false, ..RIGHT }));
+        self.adapters += u64::from(expected::adapters(file) > 1);
+        for (what, keys) in mistaken::by_handle_alone() {
+            *self.keys.entry(what).or_default() += u64::from(differs(Reading { keys, ..RIGHT }));
+        }
         if ![0, 6].contains(&answer.number) {
             return;
         }
@@ -85,6 +93,7 @@ impl Stats {
             "  files that show that excess is dropped {}, that a PSM 3 request is not tried {}",
             self.excess, self.tried_too
         );
+        println!("  files of more than one adapter {}; that show: {:?}", self.adapters, self.keys);
         println!("  DLCIs with pieces: {:?}", self.dlcis);
         println!("  of those answered, buffers of the DLCI: {:?}", self.stretches);
         println!("  spans (from): {:?}; with one that does not unpack {}", self.spans, self.broken);

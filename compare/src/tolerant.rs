@@ -95,14 +95,23 @@ pub fn run(subject: &dyn Subject, options: &Options) -> Checked {
     let mut rng = Rng::new(options.seed);
     let mut log = options.log("tolerant");
     let mut import = Import::new(subject, Rule::Tolerant);
-    each_cut(&mut rng, size / 100, &mut |recording, n| {
-        import.held(&recording.file[..n], recording.channel(), &recording.left(n))
-    })?;
+    honest_cuts(&mut import, &mut rng, size / 100)?;
     log.line("every cut of honest recordings", &import.lender);
     size_rule(&mut import, &mut rng)?;
     log.line("a frame longer than an honest recording has", &import.lender);
     import::run_rule(subject, options, "tolerant", Rule::Tolerant, size / 5)?;
     run_strict(subject, options)
+}
+
+/// Every cut of honest recordings, held to what is left.
+fn honest_cuts(import: &mut Import, rng: &mut Rng, size: u64) -> Checked {
+    each_cut(rng, size, &mut |recording, n| import.held(&recording.file[..n], recording.channel(), &recording.left(n)))
+}
+
+/// The honest recordings alone; in a short run more of them.
+pub fn run_honest(subject: &dyn Subject, options: &Options) -> Checked {
+    let mut import = Import::new(subject, Rule::Tolerant);
+    honest_cuts(&mut import, &mut Rng::new(options.seed), 100.max(options.size.unwrap_or(50_000) / 100))
 }
 
 /// The part that asks for the strict rule.

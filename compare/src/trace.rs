@@ -16,6 +16,8 @@ pub const DATALINKS: [u32; 3] = [1001, 1002, 2001];
 #[derive(Clone)]
 pub struct Trace {
     pub datalink: u32,
+    /// The upper 16 flag bits of the next ACL packets: in 2001 their adapter's index, in 1001 and 1002 nothing.
+    pub index: u16,
     pub file: Vec<u8>,
     /// Where each record ends.
     pub ends: Vec<usize>,
@@ -25,7 +27,13 @@ impl Trace {
     pub fn new(datalink: u32) -> Trace {
         let mut file = b"btsnoop\0\0\0\0\x01".to_vec();
         file.extend(datalink.to_be_bytes());
-        Trace { datalink, file, ends: Vec::new() }
+        Trace { datalink, index: 0, file, ends: Vec::new() }
+    }
+
+    /// The trace, with the next ACL packets of this adapter.
+    pub fn on(&mut self, index: u16) -> &mut Trace {
+        self.index = index;
+        self
     }
 
     /// A record; original length and drops are told from the rest, so that nothing
@@ -45,12 +53,14 @@ impl Trace {
         self.ends.push(self.file.len());
     }
 
-    /// An ACL packet in its record. `extra` are flag bits that mean nothing.
+    /// An ACL packet in its record. `extra` are flag bits that mean nothing; 2001 has none.
     pub fn acl(&mut self, direction: Direction, stamp: u64, extra: u32, bytes: &[u8]) {
+        let upper = u32::from(self.index) << 16;
+        let way = u32::from(direction == Rx);
         match self.datalink {
-            2001 => self.record(if direction == Tx { 4 } else { 5 } | extra << 16, stamp, bytes),
-            1002 => self.record(u32::from(direction == Rx) | extra << 2, stamp, &[&[2], bytes].concat()),
-            _ => self.record(u32::from(direction == Rx) | extra << 2, stamp, bytes),
+            2001 => self.record(upper | 4 | way, stamp, bytes),
+            1002 => self.record(upper | extra << 2 | way, stamp, &[&[2], bytes].concat()),
+            _ => self.record(upper | extra << 2 | way, stamp, bytes),
         }
     }
 
@@ -138,9 +148,38 @@ pub fn stamp(rng: &mut Rng) -> u64 {
     }
 }
 
+/// An adapter's index.
+fn index(rng: &mut Rng) -> u16 {
+    let any = rng.next() as u16;
+    rng.pick(&[0, 0, 1, 0xFFFF, 0x0100, any])
+}
+
+/// The adapters of a random trace of this datalink: mostly one, else two or three. At times they differ in one bit.
+/// Of 1001 and 1002 there is one, of index 0.
+pub fn adapters(rng: &mut Rng, datalink: u32) -> Vec<u16> {
+    if datalink != 2001 {
+        return vec![0];
+    }
+    let first = index(rng);
+    let mut indexes = vec![first];
+    for _ in 0..rng.pick(&[0, 0, 0, 1, 1, 2]) {
+        let other = if rng.percent(50) { first ^ 1 << rng.below(16) } else { index(rng) };
+        if !indexes.contains(&other) {
+            indexes.push(other);
+        }
+    }
+    indexes
+}
+
+/// Every handle on every adapter.
+pub fn on_each(indexes: &[u16], handles: &[u16]) -> Vec<(u16, u16)> {
+    handles.iter().flat_map(|&handle| indexes.iter().map(move |&index| (index, handle))).collect()
+}
+
 /// What a random trace is made of, few of each so that they meet.
 struct Pools {
-    handles: Vec<u16>,
+    /// Adapters' indexes and handles.
+    links: Vec<(u16, u16)>,
     cids: Vec<u16>,
     dlcis: Vec<u8>,
     /// How often, in a hundred, something goes wrong with a packet.
@@ -161,9 +200,11 @@ fn few<T: Copy>(rng: &mut Rng, from: &[T], most: usize) -> Vec<T> {
 }
 
 impl Pools {
-    fn new(rng: &mut Rng) -> Pools {
+    fn new(rng: &mut Rng, datalink: u32) -> Pools {
+        let indexes = adapters(rng, datalink);
+        let handles = few(rng, &[0x000, 0x001, 0x040, 0x041, 0x100, 0xFFF], 3);
         Pools {
-            handles: few(rng, &[0x000, 0x001, 0x040, 0x041, 0x100, 0xFFF], 3),
+            links: on_each(&indexes, &handles),
             cids: few(rng, &[0x40, 0x41, 0x42, 0x1040, 0xFFFF, 0x3F, 0x20, 0x40, 0x41, 0x43, 0x44], 4),
             dlcis: few(rng, &[1, 2, 3, 18, 19, 18, 18, 19, 62, 63, 0], 3),
             trouble: rng.pick(&[0, 0, 3, 10, 30]),
@@ -316,6 +357,8 @@ fn parts(rng: &mut Rng, bytes: &[u8], most: usize, trouble: usize) -> Vec<Vec<u8
 }
 
 type Packet = (Direction, Vec<u8>);
+/// A link and whether it is received: what packets wait by.
+type Side = ((u16, u16), bool);
 
 /// A random trace whose parts meet, and a channel to import it by. `events` bounds
 /// the number of PDUs.
@@ -332,13 +375,14 @@ pub fn plain(rng: &mut Rng, events: usize) -> (Trace, u32) {
 /// `odd` is how often, in a hundred, a PDU is one that CID 1 carries as a channel too, or has
 /// another behind it in excess.
 fn with_odd(rng: &mut Rng, events: usize, odd: usize) -> (Trace, u32) {
-    let pools = Pools::new(rng);
     let mut trace = Trace::new(rng.pick(&DATALINKS));
-    let mut streams: BTreeMap<(u16, bool, u8), VecDeque<u8>> = BTreeMap::new();
-    let mut queues: BTreeMap<(u16, bool), VecDeque<Packet>> = BTreeMap::new();
+    let pools = Pools::new(rng, trace.datalink);
+    let mut streams: BTreeMap<(Side, u8), VecDeque<u8>> = BTreeMap::new();
+    let mut queues: BTreeMap<Side, VecDeque<Packet>> = BTreeMap::new();
     let mut now = stamp(rng);
     for _ in 0..rng.within(1, events) {
-        let handle = rng.pick(&pools.handles);
+        let link = rng.pick(&pools.links);
+        let handle = link.1;
         let direction = rng.pick(&[Rx, Tx]);
         let mut cid = pools.cid(rng);
         let choice = rng.below(100);
@@ -363,7 +407,7 @@ fn with_odd(rng: &mut Rng, events: usize, odd: usize) -> (Trace, u32) {
             if rng.percent(85) {
                 cid = pools.cids[(usize::from(handle) + usize::from(direction == Rx)) % pools.cids.len()];
             }
-            let stream = streams.entry((handle, direction == Rx, dlci)).or_default();
+            let stream = streams.entry(((link, direction == Rx), dlci)).or_default();
             let mut n = rng.within(1, pools.piece);
             while stream.len() < n {
                 stream.extend(stream_bytes(rng));
@@ -387,7 +431,7 @@ fn with_odd(rng: &mut Rng, events: usize, odd: usize) -> (Trace, u32) {
         if odd > 0 && rng.percent(odd) {
             pools.exceed(rng, &mut parts);
         }
-        let queue = queues.entry((handle, direction == Rx)).or_default();
+        let queue = queues.entry((link, direction == Rx)).or_default();
         for (i, part) in parts.into_iter().enumerate() {
             let mut flag = if i == 0 { rng.pick(&[0, 2, 2, 3]) } else { 1 };
             if rng.percent(pools.trouble / 3) {
@@ -410,7 +454,7 @@ fn with_odd(rng: &mut Rng, events: usize, odd: usize) -> (Trace, u32) {
                 queue.push_back((direction, acl_packet(handle, 1, &rng.mixed(lone, &codec::BYTES, 50))));
             }
         }
-        // Let some of what waits cross, whichever handle and direction it is on.
+        // Let some of what waits cross, whichever link and direction it is on.
         for _ in 0..rng.below(9) {
             emit(rng, &mut trace, &mut queues, &mut now, pools.trouble);
         }
@@ -429,7 +473,7 @@ fn with_odd(rng: &mut Rng, events: usize, odd: usize) -> (Trace, u32) {
 fn emit(
     rng: &mut Rng,
     trace: &mut Trace,
-    queues: &mut BTreeMap<(u16, bool), VecDeque<Packet>>,
+    queues: &mut BTreeMap<Side, VecDeque<Packet>>,
     now: &mut u64,
     trouble: usize,
 ) -> bool {
@@ -443,8 +487,8 @@ fn emit(
     let key = keys[rng.below(keys.len())];
     let Some((direction, packet)) = queues.get_mut(&key).and_then(VecDeque::pop_front) else { return false };
     *now = if rng.percent(5) { stamp(rng) } else { now.wrapping_add(rng.below(3000) as u64) };
-    let extra = if rng.percent(20) { rng.next() as u32 & 0x3FFF } else { 0 };
-    trace.acl(direction, *now, extra, &packet);
+    let extra = if rng.percent(20) { rng.next() as u32 } else { 0 };
+    trace.on(key.0 .0).acl(direction, *now, extra, &packet);
     true
 }
 
@@ -454,7 +498,7 @@ pub fn noise(rng: &mut Rng, trace: &mut Trace) {
     let mut packet = rng.mixed(n, &[0, 1, 2, 3, 4, 5], 50);
     let stamp = stamp(rng);
     match trace.datalink {
-        2001 => trace.record(rng.pick(&[0, 1, 2, 3, 6, 7, 0x1_0003, 0x4_0006]), stamp, &packet),
+        2001 => trace.record(rng.pick(&[0, 1, 2, 3, 6, 7, 0x1_0003, 0x4_0006, 0x5_0000]), stamp, &packet),
         1002 => {
             let command = rng.percent(50);
             if !command && !packet.is_empty() {

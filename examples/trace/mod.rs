@@ -8,6 +8,8 @@ pub const EPOCH: u64 = 0x00dc_ddb3_0f2f_8000;
 /// A trace under construction.
 pub struct Trace {
     datalink: u32,
+    /// The adapter's index of the packets to come. Only datalink 2001 has a place for it.
+    pub adapter: u16,
     /// Its bytes so far.
     pub file: Vec<u8>,
     /// Where each record starts.
@@ -18,7 +20,7 @@ impl Trace {
     pub fn new(datalink: u32) -> Trace {
         let mut file = b"btsnoop\0\0\0\0\x01".to_vec();
         file.extend(datalink.to_be_bytes());
-        Trace { datalink, file, starts: Vec::new() }
+        Trace { datalink, adapter: 0, file, starts: Vec::new() }
     }
 
     /// A record, at so many microseconds since 1970.
@@ -32,6 +34,11 @@ impl Trace {
         self.file.extend(packet);
     }
 
+    /// A record of the Linux monitor: its code stands below the adapter's index.
+    fn monitor(&mut self, code: u32, us: u64, packet: &[u8]) {
+        self.record(u32::from(self.adapter) << 16 | code, us, packet);
+    }
+
     /// An ACL packet: one fragment of a PDU, the first of it or one that goes on.
     pub fn fragment(&mut self, direction: Direction, us: u64, handle: u16, first: bool, data: &[u8]) {
         let mut packet = (handle | if first { 2 } else { 1 } << 12).to_le_bytes().to_vec();
@@ -39,7 +46,7 @@ impl Trace {
         packet.extend(data);
         let rx = u32::from(direction == Rx);
         match self.datalink {
-            2001 => self.record(4 + rx, us, &packet),
+            2001 => self.monitor(4 + rx, us, &packet),
             1002 => self.record(rx, us, &[&[2], &packet[..]].concat()),
             _ => self.record(rx, us, &packet),
         }
@@ -48,7 +55,7 @@ impl Trace {
     /// An HCI command, to the controller.
     pub fn hci_command(&mut self, us: u64, command: &[u8]) {
         match self.datalink {
-            2001 => self.record(2, us, command),
+            2001 => self.monitor(2, us, command),
             1002 => self.record(2, us, &[&[1], command].concat()),
             _ => self.record(2, us, command),
         }
@@ -57,7 +64,7 @@ impl Trace {
     /// An HCI event, from the controller.
     pub fn hci_event(&mut self, us: u64, event: &[u8]) {
         match self.datalink {
-            2001 => self.record(3, us, event),
+            2001 => self.monitor(3, us, event),
             1002 => self.record(3, us, &[&[4], event].concat()),
             _ => self.record(3, us, event),
         }

@@ -4,8 +4,8 @@ use std::fmt::Write;
 
 use crate::losses;
 use crate::report::{end_fields, end_of, sentence};
-use crate::words::{count, object, string, way};
-use look::{Channel, Dlci, Handle, Seen, Standing};
+use crate::words::{capital, count, named, null_or, object, string, way};
+use look::{Channel, Dlci, Handle, Link, Seen, Share, Standing};
 use lumbryth::Gaps;
 
 /// How import is asked to read the file: one that ends inside a record is read by the tolerant rule only.
@@ -52,26 +52,29 @@ fn reason(channel: &Channel) -> Option<String> {
     }
 }
 
-fn channel_line(handle: u16, channel: &Channel) -> String {
+/// A channel, with its handle in words.
+fn channel_line(link: &str, channel: &Channel) -> String {
     let standing = channel.standing();
     let mut line = format!("CID 0x{:04x} {}, {}", channel.cid, way(channel.direction), name(standing));
     if !channel.psms.is_empty() {
         let psms: Vec<String> = channel.psms.iter().map(|psm| format!("0x{psm:04x}")).collect();
         line += &format!(", PSM {}", psms.join(" then "));
     }
-    line += &format!(", {}, handle {handle}", count(channel.pdus, "PDU", "PDUs"));
+    line += &format!(", {}, {link}", count(channel.pdus, "PDU", "PDUs"));
     let over = if standing == Standing::Fixed { "" } else { "passed over, for " };
     reason(channel).into_iter().for_each(|words| line += &format!(": {over}{words}"));
     line + ".\n"
 }
 
-fn handle_lines(handle: &Handle) -> String {
+fn handle_lines(handle: &Handle, several: bool) -> String {
+    let link = named(handle.link, several);
+    let first = capital(&link);
     let ways = [("rx", handle.packets.rx, handle.pdus.rx), ("tx", handle.packets.tx, handle.pdus.tx)];
     let line = |(way, packets, pdus)| {
         let (packets, pdus) = (count(packets, "packet", "packets"), count(pdus, "PDU", "PDUs"));
-        format!("Handle {} {way}: {packets}, {pdus}.\n", handle.handle)
+        format!("{first} {way}: {packets}, {pdus}.\n")
     };
-    let channels = handle.channels.iter().map(|channel| channel_line(handle.handle, channel));
+    let channels = handle.channels.iter().map(|channel| channel_line(&link, channel));
     ways.map(line).into_iter().chain(channels).collect()
 }
 
@@ -84,8 +87,8 @@ fn before<'a>(seen: &'a Seen, dlci: &Dlci) -> Option<&'a Dlci> {
 fn taking(import: &str, seen: &Seen, dlci: &Dlci) -> String {
     let channel = dlci.channel();
     match before(seen, dlci) {
-        _ if dlci.spans == 0 => format!("{import} does not take it, for it has no span"),
-        _ if dlci.frames == 0 => format!("{import} does not take it, for no span unpacks"),
+        _ if dlci.all.spans == 0 => format!("{import} does not take it, for it has no span"),
+        _ if dlci.all.frames == 0 => format!("{import} does not take it, for no span unpacks"),
         Some(first) => {
             format!(
                 "no channel asks for it, for {import} --channel {channel} takes DLCI {}, which comes first",
@@ -97,16 +100,22 @@ fn taking(import: &str, seen: &Seen, dlci: &Dlci) -> String {
     }
 }
 
-fn dlci_lines(import: &str, seen: &Seen, dlci: &Dlci) -> String {
-    let mut text = format!(
-        "DLCI {}, channel {}: {}, {}, {}, {} unfinished.\n",
-        dlci.dlci,
-        dlci.channel(),
-        count(dlci.frames, "frame", "frames"),
-        count(dlci.spans, "span", "spans"),
-        count(dlci.pieces, "piece", "pieces"),
-        dlci.unfinished,
-    );
+/// What came on a DLCI, in numbers.
+fn numbers(share: &Share) -> String {
+    format!(
+        "{}, {}, {}, {} unfinished",
+        count(share.frames, "frame", "frames"),
+        count(share.spans, "span", "spans"),
+        count(share.pieces, "piece", "pieces"),
+        share.unfinished,
+    )
+}
+
+fn dlci_lines(import: &str, seen: &Seen, dlci: &Dlci, several: bool) -> String {
+    let mut text = format!("DLCI {}, channel {}: {}.\n", dlci.dlci, dlci.channel(), numbers(&dlci.all));
+    for (link, share) in dlci.links.iter().filter(|_| several) {
+        let _ = writeln!(text, "DLCI {} on {}: {}.", dlci.dlci, named(*link, several), numbers(share));
+    }
     let _ = writeln!(text, "DLCI {}: {}.", dlci.dlci, taking(import, seen, dlci));
     for refused in &dlci.refused {
         let spans = count(refused.spans, "span does not unpack", "spans do not unpack");
@@ -127,16 +136,19 @@ fn none(seen: &Seen) -> Option<&'static str> {
         _ if pdus == 0 => Some("no PDU is whole"),
         _ if seen.tried() == 0 => Some("nothing came on a channel that is admitted or guessed to be RFCOMM"),
         _ if seen.dlcis.is_empty() => Some("PDUs came on RFCOMM, and no piece of information"),
-        _ if seen.dlcis.iter().all(|dlci| dlci.spans == 0) => Some("pieces came, and no span"),
+        _ if seen.dlcis.iter().all(|dlci| dlci.all.spans == 0) => Some("pieces came, and no span"),
         _ => Some("spans came, and none unpacks"),
     }
 }
 
 /// Handles, channels and DLCIs, a line for each fact.
 pub fn text(file: &[u8], seen: &Seen, gaps: &Gaps) -> String {
-    let import = import(file, seen);
-    let mut text = format!(
-        "{}, {}, {}: datalink {}.\n",
+    let (import, adapters) = (import(file, seen), seen.adapters().len());
+    let several = adapters > 1;
+    let mut text = if several { format!("{adapters} adapters, ") } else { String::new() };
+    let _ = writeln!(
+        text,
+        "{}, {}, {}: datalink {}.",
         count(seen.handles.len(), "handle", "handles"),
         count(channels(seen), "channel", "channels"),
         count(seen.dlcis.len(), "DLCI", "DLCIs"),
@@ -147,17 +159,13 @@ pub fn text(file: &[u8], seen: &Seen, gaps: &Gaps) -> String {
     if ends {
         text += "Whatever came later is missing.\n";
     }
-    text += &losses::lines(gaps);
-    text.extend(seen.handles.iter().map(handle_lines));
-    text.extend(seen.dlcis.iter().map(|dlci| dlci_lines(import, seen, dlci)));
+    text += &losses::lines(file, gaps);
+    text.extend(seen.handles.iter().map(|handle| handle_lines(handle, several)));
+    text.extend(seen.dlcis.iter().map(|dlci| dlci_lines(import, seen, dlci, several)));
     if let Some(words) = none(seen) {
         let _ = writeln!(text, "{} refuses the trace (6): {words}.", import.replace("import", "Import"));
     }
     text
-}
-
-fn null_or(number: Option<impl ToString>) -> String {
-    number.map_or("null".to_string(), |number| number.to_string())
 }
 
 /// What `text` says, an object a line.
@@ -166,32 +174,35 @@ pub fn objects(file: &[u8], seen: &Seen, gaps: &Gaps) -> String {
         ("kind", string("file")),
         ("datalink", datalink(file).to_string()),
         ("records", seen.records.to_string()),
+        ("adapters", seen.adapters().len().to_string()),
         ("taken", null_or(seen.taken(None).map(|dlci| dlci.dlci))),
         ("reason", none(seen).map_or("null".to_string(), string)),
     ];
     fields.extend(end_fields(file));
-    fields.push(("losses", losses::fields(gaps)));
+    fields.push(("losses", losses::fields(file, gaps)));
     let mut text = object(&fields);
     for handle in &seen.handles {
         text += &object(&[
             ("kind", string("handle")),
-            ("handle", handle.handle.to_string()),
+            ("adapter", handle.link.adapter.to_string()),
+            ("handle", handle.link.handle.to_string()),
             ("rx_packets", handle.packets.rx.to_string()),
             ("rx_pdus", handle.pdus.rx.to_string()),
             ("tx_packets", handle.packets.tx.to_string()),
             ("tx_pdus", handle.pdus.tx.to_string()),
         ]);
-        text.extend(handle.channels.iter().map(|channel| channel_object(handle.handle, channel)));
+        text.extend(handle.channels.iter().map(|channel| channel_object(handle.link, channel)));
     }
     text.extend(seen.dlcis.iter().map(|dlci| dlci_objects(seen, dlci)));
     text
 }
 
-fn channel_object(handle: u16, channel: &Channel) -> String {
+fn channel_object(link: Link, channel: &Channel) -> String {
     let psms: Vec<String> = channel.psms.iter().map(|psm| psm.to_string()).collect();
     object(&[
         ("kind", string("channel")),
-        ("handle", handle.to_string()),
+        ("adapter", link.adapter.to_string()),
+        ("handle", link.handle.to_string()),
         ("direction", string(way(channel.direction))),
         ("cid", channel.cid.to_string()),
         ("psms", format!("[{}]", psms.join(","))),
@@ -203,17 +214,29 @@ fn channel_object(handle: u16, channel: &Channel) -> String {
 }
 
 fn dlci_objects(seen: &Seen, dlci: &Dlci) -> String {
-    let asked = (dlci.frames > 0 && before(seen, dlci).is_none()).then(|| dlci.channel());
+    let asked = (dlci.all.frames > 0 && before(seen, dlci).is_none()).then(|| dlci.channel());
     let mut text = object(&[
         ("kind", string("dlci")),
         ("dlci", dlci.dlci.to_string()),
         ("channel", dlci.channel().to_string()),
-        ("pieces", dlci.pieces.to_string()),
-        ("spans", dlci.spans.to_string()),
-        ("frames", dlci.frames.to_string()),
-        ("unfinished", dlci.unfinished.to_string()),
+        ("pieces", dlci.all.pieces.to_string()),
+        ("spans", dlci.all.spans.to_string()),
+        ("frames", dlci.all.frames.to_string()),
+        ("unfinished", dlci.all.unfinished.to_string()),
         ("asked_by", null_or(asked)),
     ]);
+    for (link, share) in &dlci.links {
+        text += &object(&[
+            ("kind", string("share")),
+            ("dlci", dlci.dlci.to_string()),
+            ("adapter", link.adapter.to_string()),
+            ("handle", link.handle.to_string()),
+            ("pieces", share.pieces.to_string()),
+            ("spans", share.spans.to_string()),
+            ("frames", share.frames.to_string()),
+            ("unfinished", share.unfinished.to_string()),
+        ]);
+    }
     for refused in &dlci.refused {
         text += &object(&[
             ("kind", string("refused")),
@@ -228,7 +251,7 @@ fn dlci_objects(seen: &Seen, dlci: &Dlci) -> String {
 
 /// The DLCIs with frames but for the one taken, if one is.
 fn others(seen: &Seen, taken: Option<u8>) -> impl Iterator<Item = &Dlci> {
-    seen.dlcis.iter().filter(move |dlci| dlci.frames > 0 && Some(dlci.dlci) != taken)
+    seen.dlcis.iter().filter(move |dlci| dlci.all.frames > 0 && Some(dlci.dlci) != taken)
 }
 
 /// What other DLCIs have frames than the one taken, if one is: a sentence each.
@@ -236,7 +259,7 @@ pub fn other_lines(file: &[u8], taken: Option<u8>) -> Vec<String> {
     let Ok(seen) = look::look(file) else { return Vec::new() };
     let line = |dlci: &Dlci| {
         let (number, channel) = (dlci.dlci, dlci.channel());
-        let frames = count(dlci.frames, "frame that unpacks", "frames that unpack");
+        let frames = count(dlci.all.frames, "frame that unpacks", "frames that unpack");
         let too = if taken.is_some() { " too" } else { "" };
         match before(&seen, dlci) {
             None => format!("DLCI {number}, channel {channel}, has {frames}{too}: --channel {channel}."),
@@ -260,7 +283,7 @@ pub fn other_objects(file: &[u8], taken: u8) -> String {
             ("kind", string("other")),
             ("dlci", dlci.dlci.to_string()),
             ("channel", dlci.channel().to_string()),
-            ("frames", dlci.frames.to_string()),
+            ("frames", dlci.all.frames.to_string()),
             ("asked_by", null_or(before(&seen, dlci).is_none().then(|| dlci.channel()))),
         ])
     };

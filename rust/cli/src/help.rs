@@ -62,6 +62,12 @@ Losses that the file itself shows are told, a line each: what, how many, at whic
 first. They are of the whole file. Hints come after them and are less: by the frames alone,
 what may be missing, such as the answer to a question. Where neither is told, something
 may be missing all the same.
+
+A trace of the Linux monitor may have more than one Bluetooth adapter. Then what is
+unfinished, and a loss that is an adapter's, is told with the adapter. The frames of all
+adapters come in one list, in order of completion, with one counter, and names do not tell
+the adapters apart; hints go by that list, and may take one adapter's frame for another's.
+lumbryth channels TRACE shows how many frames each adapter has.
 ";
 
 pub const FRAMES: &str = "\
@@ -73,6 +79,10 @@ frame does not unpack. Before them stands what is unfinished, bytes at the end t
 no end marker: handle, direction (received is from the headset), DLCI and how many are
 held; the losses and hints that import tells; and other DLCIs that have frames, with the
 --channel that takes them. A file that ends inside a record is listed up to there.
+
+If the trace has more than one adapter, what is unfinished, and a loss that is an adapter's,
+is told with the adapter. The frames of all adapters come in one list, in order of
+completion, which does not tell the adapters apart.
 
   --channel N      only RFCOMM channel N, 0 to 31; else the first that carries frames
   --json           an object a line: import, unfinished, hint, frame, then other, for each
@@ -86,7 +96,8 @@ usage: lumbryth records TRACE [options]
 Lists the records of TRACE: what the packet is, direction (rx is from the headset or the
 controller), number, length of the packet, the byte that the record starts at, time (UTC).
 Before them stand the losses that the file shows. A file that ends inside a record is
-listed up to there.
+listed up to there. If the trace has more than one adapter, each packet is told with its
+adapter.
 
   --json           an object a line: file, then record
   --               what follows is no option
@@ -102,6 +113,10 @@ which import looks at them: its RFCOMM channel, frames (spans that unpack), span
 from 3E through 3C), pieces, and how many are unfinished; how import takes it; and why spans
 do not unpack. If import takes none, the last line says why.
 
+If the trace has more than one adapter, each handle is told with its adapter, since two
+adapters may use the same handle; and what each DLCI has is also told for each adapter and
+handle.
+
 A channel is one of these:
   admitted       signals say that it is RFCOMM, PSM 0x0003: it is tried
   guessed        nothing names it, and its CID is 0x0040 or more: it is tried
@@ -112,7 +127,8 @@ A channel is one of these:
 A file that ends inside a record is looked at up to there. What is shown here is the
 program's own reading and is not proved; what import gives is proved.
 
-  --json           an object a line: file; then handle, channel; then dlci, refused
+  --json           an object a line: file; then handle, channel; then dlci, share (what
+                   each adapter and handle has of it), refused
   --               what follows is no option
 ";
 

@@ -1,6 +1,7 @@
 //! What a trace shows of what is not in it, in words: a sentence for people, a fact for the list of a set, an object for programs.
 
-use crate::words::{count, object};
+use crate::words::{count, null_or, object, several};
+use look::adapter_at;
 use lumbryth::{Gap, Gaps};
 
 /// The words for a sign: for one, and for more.
@@ -14,6 +15,8 @@ struct Words {
     /// What stands behind it.
     behind: &'static str,
     means: [&'static str; 2],
+    /// Whether what is missing is of the adapter of the record that shows it. The recorder's own count is of all adapters.
+    of_adapter: bool,
 }
 
 const SHORT: Words = Words {
@@ -23,6 +26,7 @@ const SHORT: Words = Words {
     at: ["at", "the first at"],
     behind: "",
     means: ["The recorder kept only a part of its packet.", "The recorder kept only a part of their packets."],
+    of_adapter: true,
 };
 const DROPPED: Words = Words {
     name: "dropped",
@@ -31,6 +35,7 @@ const DROPPED: Words = Words {
     at: ["told at", "first told at"],
     behind: "",
     means: ["By its own count it did not keep it.", "By its own count it did not keep them."],
+    of_adapter: false,
 };
 const SKIPPED: Words = Words {
     name: "skipped",
@@ -39,6 +44,7 @@ const SKIPPED: Words = Words {
     at: ["at", "the first at"],
     behind: "",
     means: ["A part of it is not in the file.", "A part of each is not in the file."],
+    of_adapter: true,
 };
 const ZEROS: Words = Words {
     name: "zeros",
@@ -47,6 +53,7 @@ const ZEROS: Words = Words {
     at: ["at", "the first at"],
     behind: "",
     means: ["Something else may have stood there.", "Something else may have stood there."],
+    of_adapter: false,
 };
 const STRAY: Words = Words {
     name: "stray",
@@ -55,6 +62,7 @@ const STRAY: Words = Words {
     at: ["at", "the first at"],
     behind: "",
     means: ["What it continues is not in the file.", "What they continue is not in the file."],
+    of_adapter: true,
 };
 const GIVEN_UP: Words = Words {
     name: "given_up",
@@ -63,6 +71,7 @@ const GIVEN_UP: Words = Words {
     at: ["at", "the first at"],
     behind: ", where another begins",
     means: ["Its rest is not in the file.", "Their rest is not in the file."],
+    of_adapter: true,
 };
 const OPEN: Words = Words {
     name: "open",
@@ -71,6 +80,7 @@ const OPEN: Words = Words {
     at: ["begun at", "the first begun at"],
     behind: "",
     means: ["Its rest is not in the file.", "Their rest is not in the file."],
+    of_adapter: true,
 };
 
 /// A sign that is seen.
@@ -78,10 +88,14 @@ pub struct Loss {
     words: &'static Words,
     count: usize,
     first: usize,
+    /// The adapter that the first is of, if that can be told.
+    adapter: Option<u16>,
+    /// Whether the trace has other adapters too.
+    several: bool,
 }
 
-/// The signs that are seen.
-pub fn seen(gaps: &Gaps) -> Vec<Loss> {
+/// The signs that are seen in a file.
+pub fn seen(file: &[u8], gaps: &Gaps) -> Vec<Loss> {
     let all: [(&'static Words, &Gap); 7] = [
         (&SHORT, &gaps.short),
         (&DROPPED, &gaps.dropped),
@@ -91,8 +105,13 @@ pub fn seen(gaps: &Gaps) -> Vec<Loss> {
         (&GIVEN_UP, &gaps.given_up),
         (&OPEN, &gaps.open),
     ];
-    let some = all.into_iter().filter(|(_, gap)| gap.count > 0);
-    some.map(|(words, gap)| Loss { words, count: gap.count as usize, first: gap.first.unwrap_or(0) }).collect()
+    let several = several(file);
+    let loss = |(words, gap): (&'static Words, &Gap)| {
+        let first = gap.first?;
+        let adapter = adapter_at(file, first).filter(|_| words.of_adapter);
+        Some(Loss { words, count: gap.count as usize, first, adapter, several })
+    };
+    all.into_iter().filter_map(loss).collect()
 }
 
 impl Loss {
@@ -100,7 +119,8 @@ impl Loss {
     fn many(&self) -> String {
         let (words, more) = (self.words, usize::from(self.count != 1));
         let what = count(self.count, words.what[0], words.what[1]);
-        format!("{what}, {} byte {}{}", words.at[more], self.first, words.behind)
+        let adapter = self.adapter.filter(|_| self.several).map_or(String::new(), |n| format!(" on adapter {n}"));
+        format!("{what}, {} byte {}{adapter}{}", words.at[more], self.first, words.behind)
     }
 
     /// In a sentence or two.
@@ -115,26 +135,32 @@ impl Loss {
 }
 
 /// A line for each sign that is seen.
-pub fn lines(gaps: &Gaps) -> String {
-    seen(gaps).iter().map(|loss| format!("{}\n", loss.sentence())).collect()
+pub fn lines(file: &[u8], gaps: &Gaps) -> String {
+    seen(file, gaps).iter().map(|loss| format!("{}\n", loss.sentence())).collect()
 }
 
 /// What a list says where no sign is seen.
 pub const NONE: &str = "none seen";
 
 /// The facts for a list.
-pub fn facts(gaps: &Gaps) -> Vec<String> {
-    let seen = seen(gaps);
+pub fn facts(file: &[u8], gaps: &Gaps) -> Vec<String> {
+    let seen = seen(file, gaps);
     if seen.is_empty() {
         return vec![NONE.to_string()];
     }
     seen.iter().map(Loss::fact).collect()
 }
 
-/// The signs that are seen as one object, by name: how often, and where first.
-pub fn fields(gaps: &Gaps) -> String {
-    let of = |loss: &Loss| object(&[("count", loss.count.to_string()), ("first", loss.first.to_string())]);
-    let seen = seen(gaps);
+/// The signs that are seen as one object, by name: how often, where first, and of which adapter that is.
+pub fn fields(file: &[u8], gaps: &Gaps) -> String {
+    let of = |loss: &Loss| {
+        object(&[
+            ("count", loss.count.to_string()),
+            ("first", loss.first.to_string()),
+            ("adapter", null_or(loss.adapter)),
+        ])
+    };
+    let seen = seen(file, gaps);
     let fields: Vec<(&str, String)> =
         seen.iter().map(|loss| (loss.words.name, of(loss).trim_end().to_string())).collect();
     object(&fields).trim_end().to_string()
@@ -150,19 +176,40 @@ mod tests {
         gap.first = Some(first);
     }
 
-    fn each(count: u64) -> Gaps {
+    /// Each sign so often, the first of each so many bytes behind the one before.
+    fn each(count: u64, step: usize) -> Gaps {
         let mut gaps = Gaps::default();
         let Gaps { short, dropped, skipped, zeros, stray, given_up, open, .. } = &mut gaps;
         for (i, gap) in [short, dropped, skipped, zeros, stray, given_up, open].into_iter().enumerate() {
-            set(gap, count, 16 + i);
+            set(gap, count, 16 + step * i);
         }
         gaps
+    }
+
+    /// A file of one adapter, whatever its records.
+    const FILE: [u8; 80] = {
+        let mut file = [0; 80];
+        file.split_at_mut(16).0.copy_from_slice(b"btsnoop\0\0\0\0\x01\0\0\x03\xEA");
+        file
+    };
+
+    /// A trace of the Linux monitor with records of these flags, 28 bytes each.
+    fn monitored(flags: &[u32]) -> Vec<u8> {
+        let mut file = b"btsnoop\0\0\0\0\x01\0\0\x07\xD1".to_vec();
+        for flags in flags {
+            file.extend([0, 0, 0, 4, 0, 0, 0, 4]);
+            file.extend(flags.to_be_bytes());
+            file.extend([0; 12]);
+            file.extend([0x40, 0x20, 0, 0]);
+        }
+        file
     }
 
     #[test]
     fn none() {
         let gaps = Gaps::default();
-        assert_eq!((lines(&gaps), facts(&gaps), fields(&gaps)), (String::new(), vec!["none seen".into()], "{}".into()));
+        assert_eq!((lines(&FILE, &gaps), fields(&FILE, &gaps)), (String::new(), "{}".into()));
+        assert_eq!(facts(&FILE, &gaps), ["none seen"]);
     }
 
     #[test]
@@ -176,7 +223,9 @@ Without a beginning: 1 packet, at byte 20. What it continues is not in the file.
 Broken off: 1 message, at byte 21, where another begins. Its rest is not in the file.
 Open at the end: 1 message, begun at byte 22. Its rest is not in the file.
 ";
-        assert_eq!(lines(&each(1)), text);
+        assert_eq!(lines(&FILE, &each(1, 1)), text);
+        // The same of any one adapter.
+        assert_eq!(lines(&monitored(&[0x3_0004, 0x3_0005]), &each(1, 1)), text);
     }
 
     #[test]
@@ -190,7 +239,7 @@ Without a beginning: 3 packets, the first at byte 20. What they continue is not 
 Broken off: 3 messages, the first at byte 21, where another begins. Their rest is not in the file.
 Open at the end: 3 messages, the first begun at byte 22. Their rest is not in the file.
 ";
-        assert_eq!(lines(&each(3)), text);
+        assert_eq!(lines(&FILE, &each(3, 1)), text);
     }
 
     #[test]
@@ -202,7 +251,44 @@ Open at the end: 3 messages, the first begun at byte 22. Their rest is not in th
             "stored short, 1 record, at byte 16",
             "broken off, 2 messages, the first at byte 40, where another begins",
         ];
-        assert_eq!(facts(&gaps), told);
-        assert_eq!(fields(&gaps), r#"{"short":{"count":1,"first":16},"given_up":{"count":2,"first":40}}"#);
+        assert_eq!(facts(&FILE, &gaps), told);
+        assert_eq!(
+            fields(&FILE, &gaps),
+            r#"{"short":{"count":1,"first":16,"adapter":0},"given_up":{"count":2,"first":40,"adapter":0}}"#
+        );
+    }
+
+    /// The adapter of the first is named where there is another; not for the recorder's count, nor for zeros.
+    #[test]
+    fn of_two_adapters() {
+        let file = monitored(&[0xFFFF_0002, 0x1_0005, 0x1_0005, 0, 4, 0x1_0004, 5]);
+        let text = "\
+Stored short: 1 record, at byte 16 on adapter 65535. The recorder kept only a part of its packet.
+Dropped by the recorder: 1 packet, told at byte 44. By its own count it did not keep it.
+Skipped: 1 data packet, at byte 72 on adapter 1. A part of it is not in the file.
+Zeros only: 1 record, at byte 100. Something else may have stood there.
+Without a beginning: 1 packet, at byte 128 on adapter 0. What it continues is not in the file.
+Broken off: 1 message, at byte 156 on adapter 1, where another begins. Its rest is not in the file.
+Open at the end: 1 message, begun at byte 184 on adapter 0. Its rest is not in the file.
+";
+        assert_eq!(lines(&file, &each(1, 28)), text);
+        let mut gaps = Gaps::default();
+        set(&mut gaps.dropped, 5, 44);
+        set(&mut gaps.given_up, 2, 156);
+        let told = [
+            "dropped by the recorder, 5 packets, first told at byte 44",
+            "broken off, 2 messages, the first at byte 156 on adapter 1, where another begins",
+        ];
+        assert_eq!(facts(&file, &gaps), told);
+        assert_eq!(
+            fields(&file, &gaps),
+            r#"{"dropped":{"count":5,"first":44,"adapter":null},"given_up":{"count":2,"first":156,"adapter":1}}"#
+        );
+        // A record that has no packet is of no adapter.
+        let file = monitored(&[0xFFFF_000C, 4, 0x1_0004]);
+        let mut gaps = Gaps::default();
+        set(&mut gaps.short, 1, 16);
+        assert_eq!(facts(&file, &gaps), ["stored short, 1 record, at byte 16"]);
+        assert_eq!(fields(&file, &gaps), r#"{"short":{"count":1,"first":16,"adapter":null}}"#);
     }
 }

@@ -150,7 +150,7 @@ fn refused(trace: &Path, channel: Option<u8>, file: &[u8], refusal: Refusal) -> 
     if refusal == Refusal::NoStream {
         more.extend(channels::other_lines(file, None));
         let lost = gaps(file, TailRule::Tolerant).unwrap_or_default();
-        more.extend(losses::seen(&lost).iter().map(|loss| loss.sentence()));
+        more.extend(losses::seen(file, &lost).iter().map(|loss| loss.sentence()));
     }
     let more: String = more.iter().map(|line| format!("\nlumbryth: {line}")).collect();
     format!("refused ({}): {words}: {}{more}{hint}", refusal.number(), shown(trace))

@@ -6,8 +6,9 @@ use std::path::Path;
 use crate::hints::{self, Hint, Kind};
 use crate::losses;
 use crate::time::utc;
-use crate::words::{count, hex, object, shown, string, way};
+use crate::words::{capital, count, hex, named, null_or, object, several, shown, string, way};
 use crate::write::Done;
+use look::{adapter_at, adapters, Link};
 use lumbryth::{ending, unpack, Cut, Direction, Ending, Gaps, Imported, Records, Stretch, PACKET_MAX};
 
 /// How many spans do not unpack.
@@ -55,20 +56,27 @@ pub fn end_of(file: &[u8]) -> Option<(String, bool)> {
 
 /// A text with a capital and a full stop.
 pub fn sentence(words: &str) -> String {
-    let mut chars = words.chars();
-    chars.next().map_or(String::new(), |first| format!("{}{}.", first.to_ascii_uppercase(), chars.as_str()))
+    if words.is_empty() {
+        return String::new();
+    }
+    capital(words) + "."
 }
 
-/// The open stretches, a sentence each, by handle and direction.
-fn unfinished(open: &[Stretch]) -> Vec<String> {
+/// The connection of a stretch.
+fn link(stretch: &Stretch) -> Link {
+    Link { adapter: stretch.adapter, handle: stretch.handle }
+}
+
+/// The open stretches, a sentence each, by adapter, handle and direction.
+fn unfinished(open: &[Stretch], several: bool) -> Vec<String> {
     let mut open = open.to_vec();
     open.sort_by_key(|stretch| {
-        (stretch.handle, stretch.direction == Direction::Rx, stretch.cid, stretch.sessions, stretch.links)
+        (link(stretch), stretch.direction == Direction::Rx, stretch.cid, stretch.sessions, stretch.links)
     });
     let sentence = |stretch: &Stretch| {
         format!(
-            "Unfinished on handle {}, {}, DLCI {}: {} held without an end marker.",
-            stretch.handle,
+            "Unfinished on {}, {}, DLCI {}: {} held without an end marker.",
+            named(link(stretch), several),
             if stretch.direction == Direction::Rx { "received" } else { "sent" },
             stretch.dlci,
             count(stretch.held, "byte is", "bytes are"),
@@ -91,7 +99,15 @@ pub fn findings(file: &[u8], imported: &Imported, open: &[Stretch], asked: bool,
         imported.dlci,
         imported.dlci / 2,
     );
-    let unfinished = unfinished(open);
+    let adapters = adapters(file).len();
+    if adapters > 1 {
+        let _ = writeln!(
+            text,
+            "The trace has {adapters} adapters: their frames come in one list, in order of completion, \
+             which does not tell the adapters apart."
+        );
+    }
+    let unfinished = unfinished(open, adapters > 1);
     if unfinished.is_empty() {
         let _ = writeln!(text, "Unfinished on DLCI {}: nothing is held without an end marker.", imported.dlci);
     }
@@ -118,7 +134,12 @@ fn hints_of(file: &[u8], imported: &Imported) -> Vec<Hint> {
 
 /// What is not in the trace: the signs of it that are seen, then hints.
 pub fn missing(file: &[u8], imported: &Imported, gaps: &Gaps) -> String {
-    losses::lines(gaps) + &hints::lines(&hints_of(file, imported))
+    let mut text = losses::lines(file, gaps);
+    let hints = hints_of(file, imported);
+    if !hints.is_empty() && several(file) {
+        text += "Hints go by the one list of frames: they may take a frame of one adapter for one of another.\n";
+    }
+    text + &hints::lines(&hints)
 }
 
 /// What was done with the fixtures.
@@ -158,7 +179,7 @@ pub fn frames(imported: &Imported) -> String {
 pub fn end_fields(file: &[u8]) -> Vec<(&'static str, String)> {
     let (name, mut fields) = match ending(file) {
         Ok(Ending::Inside(cut)) => {
-            let missing = cut.missing.map_or("null".to_string(), |n| n.to_string());
+            let missing = null_or(cut.missing);
             (
                 "cut",
                 vec![("offset", cut.offset.to_string()), ("present", cut.present.to_string()), ("missing", missing)],
@@ -183,12 +204,14 @@ pub fn frame_objects(file: &[u8], imported: &Imported, open: &[Stretch], gaps: &
     let mut fields = vec![("kind", string("import"))];
     fields.extend(numbers.map(|(name, number)| (name, number.to_string())));
     fields.push(("unfinished", imported.unfinished.to_string()));
+    fields.push(("adapters", adapters(file).len().to_string()));
     fields.extend(end_fields(file));
-    fields.push(("losses", losses::fields(gaps)));
+    fields.push(("losses", losses::fields(file, gaps)));
     let mut text = object(&fields);
     for stretch in open {
         text += &object(&[
             ("kind", string("unfinished")),
+            ("adapter", stretch.adapter.to_string()),
             ("handle", stretch.handle.to_string()),
             ("direction", string(way(stretch.direction))),
             ("dlci", stretch.dlci.to_string()),
@@ -229,8 +252,8 @@ fn number(bytes: &[u8]) -> u64 {
     bytes.iter().fold(0, |n, &byte| n << 8 | u64::from(byte))
 }
 
-/// Which way a record's packet went, if that is told, and what it is, as the import reads it.
-fn kind(datalink: u64, flags: u64, packet: &[u8]) -> (Option<&'static str>, String) {
+/// Which way a record's packet went, if that is told, and what it is, as the import reads it; with the adapter if one is given.
+fn kind(datalink: u64, flags: u64, packet: &[u8], adapter: Option<u16>) -> (Option<&'static str>, String) {
     let (way, name) = if datalink == 2001 {
         match flags & 0xFFFF {
             2 => (Some("tx"), "command"),
@@ -249,20 +272,23 @@ fn kind(datalink: u64, flags: u64, packet: &[u8]) -> (Option<&'static str>, Stri
         };
         (Some(way), name)
     };
+    let mut what = name.to_string();
+    adapter.into_iter().for_each(|adapter| what += &format!(", adapter {adapter}"));
     let acl = if datalink == 1002 { packet.get(1..) } else { Some(packet) };
     match acl.and_then(|acl| acl.get(..2)) {
         Some(field) if name == "ACL data" => {
             let handle = u16::from(field[1] & 0x0F) << 8 | u16::from(field[0]);
             let part = if field[1] >> 4 & 3 == 1 { "continues a PDU" } else { "begins a PDU" };
-            (way, format!("{name}, handle {handle}, {part}"))
+            (way, format!("{what}, handle {handle}, {part}"))
         }
-        _ => (way, name.to_string()),
+        _ => (way, what),
     }
 }
 
-/// A record: where it starts, which way its packet went, what that is, its length, milliseconds since 1970.
+/// A record: where it starts, its packet's adapter, which way that went, what it is, its length, milliseconds since 1970.
 struct Record {
     start: usize,
+    adapter: Option<u16>,
     way: Option<&'static str>,
     what: String,
     length: usize,
@@ -270,26 +296,31 @@ struct Record {
 }
 
 fn each_record<'a>(file: &'a [u8], found: &'a Records) -> impl Iterator<Item = Record> + 'a {
-    let datalink = number(&file[12..16]);
+    let (datalink, several) = (number(&file[12..16]), several(file));
     found.starts.iter().map(move |&start| {
         let (head, rest) = file[start..].split_at(24);
         let packet = &rest[..number(&head[4..8]) as usize];
-        let (way, what) = kind(datalink, number(&head[8..12]), packet);
+        let adapter = adapter_at(file, start);
+        let (way, what) = kind(datalink, number(&head[8..12]), packet, adapter.filter(|_| several));
         let ms = number(&head[16..24]).saturating_sub(EPOCH) / 1000;
-        Record { start, way, what, length: packet.len(), ms }
+        Record { start, adapter, way, what, length: packet.len(), ms }
     })
 }
 
 /// The list of records, a line each.
 pub fn records(file: &[u8], found: &Records, gaps: &Gaps) -> String {
-    let records = count(found.starts.len(), "record", "records");
+    let mut records = count(found.starts.len(), "record", "records");
+    let adapters = adapters(file).len();
+    if adapters > 1 {
+        records += &format!(", {adapters} adapters");
+    }
     let mut text = format!("{records}: datalink {}.\n", number(&file[12..16]));
     let (words, seen) = end_of(file).unwrap_or_default();
     let _ = writeln!(text, "{}", sentence(&words));
     if seen {
         text += "Whatever came later is missing.\n";
     }
-    text += &losses::lines(gaps);
+    text += &losses::lines(file, gaps);
     for (n, record) in (1..).zip(each_record(file, found)) {
         let (way, bytes) = (record.way.unwrap_or("no direction"), count(record.length, "byte", "bytes"));
         let _ = writeln!(text, "{}, {way} {n}, {bytes} at {}, {}", record.what, record.start, utc(record.ms));
@@ -303,9 +334,10 @@ pub fn record_objects(file: &[u8], found: &Records, gaps: &Gaps) -> String {
         ("kind", string("file")),
         ("datalink", number(&file[12..16]).to_string()),
         ("records", found.starts.len().to_string()),
+        ("adapters", adapters(file).len().to_string()),
     ];
     fields.extend(end_fields(file));
-    fields.push(("losses", losses::fields(gaps)));
+    fields.push(("losses", losses::fields(file, gaps)));
     let mut text = object(&fields);
     for (n, record) in (1..).zip(each_record(file, found)) {
         let n: usize = n;
@@ -313,6 +345,7 @@ pub fn record_objects(file: &[u8], found: &Records, gaps: &Gaps) -> String {
             ("kind", string("record")),
             ("number", n.to_string()),
             ("offset", record.start.to_string()),
+            ("adapter", null_or(record.adapter)),
             ("direction", record.way.map_or("null".to_string(), string)),
             ("ms", record.ms.to_string()),
             ("length", record.length.to_string()),

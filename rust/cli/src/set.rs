@@ -91,7 +91,7 @@ impl Set {
         if exclude.is_empty() {
             facts.push(("exclude", "none".to_string()));
         }
-        facts.extend(losses::facts(gaps).into_iter().map(|loss| ("losses", loss)));
+        facts.extend(losses::facts(file, gaps).into_iter().map(|loss| ("losses", loss)));
         for (counter, span) in (1..).zip(&imported.spans) {
             let reason = match fixture_name(span.ms, counter, span.direction, &span.wire) {
                 Ok(name) if fixtures.contains_key(&name) => continue,

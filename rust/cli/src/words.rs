@@ -4,11 +4,18 @@ use std::ffi::OsStr;
 use std::fmt::Write;
 use std::os::unix::ffi::OsStrExt;
 
+use look::Link;
 use lumbryth::Direction;
 
 /// A number and what it counts.
 pub fn count(n: usize, one: &str, more: &str) -> String {
     format!("{n} {}", if n == 1 { one } else { more })
+}
+
+/// A text with a capital.
+pub fn capital(words: &str) -> String {
+    let mut chars = words.chars();
+    chars.next().map_or(String::new(), |first| format!("{}{}", first.to_ascii_uppercase(), chars.as_str()))
 }
 
 /// A direction in two letters: rx is from the headset.
@@ -18,6 +25,25 @@ pub fn way(direction: Direction) -> &'static str {
     } else {
         "tx"
     }
+}
+
+/// Whether a trace has more than one adapter. Only then are adapters named.
+pub fn several(file: &[u8]) -> bool {
+    look::adapters(file).len() > 1
+}
+
+/// A connection by its handle, and by its adapter where there are several.
+pub fn named(link: Link, several: bool) -> String {
+    if several {
+        format!("adapter {}, handle {}", link.adapter, link.handle)
+    } else {
+        format!("handle {}", link.handle)
+    }
+}
+
+/// A number, or null if there is none.
+pub fn null_or(number: Option<impl ToString>) -> String {
+    number.map_or("null".to_string(), |number| number.to_string())
 }
 
 /// Whether a character does something else than to be seen: controls, and marks of direction and width.

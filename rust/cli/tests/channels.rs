@@ -6,16 +6,16 @@ mod made;
 #[path = "../../../examples/trace/mod.rs"]
 mod trace;
 
-use std::collections::BTreeSet;
+use std::collections::{BTreeMap, BTreeSet};
 use std::ffi::OsStr;
 use std::fs;
 use std::os::unix::ffi::OsStrExt;
 use std::process::{Command, Stdio};
 
 use common::*;
-use look::{look, Seen};
+use look::{look, Link, Seen};
 use lumbryth::Direction::{self, Rx, Tx};
-use lumbryth::{gaps, import, pack, unpack, Refusal, TailRule};
+use lumbryth::{gaps, import, import_stretches, pack, unpack, Refusal, TailRule};
 use trace::{control, pdu, signal, uih, Trace};
 
 /// A trace of PDUs, a packet each: handle, direction, PDU.
@@ -450,28 +450,35 @@ fn an_object_a_line() {
             kinds.insert(line.split('"').nth(3).unwrap().to_string());
         }
         let channels: usize = seen.handles.iter().map(|handle| handle.channels.len()).sum();
-        let refused: usize = seen.dlcis.iter().map(|dlci| dlci.refused.len()).sum();
-        assert_eq!(text.lines().count(), 1 + seen.handles.len() + channels + seen.dlcis.len() + refused);
+        let more: usize = seen.dlcis.iter().map(|dlci| dlci.links.len() + dlci.refused.len()).sum();
+        assert_eq!(text.lines().count(), 1 + seen.handles.len() + channels + seen.dlcis.len() + more);
+        // Whatever has a handle has an adapter before it.
+        assert_eq!(text.matches(r#""handle":"#).count(), text.matches(r#","handle":"#).count());
+        for line in text.lines().filter(|line| line.contains(r#","handle":"#)) {
+            let adapter = line.split(r#""adapter":"#).nth(1).unwrap().split(r#","handle":"#).next().unwrap();
+            assert!(adapter.parse::<u16>().is_ok(), "{line}");
+        }
     }
-    assert!(kinds.iter().eq(["channel", "dlci", "file", "handle", "refused"]), "{kinds:?}");
+    assert!(kinds.iter().eq(["channel", "dlci", "file", "handle", "refused", "share"]), "{kinds:?}");
 
     let text = out(&words(&[&"channels", &place.file("trace", &many_dlcis()), &"--json"]));
     let lines: Vec<&str> = text.lines().collect();
     let told = [
-        r#"{"kind":"file","datalink":1002,"records":14,"taken":18,"reason":null,"end":"record","losses":{}}"#,
-        r#"{"kind":"handle","handle":6,"rx_packets":10,"rx_pdus":10,"tx_packets":4,"tx_pdus":4}"#,
-        r#"{"kind":"channel","handle":6,"direction":"tx","cid":1,"psms":[],"standing":"signals","tried":false,"pdus":2,"reason":null}"#,
-        r#"{"kind":"channel","handle":6,"direction":"rx","cid":69,"psms":[3],"standing":"admitted","tried":true,"pdus":7,"reason":null}"#,
+        r#"{"kind":"file","datalink":1002,"records":14,"adapters":1,"taken":18,"reason":null,"end":"record","losses":{}}"#,
+        r#"{"kind":"handle","adapter":0,"handle":6,"rx_packets":10,"rx_pdus":10,"tx_packets":4,"tx_pdus":4}"#,
+        r#"{"kind":"channel","adapter":0,"handle":6,"direction":"tx","cid":1,"psms":[],"standing":"signals","tried":false,"pdus":2,"reason":null}"#,
+        r#"{"kind":"channel","adapter":0,"handle":6,"direction":"rx","cid":69,"psms":[3],"standing":"admitted","tried":true,"pdus":7,"reason":null}"#,
     ];
     assert_eq!(lines[..4], told);
-    let told = r#"{"kind":"channel","handle":6,"direction":"rx","cid":112,"psms":[4097],"standing":"named","tried":false,"pdus":1,"reason":"no request for it has PSM 0x0003, RFCOMM"}"#;
+    let told = r#"{"kind":"channel","adapter":0,"handle":6,"direction":"rx","cid":112,"psms":[4097],"standing":"named","tried":false,"pdus":1,"reason":"no request for it has PSM 0x0003, RFCOMM"}"#;
     assert_eq!(lines[6], told);
     let told = [
         r#"{"kind":"dlci","dlci":40,"channel":20,"pieces":5,"spans":4,"frames":2,"unfinished":1,"asked_by":20}"#,
+        r#"{"kind":"share","dlci":40,"adapter":0,"handle":6,"pieces":5,"spans":4,"frames":2,"unfinished":1}"#,
         r#"{"kind":"refused","dlci":40,"refusal":17,"spans":2,"reason":"the frame's checksum is 30 where its bytes give 70"}"#,
         r#"{"kind":"dlci","dlci":19,"channel":9,"pieces":1,"spans":1,"frames":1,"unfinished":0,"asked_by":null}"#,
     ];
-    assert_eq!(lines[9..12], told);
+    assert_eq!(lines[10..14], told);
 }
 
 /// The look and the proved import agree, for each channel and without one.
@@ -480,18 +487,24 @@ fn agrees(file: &[u8]) -> Seen {
     let seen = look(file).unwrap();
     assert_eq!(seen.skipped as u64, gaps(file, TailRule::Tolerant).unwrap().skipped.count);
     for channel in (0..=31).map(Some).chain([None]) {
-        match (import(file, channel, TailRule::Tolerant), seen.taken(channel)) {
+        match (import_stretches(file, channel, TailRule::Tolerant), seen.taken(channel)) {
             (Err(Refusal::NoStream), None) => {}
-            (Ok(imported), Some(dlci)) => {
+            (Ok((imported, open)), Some(dlci)) => {
                 let frames = imported.spans.iter().filter(|span| unpack(&span.wire).is_ok()).count();
                 let proved = (imported.dlci, imported.frames, frames, imported.unfinished, imported.tail);
                 assert_eq!(
-                    (dlci.dlci, dlci.spans, dlci.frames, dlci.unfinished, seen.tail),
+                    (dlci.dlci, dlci.all.spans, dlci.all.frames, dlci.all.unfinished, seen.tail),
                     proved,
                     "channel {channel:?}"
                 );
                 let refused: usize = dlci.refused.iter().map(|refused| refused.spans).sum();
-                assert_eq!(dlci.spans, dlci.frames + refused);
+                assert_eq!(dlci.all.spans, dlci.all.frames + refused);
+                // What is unfinished, by adapter and handle.
+                let mut proved = BTreeMap::new();
+                open.iter().for_each(|stretch| *proved.entry((stretch.adapter, stretch.handle)).or_insert(0) += 1);
+                let held = dlci.links.iter().filter(|(_, share)| share.unfinished > 0);
+                let held = held.map(|(link, share)| ((link.adapter, link.handle), share.unfinished));
+                assert_eq!(held.collect::<BTreeMap<_, _>>(), proved, "channel {channel:?}");
             }
             (imported, dlci) => panic!("channel {channel:?}: import {imported:?}, look {dlci:?}"),
         }
@@ -499,25 +512,40 @@ fn agrees(file: &[u8]) -> Seen {
     seen
 }
 
+/// The links over which a DLCI has frames.
+fn carriers(dlci: &look::Dlci) -> impl Iterator<Item = Link> + '_ {
+    dlci.links.iter().filter(|(_, share)| share.frames > 0).map(|(link, _)| *link)
+}
+
+/// Whether two adapters use the same handle.
+fn shares_a_handle(seen: &Seen) -> bool {
+    let handles: BTreeSet<u16> = seen.handles.iter().map(|handle| handle.link.handle).collect();
+    handles.len() < seen.handles.len()
+}
+
 #[test]
 fn the_look_agrees_with_the_import() {
     let mut rng = made::Rng(1);
     let mut hit = BTreeSet::new();
-    let mut counts = [0; 8];
+    let mut counts = [0; 10];
     for _ in 0..6_000 {
         let file = made::trace(&mut rng);
         let seen = agrees(&file);
         let taken: Vec<_> = (0..32).filter_map(|channel| seen.taken(Some(channel))).collect();
-        let shared = |dlci: &look::Dlci| seen.dlcis.iter().any(|other| other.dlci == dlci.dlci ^ 1 && other.pieces > 0);
+        let shared =
+            |dlci: &look::Dlci| seen.dlcis.iter().any(|other| other.dlci == dlci.dlci ^ 1 && other.all.pieces > 0);
         let facts = [
             taken.is_empty() && seen.dlcis.is_empty(),
             taken.is_empty() && !seen.dlcis.is_empty(),
             taken.len() > 1,
             taken.iter().any(|dlci| shared(dlci)),
-            taken.iter().any(|dlci| dlci.unfinished > 1),
-            taken.iter().any(|dlci| dlci.spans > dlci.frames),
+            taken.iter().any(|dlci| dlci.all.unfinished > 1),
+            taken.iter().any(|dlci| dlci.all.spans > dlci.all.frames),
             !taken.is_empty() && seen.handles.len() > 1,
             !taken.is_empty() && seen.skipped > 0,
+            // Several adapters, with frames on more than one of them; and two that use one handle.
+            taken.iter().any(|dlci| carriers(dlci).map(|link| link.adapter).collect::<BTreeSet<_>>().len() > 1),
+            !taken.is_empty() && shares_a_handle(&seen),
         ];
         counts.iter_mut().zip(facts).for_each(|(count, fact)| *count += usize::from(fact));
         let channels = seen.handles.iter().flat_map(|handle| &handle.channels).filter(|channel| channel.pdus > 0);
@@ -532,22 +560,36 @@ fn the_look_agrees_with_the_import() {
 #[test]
 fn damaged_files_agree() {
     let mut rng = made::Rng(2);
-    let whole = fs::read(example("headset.btsnoop")).unwrap();
-    let (mut read, mut refused) = (0, 0);
-    for _ in 0..2_000 {
-        let file = rng.damaged(&whole);
-        match look(&file) {
-            Ok(_) => {
-                agrees(&file);
-                read += 1;
-            }
-            Err(refusal) => {
-                assert_eq!(import(&file, None, TailRule::Tolerant), Err(refusal));
-                refused += 1;
+    for name in ["headset.btsnoop", "two-adapters.btsnoop"] {
+        let whole = fs::read(example(name)).unwrap();
+        let (mut read, mut refused) = (0, 0);
+        for _ in 0..2_000 {
+            let file = rng.damaged(&whole);
+            match look(&file) {
+                Ok(_) => {
+                    agrees(&file);
+                    read += 1;
+                }
+                Err(refusal) => {
+                    assert_eq!(import(&file, None, TailRule::Tolerant), Err(refusal));
+                    refused += 1;
+                }
             }
         }
+        assert!(read >= 1_000 && refused >= 20, "{name}: {read} {refused}");
     }
-    assert!(read >= 1_000 && refused >= 20, "{read} {refused}");
+}
+
+/// Every cut of a trace of two adapters, and every one of its records taken out.
+#[test]
+fn two_adapters_agree() {
+    let whole = fs::read(example("two-adapters.btsnoop")).unwrap();
+    for n in 16..=whole.len() {
+        agrees(&whole[..n]);
+    }
+    for pair in bounds(&whole).windows(2) {
+        agrees(&[&whole[..pair[0]], &whole[pair[1]..]].concat());
+    }
 }
 
 #[test]
@@ -563,10 +605,10 @@ fn long_buffers_agree() {
             left -= n;
         }
         let seen = agrees(&trace_of_pdus(&pdus));
-        assert_eq!((seen.dlcis[0].spans, seen.dlcis[0].unfinished), (1, held));
+        assert_eq!((seen.dlcis[0].all.spans, seen.dlcis[0].all.unfinished), (1, held));
         // What is not dropped ends with the next 3C, of whatever it is.
         pdus.push((6, Rx, pdu(0x45, &uih(18, false, None, &[&[0x3C], &wire[..]].concat()))));
         let seen = agrees(&trace_of_pdus(&pdus));
-        assert_eq!((seen.dlcis[0].spans, seen.dlcis[0].frames), (2 + held, 2));
+        assert_eq!((seen.dlcis[0].all.spans, seen.dlcis[0].all.frames), (2 + held, 2));
     }
 }

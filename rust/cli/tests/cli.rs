@@ -382,9 +382,9 @@ fn objects_a_line() {
     let text = out(&output);
     let lines: Vec<&str> = text.lines().collect();
     assert_eq!(lines.len(), 31);
-    let first = r#"{"kind":"import","dlci":18,"channel":9,"frames":29,"unfinished":1,"end":"cut","offset":2453,"present":30,"missing":13,"losses":{}}"#;
+    let first = r#"{"kind":"import","dlci":18,"channel":9,"frames":29,"unfinished":1,"adapters":1,"end":"cut","offset":2453,"present":30,"missing":13,"losses":{}}"#;
     assert_eq!(lines[0], first);
-    assert_eq!(lines[1], r#"{"kind":"unfinished","handle":6,"direction":"rx","dlci":18,"held":8}"#);
+    assert_eq!(lines[1], r#"{"kind":"unfinished","adapter":0,"handle":6,"direction":"rx","dlci":18,"held":8}"#);
     let frame = r#"{"kind":"frame","counter":9,"direction":"tx","ms":1715679000195,"wire":"3e0c000000000222003"#;
     assert!(lines[10].starts_with(frame), "{}", lines[10]);
     let rest =
@@ -395,8 +395,8 @@ fn objects_a_line() {
     let text = out(&output);
     let lines: Vec<&str> = text.lines().collect();
     assert_eq!(lines.len(), 55);
-    assert_eq!(lines[0], r#"{"kind":"file","datalink":1002,"records":54,"end":"record","losses":{}}"#);
-    let third = r#"{"kind":"record","number":3,"offset":75,"direction":"tx","ms":1715679000013,"length":17,"what":"ACL data, handle 6, begins a PDU"}"#;
+    assert_eq!(lines[0], r#"{"kind":"file","datalink":1002,"records":54,"adapters":1,"end":"record","losses":{}}"#);
+    let third = r#"{"kind":"record","number":3,"offset":75,"adapter":0,"direction":"tx","ms":1715679000013,"length":17,"what":"ACL data, handle 6, begins a PDU"}"#;
     assert_eq!(lines[3], third);
 }
 

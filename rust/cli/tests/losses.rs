@@ -367,7 +367,7 @@ fn objects_tell_it_too() {
     let mut file = without(&whole(), 41);
     file[16 + 12..16 + 16].copy_from_slice(&[0, 0, 1, 0]);
     let trace = place.file("trace", &file);
-    let losses = r#""losses":{"dropped":{"count":256,"first":16},"given_up":{"count":1,"first":2090}}}"#;
+    let losses = r#""losses":{"dropped":{"count":256,"first":16,"adapter":null},"given_up":{"count":1,"first":2090,"adapter":0}}}"#;
     let text = out(&words(&[&"frames", &"--json", &trace]));
     let lines: Vec<&str> = text.lines().collect();
     assert!(lines[0].starts_with(r#"{"kind":"import","#) && lines[0].ends_with(losses), "{}", lines[0]);

@@ -1,7 +1,8 @@
 //! Well-behaved traces at random: what two devices that keep to the rules of Bluetooth send.
 //!
 //! One to three links open RFCOMM and then send frames on one to three DLCIs, both ways, in pieces and fragments of any size,
-//! with credits, with fragments of all links mixed, and with other traffic between. Some frames are damaged, there is junk
+//! with credits, with fragments of all links mixed, and with other traffic between. In a trace of the Linux monitor the links are
+//! those of one to three adapters, which may use the same handle. Some frames are damaged, there is junk
 //! between frames, and the last frame may be a partial one: all of that is the devices' own business.
 
 use std::collections::VecDeque;
@@ -19,6 +20,8 @@ pub struct Generated {
 }
 
 struct Link {
+    /// 0 but for the Linux monitor.
+    adapter: u16,
     handle: u16,
     /// The CIDs of what comes in and of what goes out.
     cids: [u16; 2],
@@ -146,6 +149,7 @@ impl Maker<'_> {
         }
         let us = self.tick();
         let Some((first, data)) = link.open[i].pop_front() else { return false };
+        self.trace.adapter = link.adapter;
         self.trace.fragment(direction, us, link.handle, first, &data);
         true
     }
@@ -223,17 +227,21 @@ pub fn trace(rng: &mut Rng, datalink: u32) -> Generated {
         let channel = channels.swap_remove(rng.within(0, channels.len() - 1));
         dlcis.push(channel << 1 | rng.byte() & 1);
     }
-    let mut handles = vec![0x001, 0x006, 0x040, 0x100, 0xEFF];
+    // Adapters that share few handles, or one adapter with many.
+    let (adapters, most) = if datalink == 2001 { (&[0, 1, 3][..], rng.within(1, 2)) } else { (&[0][..], 5) };
+    let handles = &[0x001, 0x006, 0x040, 0x100, 0xEFF][..most];
+    let mut names: Vec<(u16, u16)> =
+        adapters.iter().flat_map(|&adapter| handles.iter().map(move |&handle| (adapter, handle))).collect();
     let count = rng.within(1, 3);
     let fragment = rng.pick(&[5, 17, 27, 64, 339]);
     let us = 1_600_000_000_000_000 + rng.within(0, 200_000_000_000_000) as u64;
     let mut maker = Maker { rng, trace: Trace::new(datalink), us, fragment };
     let mut links = Vec::new();
     for _ in 0..count {
-        let handle = handles.swap_remove(maker.rng.within(0, handles.len() - 1));
+        let (adapter, handle) = names.swap_remove(maker.rng.within(0, names.len() - 1));
         let cids = [cid(maker.rng), cid(maker.rng)];
         let opener = maker.rng.pick(&[Rx, Tx]);
-        let mut link = Link { handle, cids, opener, waiting: Default::default(), open: Default::default() };
+        let mut link = Link { adapter, handle, cids, opener, waiting: Default::default(), open: Default::default() };
         let second = maker.rng.percent(40);
         maker.open(&mut link, &dlcis, second);
         for direction in [Rx, Tx] {

@@ -4,12 +4,15 @@ use std::collections::BTreeMap;
 
 use lumbryth::{Direction, Span};
 
+/// A connection: an adapter's index, which is 0 but for the Linux monitor, and a handle.
+pub type Link = (u16, u16);
+
 /// A whole L2CAP PDU, at the record that completes it.
 #[derive(Debug, Clone, PartialEq)]
 pub struct Pdu {
     pub record: usize,
     pub direction: Direction,
-    pub handle: u16,
+    pub link: Link,
     pub ms: u64,
     pub bytes: Vec<u8>,
 }
@@ -19,7 +22,7 @@ pub struct Pdu {
 pub struct Piece {
     pub record: usize,
     pub direction: Direction,
-    pub handle: u16,
+    pub link: Link,
     pub cid: u16,
     pub dlci: u8,
     pub ms: u64,
@@ -40,9 +43,9 @@ pub struct Seen {
 /// the end.
 pub fn spans(pieces: &[Piece], dlci: u8) -> (Vec<Span>, usize) {
     let mut spans = Vec::new();
-    let mut buffers: BTreeMap<(u16, u16, Direction), Vec<u8>> = BTreeMap::new();
+    let mut buffers: BTreeMap<(Link, u16, Direction), Vec<u8>> = BTreeMap::new();
     for piece in pieces.iter().filter(|piece| piece.dlci == dlci) {
-        let buffer = buffers.entry((piece.handle, piece.cid, piece.direction)).or_default();
+        let buffer = buffers.entry((piece.link, piece.cid, piece.direction)).or_default();
         for &byte in &piece.information {
             if buffer.is_empty() && byte != 0x3E {
                 continue;

@@ -22,7 +22,7 @@ pub fn read(file: &[u8]) -> Seen {
     let mut at = 16;
     while at < file.len() {
         let packet = &file[at + 24..at + 24 + big(&file[at + 4..at + 8]) as usize];
-        let flags = big(&file[at + 8..at + 12]) & 0xFFFF;
+        let (index, flags) = (big(&file[at + 8..at + 10]) as u16, big(&file[at + 10..at + 12]));
         let ms = (big(&file[at + 16..at + 24]) - EPOCH) / 1000;
         at += 24 + packet.len();
         seen.records += 1;
@@ -34,8 +34,8 @@ pub fn read(file: &[u8]) -> Seen {
             _ => continue,
         };
         let field = little(&acl[..2]) as u16;
-        let handle = field & 0x0FFF;
-        let partial = open.entry((handle, direction)).or_default();
+        let link = (if datalink == 2001 { index } else { 0 }, field & 0x0FFF);
+        let partial = open.entry((link, direction)).or_default();
         if field >> 12 & 3 != 1 {
             partial.clear();
         }
@@ -43,7 +43,7 @@ pub fn read(file: &[u8]) -> Seen {
         if partial.len() >= 4 && partial.len() == 4 + little(&partial[..2]) {
             let bytes = std::mem::take(partial);
             seen.joined += usize::from(bytes.len() > acl.len() - 4);
-            seen.pdus.push(Pdu { record: seen.records, direction, handle, ms, bytes });
+            seen.pdus.push(Pdu { record: seen.records, direction, link, ms, bytes });
         }
     }
     seen

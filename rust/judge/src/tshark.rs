@@ -29,10 +29,10 @@ pub fn read(path: &Path) -> Result<Seen, String> {
         seen.records = number;
         let Some(pdu) = raw(record, "btl2cap_raw")? else { continue };
         let direction = direction(record).map_err(|words| format!("record {number}: {words}"))?;
-        let handle = hex(value(record, "bthci_acl.chandle")?)?;
+        let link = (adapter(record)?, hex(value(record, "bthci_acl.chandle")?)?);
         let ms = milliseconds(value(record, "frame.time_epoch")?)?;
         let cid = u16::from_le_bytes([pdu[2], pdu[3]]);
-        seen.pdus.push(Pdu { record: number, direction, handle, ms, bytes: pdu });
+        seen.pdus.push(Pdu { record: number, direction, link, ms, bytes: pdu });
         if raw(record, "btrfcomm_raw")?.is_none() || value(record, "btrfcomm.frame_type")? != "0xef" {
             continue;
         }
@@ -46,7 +46,7 @@ pub fn read(path: &Path) -> Result<Seen, String> {
         if information.len().to_string() != length {
             return Err(format!("record {number}: {} bytes are shown, of length {length}", information.len()));
         }
-        seen.pieces.push(Piece { record: number, direction, handle, cid, dlci, ms, information });
+        seen.pieces.push(Piece { record: number, direction, link, cid, dlci, ms, information });
     }
     Ok(seen)
 }
@@ -58,6 +58,12 @@ fn direction(record: &str) -> Result<Direction, String> {
         "1" | "5" | "0x0005" => Ok(Direction::Rx),
         other => Err(format!("direction {other}")),
     }
+}
+
+/// The adapter of a record; only the Linux monitor tells it.
+fn adapter(record: &str) -> Result<u16, String> {
+    let Ok(index) = value(record, "hci_mon.adapter_id") else { return Ok(0) };
+    index.parse().map_err(|error| format!("adapter {index}: {error}"))
 }
 
 /// The text of a key, the first time it is there.

@@ -3,7 +3,8 @@
 //!
 //! `include/lumbryth.h` has the same declarations, with what each call does.
 
-/// A stretch as the library writes it: twice the handle and one more if the bytes were received, then numbers as in `crate::Stretch`.
+/// A stretch as the library writes it: `way` is 2 * (4096 * adapter + handle), and one more if the bytes were received; the others are
+/// numbers as in `crate::Stretch`.
 #[derive(Debug, Clone, Copy, Default)]
 #[repr(C)]
 pub struct Stretch {

@@ -190,7 +190,9 @@ pub struct Imported {
 #[derive(Debug, Clone, Copy, PartialEq, Eq, Hash)]
 #[non_exhaustive]
 pub struct Stretch {
-    /// The handle.
+    /// The adapter's index, by which a trace of datalink 2001 tells adapters apart; 0 for 1001 and 1002.
+    pub adapter: u16,
+    /// The handle, 0 to 4095. Two adapters may use the same one for two connections, so that the connection is `(adapter, handle)`.
     pub handle: u16,
     /// Which way the bytes went.
     pub direction: Direction,
@@ -198,19 +200,21 @@ pub struct Stretch {
     pub cid: u16,
     /// The DLCI.
     pub dlci: u8,
-    /// How many sessions of the handle had been asked for.
+    /// How many sessions of the connection had been asked for.
     pub sessions: u32,
-    /// How often the link of the DLCI had been opened.
+    /// How often the connection's link of the DLCI had been opened.
     pub links: u32,
     /// How many bytes are held.
     pub held: usize,
 }
 
 impl Stretch {
-    /// A stretch as the library tells it.
+    /// A stretch as the library tells it: its way is 2 * link + direction, and link is 4096 * adapter + handle.
     fn of(raw: &ffi::Stretch) -> Stretch {
+        let link = raw.way / 2;
         Stretch {
-            handle: (raw.way / 2) as u16,
+            adapter: (link / 4096) as u16,
+            handle: (link % 4096) as u16,
             direction: if raw.way % 2 == 1 { Direction::Rx } else { Direction::Tx },
             cid: raw.cid as u16,
             dlci: raw.dlci as u8,
@@ -431,6 +435,10 @@ pub fn capture_order<N: AsRef<[u8]>>(names: &[N]) -> Result<Vec<Vec<u8>>, Refusa
 /// Imports a trace: the spans of one DLCI. It is the first DLCI seen that has a span which
 /// unpacks; with a channel, one of that channel.
 ///
+/// A trace of datalink 2001 may be of several adapters. Connections are told apart by the
+/// adapter's index and the handle. The spans of all of them come in one list, which does not
+/// tell whose they are.
+///
 /// ```
 /// use lumbryth::{import, Refusal, TailRule};
 ///
@@ -474,6 +482,13 @@ pub fn import_with(file: &[u8], options: &Options) -> Result<Imported, Refusal> 
 ///
 /// let header = b"btsnoop\0\0\0\0\x01\0\0\x03\xEA";
 /// assert_eq!(import_stretches(header, None, TailRule::Strict), Err(Refusal::NoStream));
+///
+/// // The example of two adapters ends with a part of a reply on adapter 1.
+/// let file = std::fs::read("../../examples/two-adapters.btsnoop")?;
+/// let (imported, open) = import_stretches(&file, None, TailRule::Strict)?;
+/// assert_eq!((imported.frames, imported.unfinished), (10, 1));
+/// assert_eq!((open[0].adapter, open[0].handle, open[0].held), (1, 6, 8));
+/// # Ok::<(), Box<dyn std::error::Error>>(())
 /// ```
 pub fn import_stretches(file: &[u8], channel: Option<u8>, tail: TailRule) -> Result<(Imported, Vec<Stretch>), Refusal> {
     let (channel, tolerant) = numbers(channel, tail);

@@ -180,10 +180,84 @@ fn stretches_that_are_open() {
         assert_eq!(import(trace, None, TailRule::Tolerant), Ok(imported.clone()));
         assert_eq!((imported.unfinished, stretches.len()), (open, open));
         for stretch in stretches {
-            assert_eq!((stretch.handle, stretch.direction, stretch.dlci, stretch.held), (6, Direction::Rx, 18, 8));
+            assert_eq!((stretch.adapter, stretch.handle, stretch.direction), (0, 6, Direction::Rx));
+            assert_eq!((stretch.cid, stretch.dlci, stretch.sessions, stretch.links), (0x45, 18, 2, 1));
+            assert_eq!(stretch.held, 8);
         }
     }
     refused(import_stretches(&[0; 16], None, TailRule::Strict), Refusal::NotBtsnoop, 3, &[]);
+}
+
+/// A trace of pieces on DLCI 18 and CID 0x41, one to a record: flags, handle, information.
+fn pieces(datalink: u32, pieces: &[(u32, u16, &[u8])]) -> Vec<u8> {
+    let mut file = [&EXAMPLE[..12], &datalink.to_be_bytes()].concat();
+    for (flags, handle, information) in pieces {
+        let n = information.len() as u16;
+        let numbers = [0x2000 | handle, n + 8, n + 4, 0x41].map(u16::to_le_bytes).concat();
+        let kind: &[u8] = if datalink == 1002 { &[2] } else { &[] };
+        let packet = [kind, &numbers, &[0x49, 0xEF, (n << 1 | 1) as u8], information, &[0]].concat();
+        let length = (packet.len() as u32).to_be_bytes();
+        file.extend([&length, &length, &flags.to_be_bytes(), &EXAMPLE[28..40], &packet].concat());
+    }
+    file
+}
+
+/// A stretch tells its adapter, handle and direction, from the lowest to the highest, in the order of the first bytes.
+#[test]
+fn stretches_of_adapters() {
+    use Direction::{Rx, Tx};
+    let whole = &EXAMPLE[52..61];
+    let ways = [(0, 0), (0, 4095), (1, 0), (1, 4095), (0x7FFF, 64), (0x8000, 64), (0xFFFF, 0), (0xFFFF, 4095)];
+    let mut all = vec![(5, 64, whole)];
+    for (n, (adapter, handle)) in ways.into_iter().enumerate() {
+        all.push((adapter << 16 | 4, handle, &whole[..1 + n % 8]));
+        all.push((adapter << 16 | 5, handle, &whole[..8 - n % 8]));
+    }
+    let (imported, stretches) = import_stretches(&pieces(2001, &all), None, TailRule::Strict).unwrap();
+    assert_eq!((imported.frames, imported.unfinished), (1, 16));
+    let told: Vec<_> = stretches.iter().map(|s| (s.adapter, s.handle, s.direction, s.cid, s.dlci, s.held)).collect();
+    let expected: Vec<_> = (0..8)
+        .zip(ways)
+        .flat_map(|(n, (adapter, handle))| {
+            [(Tx, 1 + n), (Rx, 8 - n)].map(|(way, held)| (adapter as u16, handle, way, 0x41, 18, held))
+        })
+        .collect();
+    assert_eq!(told, expected);
+    assert!(stretches.iter().all(|stretch| (stretch.sessions, stretch.links) == (0, 0)));
+}
+
+/// Only datalink 2001 has an adapter: what stands in its place in 1001 and 1002 says nothing, and is one connection.
+#[test]
+fn adapters_of_each_datalink() {
+    let whole = &EXAMPLE[52..61];
+    let (begin, end) = whole.split_at(4);
+    for (datalink, rx, frames, open) in
+        [(1001, 1, 2, vec![(0, 2)]), (1002, 1, 2, vec![(0, 2)]), (2001, 5, 1, vec![(7, 4), (3, 2)])]
+    {
+        let upper = |adapter: u32| adapter << 16 | rx;
+        let parts: [(u32, u16, &[u8]); 4] =
+            [(upper(0), 64, whole), (upper(7), 64, begin), (upper(9), 64, end), (upper(3), 64, &whole[..2])];
+        let (imported, stretches) = import_stretches(&pieces(datalink, &parts), None, TailRule::Strict).unwrap();
+        assert_eq!((imported.frames, imported.spans.len()), (frames, frames), "datalink {datalink}");
+        let told: Vec<_> = stretches.iter().map(|stretch| (stretch.adapter, stretch.held)).collect();
+        assert_eq!(told, open, "datalink {datalink}");
+    }
+}
+
+/// Two headsets on one handle of two adapters, with fragments that cross: every frame is whole.
+#[test]
+fn two_adapters() {
+    let trace: &[u8] = include_bytes!("../../../examples/two-adapters.btsnoop");
+    let (imported, stretches) = import_stretches(trace, Some(9), TailRule::Strict).unwrap();
+    assert_eq!((imported.dlci, imported.frames, imported.unfinished), (18, 10, 1));
+    let commands: Vec<_> = imported.spans.iter().map(|span| unpack(&span.wire).unwrap().command()).collect();
+    let told = [Some(0x22), Some(0x66), None, None, Some(0x23), Some(0x67), None, None, Some(0x22), None];
+    assert_eq!(commands, told);
+    let stretch = stretches[0];
+    assert_eq!((stretch.adapter, stretch.handle, stretch.direction, stretch.held), (1, 6, Direction::Rx, 8));
+    assert_eq!((stretch.sessions, stretch.links), (1, 0));
+    // A message on adapter 0 is not complete; nothing else is missing.
+    assert_eq!(signs(trace), [(0, 0), (0, 0), (0, 0), (0, 0), (0, 0), (0, 0), (1, 752)]);
 }
 
 /// A file of these records, of datalink 1002: original length, flags, drops and packet.

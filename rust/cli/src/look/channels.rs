@@ -2,7 +2,7 @@
 
 use std::collections::HashMap;
 
-use crate::packets::Packet;
+use crate::packets::{Link, Packet};
 use crate::pdus::Pdu;
 use crate::signals::{signals, Key, Signal, RFCOMM, SIGNALS};
 use lumbryth::Direction::{self, Rx};
@@ -20,10 +20,10 @@ impl Ways {
     }
 }
 
-/// A handle, and the channels on it in the order in which they came up: named, or with a PDU.
+/// A handle of an adapter, and the channels on it in the order in which they came up: named, or with a PDU.
 #[derive(Debug, Clone, PartialEq, Eq)]
 pub struct Handle {
-    pub handle: u16,
+    pub link: Link,
     pub packets: Ways,
     /// Those that were complete.
     pub pdus: Ways,
@@ -114,30 +114,30 @@ impl Channel {
 #[derive(Default)]
 pub struct Channels {
     handles: Vec<Handle>,
-    /// Where a handle is, and where a channel of it is.
-    places: HashMap<u16, (usize, HashMap<Key, usize>)>,
+    /// Where a handle is, by its connection, and where a channel of it is.
+    places: HashMap<Link, (usize, HashMap<Key, usize>)>,
 }
 
 impl Channels {
-    fn handle(&mut self, handle: u16) -> &mut Handle {
+    fn handle(&mut self, link: Link) -> &mut Handle {
         let next = self.handles.len();
-        let (place, _) = self.places.entry(handle).or_insert_with(|| (next, HashMap::new()));
+        let (place, _) = self.places.entry(link).or_insert_with(|| (next, HashMap::new()));
         let place = *place;
         if place == next {
             let (packets, pdus) = (Ways::default(), Ways::default());
-            self.handles.push(Handle { handle, packets, pdus, channels: Vec::new() });
+            self.handles.push(Handle { link, packets, pdus, channels: Vec::new() });
         }
         &mut self.handles[place]
     }
 
-    fn find(&self, handle: u16, key: Key) -> Option<&Channel> {
-        let (place, channels) = self.places.get(&handle)?;
+    fn find(&self, link: Link, key: Key) -> Option<&Channel> {
+        let (place, channels) = self.places.get(&link)?;
         Some(&self.handles[*place].channels[*channels.get(&key)?])
     }
 
-    fn channel(&mut self, handle: u16, key: Key) -> &mut Channel {
-        let next = self.handle(handle).channels.len();
-        let (place, channels) = self.places.entry(handle).or_default();
+    fn channel(&mut self, link: Link, key: Key) -> &mut Channel {
+        let next = self.handle(link).channels.len();
+        let (place, channels) = self.places.entry(link).or_default();
         let channel = *channels.entry(key).or_insert(next);
         let all = &mut self.handles[*place].channels;
         if channel == next {
@@ -147,22 +147,22 @@ impl Channels {
     }
 
     pub fn packet(&mut self, packet: &Packet) {
-        self.handle(packet.handle).packets.add(packet.direction);
+        self.handle(packet.link).packets.add(packet.direction);
     }
 
     /// Counts a PDU, and reads its signals.
     pub fn pdu(&mut self, pdu: &Pdu) {
-        self.handle(pdu.handle).pdus.add(pdu.direction);
-        self.channel(pdu.handle, (pdu.direction, pdu.cid)).pdus += 1;
+        self.handle(pdu.link).pdus.add(pdu.direction);
+        self.channel(pdu.link, (pdu.direction, pdu.cid)).pdus += 1;
         for signal in signals(pdu) {
-            self.signal(pdu.handle, &signal);
+            self.signal(pdu.link, &signal);
         }
     }
 
-    fn signal(&mut self, handle: u16, signal: &Signal) {
+    fn signal(&mut self, link: Link, signal: &Signal) {
         match *signal {
             Signal::Request(key, psm) => {
-                let channel = self.channel(handle, key);
+                let channel = self.channel(link, key);
                 channel.named = true;
                 channel.admitted |= psm == RFCOMM;
                 channel.asked = Some(psm);
@@ -171,9 +171,9 @@ impl Channels {
             }
             // Any earlier request for RFCOMM with that source counts; else the PSM is that of the last request with it.
             Signal::Response(key, answered, result) => {
-                let request = self.find(handle, answered);
+                let request = self.find(link, answered);
                 let (psm, rfcomm) = request.map_or((None, false), |request| (request.asked, request.asked_rfcomm));
-                let channel = self.channel(handle, key);
+                let channel = self.channel(link, key);
                 channel.named = true;
                 if rfcomm {
                     channel.admitted |= result == Some(0);
@@ -187,7 +187,7 @@ impl Channels {
 
     /// Whether a PDU is tried as RFCOMM.
     pub fn is_tried(&self, pdu: &Pdu) -> bool {
-        self.find(pdu.handle, (pdu.direction, pdu.cid)).is_some_and(|channel| channel.standing().is_tried())
+        self.find(pdu.link, (pdu.direction, pdu.cid)).is_some_and(|channel| channel.standing().is_tried())
     }
 
     pub fn handles(self) -> Vec<Handle> {

@@ -15,7 +15,10 @@ mod rfcomm;
 mod signals;
 
 pub use channels::{Channel, Handle, Standing, Ways};
-pub use rfcomm::{Dlci, Refused};
+pub use packets::{adapter_at, Link};
+pub use rfcomm::{Dlci, Refused, Share};
+
+use std::collections::BTreeSet;
 
 use channels::Channels;
 use lumbryth::{records, Refusal};
@@ -32,16 +35,21 @@ pub struct Seen {
     pub tail: usize,
     /// How many packets with data are skipped, because a part of each is not in the file.
     pub skipped: usize,
-    /// The handles, in the order of their first packets.
+    /// The handles of each adapter, in the order of their first packets.
     pub handles: Vec<Handle>,
     /// The DLCIs, in the order of their first pieces, which is the order in which import looks at them.
     pub dlcis: Vec<Dlci>,
 }
 
 impl Seen {
+    /// The adapters that have a packet with data, recorded whole.
+    pub fn adapters(&self) -> BTreeSet<u16> {
+        self.handles.iter().map(|handle| handle.link.adapter).collect()
+    }
+
     /// The DLCI that import takes: the first that has a frame, on the channel if one is asked for.
     pub fn taken(&self, channel: Option<u8>) -> Option<&Dlci> {
-        self.dlcis.iter().find(|dlci| dlci.frames > 0 && channel.is_none_or(|channel| channel == dlci.channel()))
+        self.dlcis.iter().find(|dlci| dlci.all.frames > 0 && channel.is_none_or(|channel| channel == dlci.channel()))
     }
 
     /// How many PDUs are tried as RFCOMM.
@@ -49,6 +57,16 @@ impl Seen {
         let channels = self.handles.iter().flat_map(|handle| &handle.channels);
         channels.filter(|channel| channel.standing().is_tried()).map(|channel| channel.pdus).sum()
     }
+}
+
+/// The adapters of a trace that have a packet with data, recorded whole; none if the trace is refused.
+pub fn adapters(file: &[u8]) -> BTreeSet<u16> {
+    let Ok(found) = records(file) else { return BTreeSet::new() };
+    let adapter = |held| match held {
+        Held::Packet(packet) => Some(packet.link.adapter),
+        Held::Short | Held::Other => None,
+    };
+    packets::each(file, &found.starts).filter_map(adapter).collect()
 }
 
 /// Looks inside a trace, up to where it ends if that is inside a record. Refuses as [`records`] does.

@@ -2,9 +2,17 @@
 
 use lumbryth::Direction::{self, Rx, Tx};
 
+/// A connection: an adapter's index and a handle, which two adapters may have in common.
+#[derive(Debug, Clone, Copy, PartialEq, Eq, PartialOrd, Ord, Hash)]
+pub struct Link {
+    /// 0 but for datalink 2001.
+    pub adapter: u16,
+    pub handle: u16,
+}
+
 /// A packet: a fragment of a PDU.
 pub struct Packet<'a> {
-    pub handle: u16,
+    pub link: Link,
     pub direction: Direction,
     /// Whether it starts a PDU; else it goes on with one.
     pub starts: bool,
@@ -35,11 +43,31 @@ pub fn each<'a>(file: &'a [u8], starts: &'a [usize]) -> impl Iterator<Item = Hel
     starts.iter().map(move |&start| {
         let (head, rest) = file[start..].split_at(24);
         let bytes = &rest[..be32(&head[4..]) as usize];
-        match acl(datalink, be32(&head[8..]), bytes) {
-            Some((direction, bytes)) => fragment(direction, bytes).map_or(Held::Short, Held::Packet),
+        let flags = be32(&head[8..]);
+        match acl(datalink, flags, bytes) {
+            Some((direction, bytes)) => {
+                fragment(index(datalink, flags), direction, bytes).map_or(Held::Short, Held::Packet)
+            }
             None => Held::Other,
         }
     })
+}
+
+/// The adapter's index of a record: the upper half of its flags, where the Linux monitor writes it.
+fn index(datalink: u32, flags: u32) -> u16 {
+    if datalink == 2001 {
+        (flags >> 16) as u16
+    } else {
+        0
+    }
+}
+
+/// The adapter of the record that starts there, if that has a packet: a command, an event or data. What else the Linux monitor writes
+/// may be of no adapter.
+pub fn adapter_at(file: &[u8], start: usize) -> Option<u16> {
+    let (datalink, flags) = (be32(&file[12..]), be32(&file[start + 8..]));
+    let is_packet = datalink != 2001 || (2..=5).contains(&(flags & 0xFFFF));
+    is_packet.then_some(index(datalink, flags))
 }
 
 /// Which way a packet with data went, and its bytes.
@@ -58,8 +86,8 @@ fn acl(datalink: u32, flags: u32, bytes: &[u8]) -> Option<(Direction, &[u8])> {
     Some((if flags & 1 == 0 { Tx } else { Rx }, bytes))
 }
 
-fn fragment(direction: Direction, bytes: &[u8]) -> Option<Packet<'_>> {
+fn fragment(adapter: u16, direction: Direction, bytes: &[u8]) -> Option<Packet<'_>> {
     let (field, length) = (le16(bytes, 0)?, le16(bytes, 2)?);
     let data = bytes[4..].get(..usize::from(length))?;
-    Some(Packet { handle: field & 0x0FFF, direction, starts: field >> 12 & 3 != 1, data })
+    Some(Packet { link: Link { adapter, handle: field & 0x0FFF }, direction, starts: field >> 12 & 3 != 1, data })
 }

@@ -1,13 +1,13 @@
-//! PDUs, put together from packets for each handle and direction.
+//! PDUs, put together from packets for each connection and direction.
 
 use std::collections::HashMap;
 
-use crate::packets::{le16, Packet};
+use crate::packets::{le16, Link, Packet};
 use lumbryth::Direction;
 
 /// A PDU.
 pub struct Pdu {
-    pub handle: u16,
+    pub link: Link,
     pub direction: Direction,
     pub cid: u16,
     pub payload: Vec<u8>,
@@ -16,14 +16,14 @@ pub struct Pdu {
 /// The PDUs under way.
 #[derive(Default)]
 pub struct Joining {
-    open: HashMap<(u16, Direction), Vec<u8>>,
+    open: HashMap<(Link, Direction), Vec<u8>>,
 }
 
 impl Joining {
     /// Takes a packet, and gives the PDU that it completes. A start gives up what is not complete, a packet that goes on with nothing
     /// is passed over, and bytes in excess are dropped.
     pub fn join(&mut self, packet: &Packet) -> Option<Pdu> {
-        let key = (packet.handle, packet.direction);
+        let key = (packet.link, packet.direction);
         if packet.starts {
             self.open.insert(key, Vec::new());
         }
@@ -35,6 +35,6 @@ impl Joining {
             return None;
         }
         let bytes = self.open.remove(&key)?;
-        Some(Pdu { handle: packet.handle, direction: packet.direction, cid, payload: bytes[4..end].to_vec() })
+        Some(Pdu { link: packet.link, direction: packet.direction, cid, payload: bytes[4..end].to_vec() })
     }
 }

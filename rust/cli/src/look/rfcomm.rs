@@ -2,6 +2,7 @@
 
 use std::collections::HashMap;
 
+use crate::packets::Link;
 use crate::pdus::Pdu;
 use crate::signals::{asks_session, Key};
 use lumbryth::{unpack, Refusal};
@@ -9,10 +10,9 @@ use lumbryth::{unpack, Refusal};
 /// The most bytes that wait for their end marker.
 const HELD_MAX: usize = 65_536;
 
-/// A DLCI, and what came on it.
-#[derive(Debug, Clone, PartialEq, Eq)]
-pub struct Dlci {
-    pub dlci: u8,
+/// How much came on a DLCI: over one connection, or over all.
+#[derive(Debug, Clone, Copy, PartialEq, Eq, Default)]
+pub struct Share {
     pub pieces: usize,
     /// From 3E through 3C.
     pub spans: usize,
@@ -20,6 +20,27 @@ pub struct Dlci {
     pub frames: usize,
     /// How many stretches and directions hold bytes without an end marker at the end.
     pub unfinished: usize,
+}
+
+impl Share {
+    fn and(self, other: Share) -> Share {
+        Share {
+            pieces: self.pieces + other.pieces,
+            spans: self.spans + other.spans,
+            frames: self.frames + other.frames,
+            unfinished: self.unfinished + other.unfinished,
+        }
+    }
+}
+
+/// A DLCI, and what came on it.
+#[derive(Debug, Clone, PartialEq, Eq)]
+pub struct Dlci {
+    pub dlci: u8,
+    /// Over all connections together.
+    pub all: Share,
+    /// Over each connection, in the order of their first pieces.
+    pub links: Vec<(Link, Share)>,
     /// The spans that do not unpack, by the number of the refusal.
     pub refused: Vec<Refused>,
 }
@@ -66,15 +87,15 @@ fn frame(bytes: &[u8]) -> Option<Frame<'_>> {
     (dlci != 0 && !information.is_empty()).then_some(Frame::Uih(dlci, information))
 }
 
-/// How often a handle's session, and the link of each DLCI, was opened.
+/// How often a connection's session, and its link of each DLCI, was opened.
 #[derive(Default)]
 struct Opened {
     sessions: usize,
     links: HashMap<u8, usize>,
 }
 
-/// What is held for a handle, channel and DLCI, since a session and link were opened. Both only grow, so that what was held before is
-/// never gone on with.
+/// What is held for a connection, channel and DLCI, since a session and link were opened. Both only grow, so that what was held
+/// before is never gone on with.
 #[derive(Default)]
 struct Buffer {
     opened: (usize, usize),
@@ -84,15 +105,17 @@ struct Buffer {
 /// What is known so far.
 #[derive(Default)]
 pub struct Lines {
-    opened: HashMap<u16, Opened>,
+    opened: HashMap<Link, Opened>,
     dlcis: Vec<Dlci>,
-    buffers: HashMap<(u16, Key, u8), Buffer>,
+    /// Where a connection is among those of a DLCI.
+    places: HashMap<(u8, Link), usize>,
+    buffers: HashMap<(Link, Key, u8), Buffer>,
 }
 
 impl Lines {
     /// Takes a PDU, which is tried as RFCOMM or not.
     pub fn pdu(&mut self, pdu: &Pdu, tried: bool) {
-        let opened = self.opened.entry(pdu.handle).or_default();
+        let opened = self.opened.entry(pdu.link).or_default();
         if asks_session(pdu) {
             opened.sessions += 1;
             return;
@@ -110,25 +133,32 @@ impl Lines {
 
     fn piece(&mut self, pdu: &Pdu, dlci: u8, opened: (usize, usize), information: &[u8]) {
         let place = self.dlcis.iter().position(|line| line.dlci == dlci).unwrap_or_else(|| {
-            self.dlcis.push(Dlci { dlci, pieces: 0, spans: 0, frames: 0, unfinished: 0, refused: Vec::new() });
+            self.dlcis.push(Dlci { dlci, all: Share::default(), links: Vec::new(), refused: Vec::new() });
             self.dlcis.len() - 1
         });
         let line = &mut self.dlcis[place];
-        line.pieces += 1;
-        let buffer = self.buffers.entry((pdu.handle, (pdu.direction, pdu.cid), dlci)).or_default();
+        let next = line.links.len();
+        let link = *self.places.entry((dlci, pdu.link)).or_insert(next);
+        if link == next {
+            line.links.push((pdu.link, Share::default()));
+        }
+        let share = &mut line.links[link].1;
+        share.pieces += 1;
+        let buffer = self.buffers.entry((pdu.link, (pdu.direction, pdu.cid), dlci)).or_default();
         if buffer.opened != opened {
-            line.unfinished += usize::from(!buffer.held.is_empty());
+            share.unfinished += usize::from(!buffer.held.is_empty());
             *buffer = Buffer { opened, held: Vec::new() };
         }
-        buffer.take(information, |wire| line.span(wire));
+        buffer.take(information, |wire| line.span(link, wire));
     }
 
     pub fn dlcis(mut self) -> Vec<Dlci> {
-        for ((_, _, dlci), buffer) in &self.buffers {
-            let line = self.dlcis.iter_mut().find(|line| line.dlci == *dlci).filter(|_| !buffer.held.is_empty());
-            line.into_iter().for_each(|line| line.unfinished += 1);
+        for ((link, _, dlci), _) in self.buffers.iter().filter(|(_, buffer)| !buffer.held.is_empty()) {
+            let line = self.dlcis.iter_mut().find(|line| line.dlci == *dlci);
+            line.into_iter().for_each(|line| line.links[self.places[&(*dlci, *link)]].1.unfinished += 1);
         }
         for line in &mut self.dlcis {
+            line.all = line.links.iter().fold(Share::default(), |all, (_, share)| all.and(*share));
             line.refused.sort_by_key(|refused| refused.refusal.number());
         }
         self.dlcis
@@ -155,10 +185,12 @@ impl Buffer {
 }
 
 impl Dlci {
-    fn span(&mut self, wire: &[u8]) {
-        self.spans += 1;
+    /// A span that came over one of its connections, by the place of that.
+    fn span(&mut self, link: usize, wire: &[u8]) {
+        let share = &mut self.links[link].1;
+        share.spans += 1;
         let Err(refusal) = unpack(wire) else {
-            self.frames += 1;
+            share.frames += 1;
             return;
         };
         match self.refused.iter_mut().find(|refused| refused.refusal.number() == refusal.number()) {

@@ -10,7 +10,7 @@ pub const RFCOMM: u16 = 3;
 /// The CID of the channel with the signals.
 pub const SIGNALS: u16 = 1;
 
-/// A channel of a handle: which way its data goes, and its CID.
+/// A channel of a connection: which way its data goes, and its CID.
 pub type Key = (Direction, u16);
 
 pub enum Signal {
@@ -55,7 +55,7 @@ pub fn signals(pdu: &Pdu) -> Vec<Signal> {
     commands(&pdu.payload).into_iter().filter_map(signal).collect()
 }
 
-/// Whether a PDU asks for RFCOMM, and so starts a session of its handle; the PSM alone is enough for that.
+/// Whether a PDU asks for RFCOMM, and so starts a session of its connection; the PSM alone is enough for that.
 pub fn asks_session(pdu: &Pdu) -> bool {
     let asks = |(code, body): &(u8, &[u8])| *code == 2 && le16(body, 0) == Some(RFCOMM);
     pdu.cid == SIGNALS && commands(&pdu.payload).iter().any(asks)

@@ -1,5 +1,6 @@
-//! Traces made at random, of what devices send and of what they should not: several handles, channels named for RFCOMM and for other
-//! services or not at all, sessions and links opened anew, PDUs in fragments that get lost, frames that unpack and that do not.
+//! Traces made at random, of what devices send and of what they should not: several adapters and handles, channels named for RFCOMM
+//! and for other services or not at all, sessions and links opened anew, PDUs in fragments that get lost, frames that unpack and
+//! that do not.
 
 use std::collections::{BTreeMap, VecDeque};
 
@@ -47,6 +48,9 @@ impl Rng {
     }
 }
 
+/// An adapter's index, and a handle.
+type Link = (u16, u16);
+
 /// A boundary flag, and data.
 type Fragment = (u16, Vec<u8>);
 
@@ -55,13 +59,13 @@ struct Maker<'a> {
     trace: Trace,
     datalink: u32,
     us: u64,
-    handles: Vec<u16>,
+    links: Vec<Link>,
     cids: Vec<u16>,
     dlcis: Vec<u8>,
-    /// What is left of a frame of which a piece was sent, for each handle, direction, CID and DLCI.
-    rest: BTreeMap<(u16, bool, u16, u8), Vec<u8>>,
-    /// Fragments that wait, for each handle and direction.
-    waiting: BTreeMap<(u16, bool), VecDeque<Fragment>>,
+    /// What is left of a frame of which a piece was sent, for each link, direction, CID and DLCI.
+    rest: BTreeMap<(Link, bool, u16, u8), Vec<u8>>,
+    /// Fragments that wait, for each link and direction.
+    waiting: BTreeMap<(Link, bool), VecDeque<Fragment>>,
 }
 
 impl Maker<'_> {
@@ -79,7 +83,7 @@ impl Maker<'_> {
     }
 
     /// What a UIH frame carries: the rest of a frame, frames, a part of one, junk.
-    fn information(&mut self, key: (u16, bool, u16, u8)) -> Vec<u8> {
+    fn information(&mut self, key: (Link, bool, u16, u8)) -> Vec<u8> {
         let mut bytes = Vec::new();
         if self.rng.percent(70) {
             bytes.extend(self.rest.remove(&key).unwrap_or_default());
@@ -136,7 +140,7 @@ impl Maker<'_> {
     }
 
     /// A PDU that may be RFCOMM.
-    fn data(&mut self, handle: u16, direction: Direction) -> Vec<u8> {
+    fn data(&mut self, link: Link, direction: Direction) -> Vec<u8> {
         let (cid, dlcis) = (self.cid(), self.dlcis.clone());
         let dlci = if self.rng.percent(3) { 0 } else { self.rng.pick(&dlcis) };
         let command = self.rng.percent(50);
@@ -148,7 +152,7 @@ impl Maker<'_> {
             17..=19 => uih(dlci, command, Some(7), &[]),
             _ => {
                 let credit = if self.rng.percent(25) { Some(self.rng.byte()) } else { None };
-                let information = self.information((handle, direction == Rx, cid, dlci));
+                let information = self.information((link, direction == Rx, cid, dlci));
                 let mut frame = uih(dlci, command, credit, &information);
                 // A length of two bytes where one would do.
                 if self.rng.percent(15) && frame[2] % 2 == 1 {
@@ -168,9 +172,9 @@ impl Maker<'_> {
     }
 
     /// A PDU waits to be sent, in fragments, some of which are lost.
-    fn push(&mut self, handle: u16, direction: Direction, mut pdu: Vec<u8>) {
+    fn push(&mut self, link: Link, direction: Direction, mut pdu: Vec<u8>) {
         // Bytes in excess, which may be the beginning of another PDU; what would go on with it comes too.
-        let mut more = if self.rng.percent(5) { self.data(handle, direction) } else { Vec::new() };
+        let mut more = if self.rng.percent(5) { self.data(link, direction) } else { Vec::new() };
         let left = more.split_off(self.rng.within(0, more.len()));
         pdu.extend(more);
         let split = self.rng.percent(40);
@@ -178,7 +182,7 @@ impl Maker<'_> {
         loop {
             let n = if split { self.rng.within(0, rest.len()) } else { rest.len() };
             if !self.rng.percent(2) {
-                let waiting = self.waiting.entry((handle, direction == Rx)).or_default();
+                let waiting = self.waiting.entry((link, direction == Rx)).or_default();
                 waiting.push_back((flag, rest[..n].to_vec()));
             }
             (flag, rest) = (1, &rest[n..]);
@@ -187,13 +191,13 @@ impl Maker<'_> {
             }
         }
         if !left.is_empty() {
-            self.waiting.entry((handle, direction == Rx)).or_default().push_back((1, left));
+            self.waiting.entry((link, direction == Rx)).or_default().push_back((1, left));
         }
     }
 
     /// One fragment that waits crosses.
     fn step(&mut self) -> bool {
-        let keys: Vec<(u16, bool)> = self.waiting.keys().copied().collect();
+        let keys: Vec<(Link, bool)> = self.waiting.keys().copied().collect();
         if keys.is_empty() {
             return false;
         }
@@ -203,7 +207,8 @@ impl Maker<'_> {
         if queue.is_empty() {
             self.waiting.remove(&key);
         }
-        let mut packet = [key.0 | flag << 12, data.len() as u16].map(u16::to_le_bytes).concat();
+        let ((adapter, handle), rx) = (key.0, u32::from(key.1));
+        let mut packet = [handle | flag << 12, data.len() as u16].map(u16::to_le_bytes).concat();
         packet.extend(data);
         if self.rng.percent(2) {
             packet.truncate(self.rng.within(0, packet.len()));
@@ -212,14 +217,14 @@ impl Maker<'_> {
             packet.push(self.rng.byte());
         }
         self.us += self.rng.within(0, 3000) as u64;
-        let (us, rx) = (self.us, u32::from(key.1));
-        // Flags that say that it is something else, and some that say nothing.
+        let us = self.us;
+        // Flags that say that it is something else, and in 1001 and 1002 some that say nothing.
         let other = self.rng.percent(3);
-        let more = self.rng.pick(&[0, 0, 0x7_0000]);
+        let more = self.rng.pick(&[0, 0, 0x7_0000, 0xFFFF_0000]);
         let kind = if self.rng.percent(3) { self.rng.byte() } else { 2 };
         match self.datalink {
             2001 => self.trace.record(
-                more | if other { self.rng.pick(&[0, 2, 3, 6, 7, 0x104]) } else { 4 + rx },
+                u32::from(adapter) << 16 | if other { self.rng.pick(&[0, 2, 3, 6, 7, 0x104]) } else { 4 + rx },
                 us,
                 &packet,
             ),
@@ -236,23 +241,26 @@ fn some<T: Copy>(rng: &mut Rng, from: &[T], most: usize) -> Vec<T> {
 
 /// A trace, which may be cut, or have a few bytes changed.
 pub fn trace(rng: &mut Rng) -> Vec<u8> {
-    let datalink = rng.pick(&[1001, 1002, 2001]);
-    let handles = some(rng, &[1, 6, 0x40, 0xEFF], 3);
+    let datalink = rng.pick(&[1001, 1002, 2001, 2001]);
+    // The handles of two adapters may be the same.
+    let adapters = if datalink == 2001 { some(rng, &[0, 1, 3, 0xFFFF], 3) } else { vec![0] };
+    let handles = some(rng, &[1, 6, 0x40, 0xEFF], 2);
+    let links = (0..rng.within(1, 3)).map(|_| (rng.pick(&adapters), rng.pick(&handles))).collect();
     let cids = some(rng, &[0x40, 0x41, 0x41, 0x45, 0x70, 0xFFFF, 0x3F, 0x04, 0x01], 5);
     let dlcis = some(rng, &[1, 2, 3, 18, 19, 18, 19, 40, 41, 62, 63], 5);
     let (us, rest, waiting) = (1_700_000_000_000_000, BTreeMap::new(), BTreeMap::new());
-    let mut maker = Maker { rng, trace: Trace::new(datalink), datalink, us, handles, cids, dlcis, rest, waiting };
+    let mut maker = Maker { rng, trace: Trace::new(datalink), datalink, us, links, cids, dlcis, rest, waiting };
     for _ in 0..maker.rng.within(1, 60) {
-        let (handles, direction) = (maker.handles.clone(), maker.rng.pick(&[Rx, Tx]));
-        let handle = maker.rng.pick(&handles);
+        let (links, direction) = (maker.links.clone(), maker.rng.pick(&[Rx, Tx]));
+        let link = maker.rng.pick(&links);
         match maker.rng.within(0, 99) {
             0..=14 => {
                 let pdu = maker.signals();
-                maker.push(handle, direction, pdu);
+                maker.push(link, direction, pdu);
             }
             15..=59 => {
-                let pdu = maker.data(handle, direction);
-                maker.push(handle, direction, pdu);
+                let pdu = maker.data(link, direction);
+                maker.push(link, direction, pdu);
             }
             60..=62 => maker.trace.hci_event(maker.us, &[0x13, 0x05, 0x01, 0x06, 0x00, 0x02, 0x00]),
             63..=64 => maker.trace.hci_command(maker.us, &[0x02, 0x04, 0x00]),

@@ -1,0 +1,234 @@
+//! The cases of `shared/vectors`: answers of models that were written apart from this one. Those that the calls can
+//! answer are run; the others are counted by what they ask for.
+
+use std::collections::BTreeMap;
+use std::path::PathBuf;
+
+use crate::answer::{Answer, Checked, Difference, Subject, NO_CHANNEL};
+use crate::expected;
+use crate::import::{Import, Rule};
+use crate::model::{self, RIGHT};
+use crate::Options;
+
+/// All files have to be there, also those of calls that are not run.
+const FILES: [&str; 12] = [
+    "jobs-1-2-3-4-6.txt",
+    "edges-1-2-3-4-6.txt",
+    "edges-big.txt",
+    "job-7.txt",
+    "job-8.txt",
+    "job-9.txt",
+    "job-10.txt",
+    "job-11.txt",
+    "job-12.txt",
+    "job-13.txt",
+    "edges-7-8-9-12-13.txt",
+    "edges-10-11.txt",
+];
+
+/// Whether a case asks for something.
+type Asks = fn(&Line) -> bool;
+
+/// What the calls do not do: a case that asks for it is passed over.
+const LATER: [(&str, Asks); 4] = [
+    ("pcap", |line| line.has("box", &["pcap"])),
+    ("FCS checked", |line| line.has("fcs", &["on", "yes"])),
+    ("the strict channel rule", |line| line.has("rule", &["strict"])),
+    ("heads before wires", |line| line.has("heads", &["yes"])),
+];
+
+/// What a case is called that has no name.
+const UNNAMED: &str = "a case";
+
+/// The calls that are run.
+const CALLS: [&str; 1] = ["import"];
+
+/// A case as it stands in its file.
+struct Line<'a> {
+    file: &'static str,
+    number: usize,
+    /// By the line before, if it has one.
+    name: &'a str,
+    text: &'a str,
+    call: &'a str,
+    given: BTreeMap<&'a str, &'a str>,
+    answer: &'a str,
+}
+
+impl<'a> Line<'a> {
+    fn read(file: &'static str, number: usize, name: &'a str, text: &'a str) -> Option<Line<'a>> {
+        let (asked, answer) = text.split_once(" -> ")?;
+        let mut words = asked.split(' ');
+        let call = words.next()?;
+        let given = words.map(|word| word.split_once('=')).collect::<Option<_>>()?;
+        Some(Line { file, number, name, text, call, given, answer })
+    }
+
+    /// An argument; `None` if it is not given.
+    fn get(&self, name: &str) -> Option<&'a str> {
+        self.given.get(name).copied().filter(|value| *value != "none")
+    }
+
+    fn has(&self, name: &str, values: &[&str]) -> bool {
+        self.get(name).is_some_and(|value| values.contains(&value))
+    }
+
+    fn number_of(&self, name: &str) -> Option<usize> {
+        self.get(name).map(|value| value.parse().expect("a number"))
+    }
+
+    /// Why it is passed over, if it is.
+    fn later(&self) -> Option<String> {
+        if !CALLS.contains(&self.call) {
+            return Some(format!("the call {}", self.call));
+        }
+        LATER.iter().find(|(_, asks)| asks(self)).map(|(what, _)| what.to_string())
+    }
+
+    fn tolerant(&self) -> bool {
+        self.has("tail", &["tolerant"]) || self.has("tolerant", &["yes"])
+    }
+
+    fn differs(&self, what: &str, expected: String, got: String) -> Box<Difference> {
+        let call = format!("{what}, {} line {}, {}: {:.4096}", self.file, self.number, self.name, self.text);
+        Box::new(Difference { call, inputs: Vec::new(), lent: "what the line says".into(), expected, got })
+    }
+}
+
+/// Bytes in hex; `-` is none.
+fn bytes(hex: &str) -> Vec<u8> {
+    if hex == "-" {
+        return Vec::new();
+    }
+    let digit = |c: u8| (c as char).to_digit(16).expect("hex") as u8;
+    hex.as_bytes().chunks(2).map(|pair| digit(pair[0]) << 4 | digit(pair[1])).collect()
+}
+
+/// The answer of import that a line tells. After `ok` come DLCI, frames, unfinished and the tail offset; then the list, or
+/// the bytes written, words with numbers that import does not answer, and `list=` with the list.
+fn answer(line: &Line) -> Answer {
+    let words: Vec<&str> = line.answer.split(' ').collect();
+    let values = |words: &[&str]| -> Vec<u64> { words.iter().map(|n| n.parse().expect("a number")).collect() };
+    if words[0] == "refused" {
+        let numbers = values(&words[1..]);
+        return Answer::refused(numbers[0] as u32, &numbers[1..]);
+    }
+    let last = words[words.len() - 1];
+    match last.strip_prefix("list=") {
+        Some(list) => Answer::done(&values(&words[1..6]), bytes(list)),
+        None => {
+            let list = bytes(last);
+            let written = [list.len() as u64];
+            Answer::done(&[&values(&words[1..5])[..], &written].concat(), list)
+        }
+    }
+}
+
+/// How many cases were run, and passed over by reason.
+#[derive(Default)]
+struct Tally {
+    run: BTreeMap<&'static str, u64>,
+    passed: BTreeMap<String, u64>,
+}
+
+/// The calls held to the cases.
+struct Vectors<'a> {
+    imports: [Import<'a>; 3],
+    tally: Tally,
+}
+
+impl Vectors<'_> {
+    fn case(&mut self, line: &Line) -> Checked {
+        if let Some(why) = line.later() {
+            *self.tally.passed.entry(why).or_default() += 1;
+            return Ok(());
+        }
+        *self.tally.run.entry(line.file).or_default() += 1;
+        let expected = answer(line);
+        let file = bytes(line.get("file").expect("a file"));
+        let channel = line.number_of("channel").map_or(NO_CHANNEL, |channel| channel as u32);
+        let lent = (line.number_of("work_len"), line.number_of("out_len"));
+        readings(line, &file, channel, &expected, lent)?;
+        for import in self.imports.iter_mut().filter(|import| import.tolerant() == line.tolerant()) {
+            let checked = match lent {
+                (None, None) => import.held(&file, channel, &expected),
+                (work, out) => import.lent(&file, channel, &expected, work, out),
+            };
+            checked.map_err(|found| line.differs(&found.call, found.expected, found.got))?;
+        }
+        Ok(())
+    }
+}
+
+/// The Rust and the model agree with the line, where nothing is lent that it names.
+fn readings(
+    line: &Line,
+    file: &[u8],
+    channel: u32,
+    expected: &Answer,
+    (work, out): (Option<usize>, Option<usize>),
+) -> Checked {
+    let tolerant = line.tolerant();
+    let rust = if tolerant { expected::import_tolerant } else { expected::import_strict };
+    let model = model::import(file, work.unwrap_or(usize::MAX), channel, tolerant, RIGHT);
+    for (what, found) in [("the Rust", rust(file, channel)), ("the model", model)] {
+        let found = found.within(out.unwrap_or(usize::MAX));
+        if *found != *expected && (work.is_none() || what == "the model") {
+            return Err(line.differs(what, format!("{expected:?}"), format!("{found:?}")));
+        }
+    }
+    Ok(())
+}
+
+/// Where the files are.
+fn directory() -> PathBuf {
+    match std::env::var_os("LUMBRYTH_VECTORS") {
+        Some(directory) => PathBuf::from(directory),
+        None => PathBuf::from(env!("CARGO_MANIFEST_DIR")).join("../../shared/vectors"),
+    }
+}
+
+/// Something is wrong with the files themselves.
+fn unusable(expected: &str, got: String) -> Box<Difference> {
+    Box::new(Difference {
+        call: "vectors".into(),
+        inputs: Vec::new(),
+        lent: "nothing".into(),
+        expected: expected.into(),
+        got,
+    })
+}
+
+pub fn run(subject: &dyn Subject, options: &Options) -> Checked {
+    let imports = [Rule::Strict, Rule::NotTolerant, Rule::Tolerant].map(|rule| Import::new(subject, rule));
+    let mut vectors = Vectors { imports, tally: Tally::default() };
+    for file in FILES {
+        let path = directory().join(file);
+        let text = std::fs::read_to_string(&path)
+            .map_err(|e| unusable("a file of cases", format!("{}: {e}", path.display())))?;
+        let mut name = UNNAMED;
+        for (number, text) in (1..).zip(text.lines()) {
+            if let Some(named) = text.strip_prefix("# ") {
+                name = named;
+                continue;
+            }
+            let line = Line::read(file, number, name, text)
+                .ok_or_else(|| unusable("a case", format!("{file} line {number}: {text:.200}")))?;
+            vectors.case(&line)?;
+            name = UNNAMED;
+        }
+    }
+    let Tally { run, passed } = vectors.tally;
+    if run.is_empty() {
+        return Err(unusable("cases to run", "none".into()));
+    }
+    if !options.quiet {
+        let shown = |counts: Vec<String>| counts.join(", ");
+        let total: u64 = run.values().sum();
+        println!("vectors: {total} cases run: {}", shown(run.iter().map(|(file, n)| format!("{file} {n}")).collect()));
+        let total: u64 = passed.values().sum();
+        let reasons = passed.iter().map(|(why, n)| format!("{why} {n}")).collect();
+        println!("vectors: {total} passed over: {}", shown(reasons));
+    }
+    Ok(())
+}
