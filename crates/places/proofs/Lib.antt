@@ -1,1 +1,3 @@
+pub mod Again
 pub mod PlacesLaws
+pub mod StretchLaws

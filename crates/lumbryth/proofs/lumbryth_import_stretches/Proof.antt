@@ -52,9 +52,9 @@ use Rattle.places.specs.Places.{ToldIn}
 use Rattle.places.specs.declared.Told.{Told}
 use Rattle.places.proofs.Told as S
 use Rattle.places.proofs.Told.Laws as S′
-use Rattle.lumbryth.specs.Stretches.{StretchCalls}
-use Rattle.lumbryth.proofs.StretchLaws.{stretch-calls}
-use Rattle.lumbryth.proofs.Again.{LentAgain, lends-again, comes-back, shares}
+use Rattle.places.specs.Stretches.{StretchCalls}
+use Rattle.places.proofs.StretchLaws.{stretch-calls}
+use Rattle.places.proofs.Again.{LentAgain, lends-again, comes-back, shares}
 use Rattle.places.proofs.places_told as told
 use Rattle.places.proofs.places_told.Symbol as told-def
 use Rattle.places.proofs.places_told.Symbol.{name as #places·places-told}

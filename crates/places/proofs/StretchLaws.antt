@@ -9,12 +9,12 @@ use Rattle.laws.proofs.Choice.{splitB, no-way}
 use Rattle.btsnoop.specs.Records.{btsnoop}
 use Rattle.outcome.specs.Import.{Options, fits, workSuffices, placesSuffice, imported, importedIn}
 use Rattle.outcome.proofs.Import.{same-in}
 use Rattle.places.specs.Places.{suffices, fileStretches, placesAfter, listedBy, ToldIn}
 use Rattle.stretches.specs.Filled.{filled, stretchesTo}
 use Rattle.stretches.proofs.Filling.{filled-is, length-to}
 use Rattle.stretches.specs.declared.Stretch.{Stretch}
 use Rattle.imports.specs.Imports.{ImportCalls}
-use Rattle.lumbryth.specs.Stretches.{StretchCalls}
+use Rattle.places.specs.Stretches.{StretchCalls}
 
 -- the places filled from a list in words are those after the answer
 places-are : (a : Answer) (l s : List Stretch) (w : List ℕ) (n : ℕ) → n ≤ length s → stretchesTo w n ≡ listedBy a l → filled w n s ≡ placesAfter a l s
