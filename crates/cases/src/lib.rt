@@ -1,20 +1,44 @@
-// A sample replayed: the call of each case is run, import by work that is lent, and what it answers is compared.
+// A case of a sample replayed: its call is run, import by work that is lent, and what it answers is compared.
 ghost use mathlib.Core.Path.{_≡_};
 ghost use mathlib.Core.Bool.{true};
 ghost use Prim.Native.Nat.{_≤_};
 ghost use lib.ListN.{length};
+use rerun::NO_CALL;
 use rerun::run_plain;
-use retrace::run_import;
 use samples::Answer;
 use samples::Call;
-use samples::Totals;
 use samples::UNTOUCHED;
 use samples::fill;
 use samples::is_answer;
-use samples::next;
-use samples::one_unless;
+use samples::part;
 use samples::read_answer;
 use samples::read_call;
+use samples::word;
+
+fn import(
+    tolerant: bool,
+    file: &[u8],
+    work: &mut [u8],
+    out: &mut [u8],
+    channel: u32,
+    values: &mut [u64],
+) -> u32 {
+    if tolerant {
+        return lumbryth::lumbryth_import(file, work, out, channel, 1, values);
+    }
+    lumbryth::lumbryth_import_strict(file, work, out, channel, values)
+}
+
+// The work lent is 8 times the file's length, with what earlier cases left in it: no answer depends on that.
+fn run_import(s: &[u8], c: Call, work: &mut [u8], out: &mut [u8], values: &mut [u64]) -> u32 {
+    let file = part(s, c.first, c.first_size);
+    let channel = word(s, c.numbers);
+    let n = file.len();
+    if work.len() / 8 < n {
+        return NO_CALL;
+    }
+    import(c.op == 8, file, &mut work[..8 * n], out, channel, values)
+}
 
 fn run(s: &[u8], c: Call, work: &mut [u8], out: &mut [u8], values: &mut [u64]) -> u32 {
     let op = c.op;
@@ -56,18 +80,4 @@ pub fn replay_case(s: &[u8], at: usize, work: &mut [u8], space: &mut [u8]) -> Re
         same: is_same(s, c, a, work, &mut space[..lent]),
         end,
     }
-}
-
-// Replays a sample. A case that is cut short is a difference.
-pub fn replay(s: &[u8], work: &mut [u8], space: &mut [u8]) -> Totals {
-    let mut cases: u64 = 0;
-    let mut differences: u64 = 0;
-    let mut at: usize = 0;
-    while at < s.len() {
-        let r = replay_case(s, at, work, space);
-        cases += 1;
-        differences += one_unless(r.same);
-        at = next(at, r.end, s.len());
-    }
-    Totals { cases, differences }
 }

@@ -2,12 +2,14 @@
 ghost use mathlib.Core.Path.{_≡_};
 ghost use Prim.Native.Nat.{_<_};
 use samples::Call;
-use samples::NO_CALL;
 use samples::byte;
 use samples::long;
 use samples::part;
 use samples::sum;
 use samples::word;
+
+// The number where no call is run: no answer has it.
+pub const NO_CALL: u32 = 4294967295;
 
 fn run_codec(s: &[u8], c: Call, out: &mut [u8], values: &mut [u64]) -> u32 {
     let input = part(s, c.first, c.first_size);

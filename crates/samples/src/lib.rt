@@ -1,16 +1,11 @@
-// A sample: its cases read, an answer compared, and the line that is printed of it. What lies past the end of the file reads as
-// 0. A case is whole if its end lies in the file.
+// A sample: its cases read, and an answer compared. What lies past the end of the file reads as 0. A
+// case is whole if its end lies in the file.
 ghost use mathlib.Core.Path.{_≡_};
 ghost use Prim.Native.Nat.{_*_, _≤_, _<_};
 ghost use lib.ListN.{length, getD};
 ghost use mathlib.Core.Bool.{true};
 ghost use Rattle.samples.specs.Places.{capped, wordAt, longAt, partAt, countedAt, numbersSize, secondAt, callAt, answerAt};
 ghost use Rattle.samples.specs.Samples.{untouchedOf, Fresh, outputOf, Compared};
-use libc::STDOUT_FILENO;
-use search::find_byte;
-
-// The number where no call is run: no answer has it.
-pub const NO_CALL: u32 = 4294967295;
 
 // Room for a sample.
 pub fn room() -> [u8; 262144]
@@ -300,25 +295,4 @@ pub fn is_answer(s: &[u8], a: Answer, number: u32, values: &[u64], out: &[u8]) -
         return false;
     }
     has_output(part(s, a.output, a.size), out)
-}
-
-// How many cases a sample has, and how many of them differ.
-pub struct Totals {
-    pub cases: u64,
-    pub differences: u64,
-}
-
-// A number, and the words after it.
-fn print_count(n: u64, words: &[u8]) {
-    io::print_decimal(STDOUT_FILENO, n);
-    io::write_all(STDOUT_FILENO, words);
-}
-
-// The line of a sample: its name up to the dot, how many cases were replayed, and how many differ.
-pub fn print(name: &[u8], t: Totals) {
-    let stem = find_byte(name, 0, b'.');
-    io::write_all(STDOUT_FILENO, part(name, 0, stem));
-    io::write_all(STDOUT_FILENO, b": ");
-    print_count(t.cases, b" cases replayed, ");
-    print_count(t.differences, b" differences\n");
 }

@@ -3,8 +3,8 @@ use Prim.Native.Nat.{_≤_, _-_}
 use lib.ListN.{length}
 use borrow.Author.Needs.{needs}
 use native.Mathlib.Omega.{arith}
-use Rattle.cases.proofs.replay.Statement.{statement}
-use Rattle.cases.proofs.replay.Tie as tie
+use Rattle.replay.proofs.replay.Statement.{statement}
+use Rattle.replay.proofs.replay.Tie as tie
 
 abbrev Inv-loop : tie.InvT-loop
 Inv-loop s work₀ space₀ cases₀ differences₀ at₀ work space cases differences at = (at ≤ length s) × (cases ≤ at) × (differences ≤ cases) × (length work ≡ length work₀) × (length space ≡ length space₀)

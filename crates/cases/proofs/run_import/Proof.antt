@@ -2,8 +2,8 @@ use mathlib.Core.Path.{sym}
 use lib.Seq.{length-take-le}
 use native.Mathlib.Omega.{arith}
 use borrow.Author.Needs.{needs}
-use Rattle.retrace.proofs.run_import.Statement.{statement}
-use Rattle.retrace.proofs.run_import.Tie as tie
+use Rattle.cases.proofs.run_import.Statement.{statement}
+use Rattle.cases.proofs.run_import.Tie as tie
 
 part-requires : tie.Need-part-requires
 part-requires c κs = search needs
