@@ -82,11 +82,11 @@ other-link f n e =
     (λ b. let q = rw (a, b) at e in (a, b, (let z : n ≡ datalink f = cc in z))))
     (λ a. let q = rw a at e in let z : _≡_ {A = ℕ} 0 1 = cc in absurd (omega arith))
 
-pub known-link : (f : List ℕ) (n : ℕ) → headerOf f ≡ Datalink n → (isBtsnoop f ≡ true) × (isDatalink (datalink f) ≡ true)
+pub known-link : (f : List ℕ) (n : ℕ) → headerOf f ≡ Datalink n → (isBtsnoop f ≡ true) × (isDatalink (datalink f) ≡ true) × (n ≡ datalink f)
 unfolding headerOf
 known-link f n e =
     splitB (isBtsnoop f)
     (λ a. splitB (isDatalink (datalink f))
-    (λ b. (a, b))
+    (λ b. let q = rw (a, b) at e in (a, b, (let z : n ≡ datalink f = cc in z)))
     (λ b. let q = rw (a, b) at e in let z : _≡_ {A = ℕ} 0 1 = cc in absurd (omega arith)))
     (λ a. let q = rw a at e in let z : _≡_ {A = ℕ} 0 1 = cc in absurd (omega arith))

@@ -1,19 +1,25 @@
--- Records, after the 16-byte header: original length, included length, flags, drops (4 bytes each), timestamp (8), and the packet. A record is its bytes.
--- With the header and the packets this is the container btsnoop.
-use Prim.Native.Nat.{ℕ, _<_}
+-- The size and the time of a record that stands at a place of a file.
+use Prim.Native.Nat.{ℕ, _+_, _-_, _/_, _≤_}
 use mathlib.Core.Path.{_≡_}
-use mathlib.Core.Bool.{cond}
-use mathlib.Core.List.{List, [], _∷_}
+use mathlib.Core.List.{List, _++_}
 use native.Mathlib.Omega.{arith}
-use lib.ListN.{take, drop}
-use Rattle.container.specs.Container as container
-use Rattle.container.proofs.Records as container-records
-use Rattle.btsnoop.specs.Records.{isWhole, recordSize, recordsIn}
+use lib.ListN.{length, drop}
+use Rattle.laws.specs.Numbers.{be32, be64}
+use Rattle.container.proofs.Fronts.{be32-front}
+use Rattle.acl.proofs.Parts.{be32-drop, be64-drop}
+use Rattle.btsnoop.specs.Records.{recordSize}
+use Rattle.btsnoop.specs.Packets.{milliseconds}
 
-size-some : (b : List ℕ) → 0 < recordSize b
-unfolding recordSize
-size-some b = omega arith
+module _ (f : List ℕ) (at : ℕ) where
+  pub size-at : (m n : ℕ) → m ≡ be32 f (at + 4) → n ≡ m → 24 + n ≡ recordSize (drop at f)
+  unfolding recordSize
+  size-at m n e q = rw (be32-drop f at 4, q, e)
 
--- the first record and those of what is left
-pub records-eq : (b : List ℕ) → recordsIn b ≡ cond (isWhole b) (take (recordSize b) b ∷ recordsIn (drop (recordSize b) b)) []
-records-eq b = container-records.records-eq recordSize size-some b
+  pub time-at : (stamp ms : ℕ) → stamp ≡ be64 f (at + 16) → ms ≡ (stamp - 0x00dcddb30f2f8000) / 1000 → ms ≡ milliseconds (drop at f)
+  unfolding milliseconds
+  time-at stamp ms e q = rw (be64-drop f at 16, q, e)
+
+-- what follows a record's head does not move its time
+pub time-front : (r x : List ℕ) → 24 ≤ length r → milliseconds (r ++ x) ≡ milliseconds r
+unfolding milliseconds be64
+time-front r x h = rw (be32-front r x 16 (omega arith), be32-front r x 20 (omega arith))

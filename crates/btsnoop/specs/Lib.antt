@@ -2,10 +2,4 @@ pub mod Header
 pub mod Headers
 pub mod Records
 pub mod Packets
-pub mod PacketTable
-pub mod Walk
-pub mod Reader
-pub mod Listing
-pub mod Listings
 pub mod Reading
-pub mod Adding

@@ -1,12 +1,9 @@
 -- Records, after the 16-byte header: original length, included length, flags, drops (4 bytes each), timestamp (8), and the packet. A record is its bytes.
 -- With the header and the packets this is the container btsnoop.
 use Prim.Native.Nat.{ℕ, _+_}
-use mathlib.Core.Bool.{Bool}
 use mathlib.Core.List.{List}
 use Rattle.laws.specs.Numbers.{be32}
 use Rattle.container.specs.Container.{Container}
-use Rattle.container.specs.Container as container
-use Rattle.container.proofs.Records as container-records
 use Rattle.btsnoop.specs.Header.{isBtsnoop, datalink, isDatalink}
 use Rattle.btsnoop.specs.Packets.{packetOf}
 
@@ -25,17 +22,3 @@ btsnoop = record {
   size = λ f. recordSize;
   packet = λ f. packetOf (datalink f);
 }
-
--- ---- reading a container, here
-
-abbrev pub isWhole : List ℕ → Bool
-isWhole b = container.isWhole recordSize b
-
-abbrev pub recordsIn : List ℕ → List (List ℕ)
-recordsIn b = container.recordsIn recordSize b
-
-abbrev pub records : List ℕ → List (List ℕ)
-records f = container.records btsnoop f
-
-abbrev pub tailOffset : List ℕ → ℕ
-tailOffset f = container.tailOffset btsnoop f

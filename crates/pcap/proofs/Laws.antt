@@ -20,7 +20,7 @@ use Rattle.pcap.specs.Records.{recordSize}
 use Rattle.pcap.specs.Packets.{milliseconds, directedPacket, packetOf}
 use Rattle.pcap.specs.Pcap.{pcap}
 
-number-front : (big : Bool) (h x : List ℕ) (i : ℕ) → i + 4 ≤ length h → number big (h ++ x) i ≡ number big h i
+pub number-front : (big : Bool) (h x : List ℕ) (i : ℕ) → i + 4 ≤ length h → number big (h ++ x) i ≡ number big h i
 unfolding number
 number-front true h x i g = be32-front h x i g
 number-front false h x i g = le32-front h x i g
@@ -85,7 +85,7 @@ too-short time b h =
     (λ q. rw (q, d))
     (λ q. splitB (eqb (be32 b 0) 1) (λ z. rw (q, z, d)) (λ z. rw (q, z)))
 
-packet-room : (big nano : Bool) (r : List ℕ) (p : Packet) → packetOf big nano r ≡ some p → 25 + length (p .bytes) ≤ length r
+pub packet-room : (big nano : Bool) (r : List ℕ) (p : Packet) → packetOf big nano r ≡ some p → 25 + length (p .bytes) ≤ length r
 unfolding packetOf
 packet-room big nano r p e = let h = directed-room (milliseconds big nano r) (drop 16 r) p e in omega (arith, length-drop 16 r)
 

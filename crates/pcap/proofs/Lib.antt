@@ -1,2 +1,4 @@
 pub mod Laws
+pub mod Headers
+pub mod Reading
 pub mod Examples

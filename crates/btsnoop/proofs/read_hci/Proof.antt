@@ -5,8 +5,8 @@ use Rattle.btsnoop.proofs.read_hci.Statement.{statement}
 use Rattle.btsnoop.proofs.read_hci.Tie as tie
 use Rattle.btsnoop.proofs.read_hci.Reads as reads
 use Rattle.btsnoop.proofs.read_hci.Lts as lts
-use Rattle.btsnoop.proofs.read_fragment.Reads as read-fragment-reads
-use Rattle.btsnoop.proofs.read_h4.Reads as read-h4-reads
+use Rattle.acl.proofs.read_fragment.Reads as read-fragment-reads
+use Rattle.acl.proofs.read_h4.Reads as read-h4-reads
 
 -- src/lib.rt:207:9
 returns : tie.Need-returns

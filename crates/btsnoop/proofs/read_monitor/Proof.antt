@@ -5,7 +5,7 @@ use Rattle.btsnoop.proofs.read_monitor.Statement.{statement}
 use Rattle.btsnoop.proofs.read_monitor.Tie as tie
 use Rattle.btsnoop.proofs.read_monitor.Reads as reads
 use Rattle.btsnoop.proofs.read_monitor.Lts as lts
-use Rattle.btsnoop.proofs.read_fragment.Reads as read-fragment-reads
+use Rattle.acl.proofs.read_fragment.Reads as read-fragment-reads
 
 -- src/lib.rt:204:17
 index-of-requires : tie.Need-index-of-requires
