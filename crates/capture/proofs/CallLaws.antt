@@ -10,9 +10,9 @@ use Rattle.laws.specs.Answers.{accepted, refused, refuses, Meets}
 use Rattle.laws.proofs.Answers.{meets-refused, meets-as}
 use Rattle.btsnoop.specs.Records.{btsnoop}
 use Rattle.btsnoop.proofs.Laws.{lawful}
-use Rattle.btsnoop.specs.PacketTable.{packetsFrom}
-use Rattle.btsnoop.specs.Adding.{ReadTo}
-use Rattle.btsnoop.specs.declared.Packets.{Packets}
+use Rattle.packets.specs.PacketTable.{packetsFrom}
+use Rattle.packets.specs.Adding.{ReadTo}
+use Rattle.packets.specs.declared.Packets.{Packets}
 use Rattle.l2cap.specs.Pdus.{pdus}
 use Rattle.l2cap.specs.PduTable.{Reassembled}
 use Rattle.channels.specs.Passing.{ReadChannels}

@@ -8,9 +8,9 @@ use Rattle.container.specs.Packets.{packets}
 use Rattle.btsnoop.specs.Header.{datalink}
 use Rattle.btsnoop.specs.Records.{btsnoop, records}
 use Rattle.btsnoop.specs.Packets.{packetOf}
-use Rattle.btsnoop.specs.PacketTable.{packetsFrom, Tabled}
-use Rattle.btsnoop.specs.Adding.{ReadTo}
-use Rattle.btsnoop.specs.declared.Packets.{Packets}
+use Rattle.packets.specs.PacketTable.{packetsFrom, Tabled}
+use Rattle.packets.specs.Adding.{ReadTo}
+use Rattle.packets.specs.declared.Packets.{Packets}
 use Rattle.l2cap.specs.Pdus.{pdus}
 use Rattle.l2cap.specs.PduTable.{pdusFrom, Reassembled}
 use Rattle.channels.specs.Passing.{ReadChannels}

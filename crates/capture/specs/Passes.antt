@@ -4,9 +4,9 @@ use mathlib.Core.Path.{_≡_}
 use mathlib.Core.List.{List}
 use Rattle.laws.specs.Answers.{Meets}
 use Rattle.btsnoop.specs.Records.{btsnoop}
-use Rattle.btsnoop.specs.PacketTable.{packetsFrom}
-use Rattle.btsnoop.specs.Adding.{ReadTo}
-use Rattle.btsnoop.specs.declared.Packets.{Packets}
+use Rattle.packets.specs.PacketTable.{packetsFrom}
+use Rattle.packets.specs.Adding.{ReadTo}
+use Rattle.packets.specs.declared.Packets.{Packets}
 use Rattle.l2cap.specs.Pdus.{pdus}
 use Rattle.l2cap.specs.PduTable.{Reassembled}
 use Rattle.channels.specs.Passing.{ReadChannels}

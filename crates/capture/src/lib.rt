@@ -1,6 +1,6 @@
 // Import: from the bytes of a trace to the list of the spans of one DLCI.
 ghost use mathlib.Core.Path.{_≡_};
-ghost use Rattle.btsnoop.specs.Adding.{ReadTo};
+ghost use Rattle.packets.specs.Adding.{ReadTo};
 ghost use Rattle.streams.specs.Streams.{told};
 ghost use Rattle.capture.specs.Options.{optionsOf};
 ghost use Rattle.capture.specs.Calls.{toldImported, PacketsMeet, Imports, ImportsFound};

@@ -10,7 +10,7 @@ use borrow.Author.Tests.{eq-eqb, ne-eqb}
 use Rattle.laws.proofs.Choice.{split≡}
 use Rattle.words.specs.Words.{word}
 use Rattle.container.specs.Packets.{Packet}
-use Rattle.btsnoop.specs.PacketTable.{packetAt}
+use Rattle.packets.specs.PacketTable.{packetAt}
 use Rattle.fragments.specs.Bytes.{numberOf}
 use Rattle.fragments.proofs.Walking.{number-at}
 use Rattle.l2cap.specs.Pdus.{stillOpen}

@@ -11,8 +11,8 @@ use Rattle.words.specs.Words.{word}
 use Rattle.container.specs.Container.{packetsIn}
 use Rattle.container.specs.Packets.{Packet}
 use Rattle.btsnoop.specs.Records.{btsnoop}
-use Rattle.btsnoop.specs.PacketTable.{packetAt, packetsFrom}
-use Rattle.btsnoop.proofs.PacketFrames.{packets-next, packets-none}
+use Rattle.packets.specs.PacketTable.{packetAt, packetsFrom}
+use Rattle.packets.proofs.PacketFrames.{packets-next, packets-none}
 use Rattle.fragments.specs.Bytes.{numberOf}
 use Rattle.l2cap.specs.Pdus.{packetKey}
 use Rattle.l2cap.specs.Steps.{openAt, openIn, rowAt, heldOf, mapOf}

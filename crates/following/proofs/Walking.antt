@@ -17,12 +17,12 @@ use Rattle.btsnoop.specs.Header.{datalink}
 use Rattle.btsnoop.specs.Records.{btsnoop}
 use Rattle.btsnoop.specs.Packets.{packetOf}
 use Rattle.btsnoop.specs.Reading.{between}
-use Rattle.btsnoop.specs.Reader.{stepOf}
-use Rattle.btsnoop.specs.Walk.{RecordAt}
-use Rattle.btsnoop.specs.PacketTable.{packetAt, packetsFrom, Read}
-use Rattle.btsnoop.proofs.PacketFrames.{packets-next, packets-front}
-use Rattle.btsnoop.specs.declared.Step.{Step}
-use Rattle.btsnoop.specs.declared.Step.the-variants.{Record, Cut, End}
+use Rattle.trace.specs.Reader.{stepOf}
+use Rattle.trace.specs.Walk.{RecordAt}
+use Rattle.packets.specs.PacketTable.{packetAt, packetsFrom, Read}
+use Rattle.packets.proofs.PacketFrames.{packets-next, packets-front}
+use Rattle.trace.specs.declared.Step.{Step}
+use Rattle.trace.specs.declared.Step.the-variants.{Record, Cut, End}
 use Rattle.fragments.specs.Bytes.{numberOf}
 use Rattle.fragments.specs.Links.{LinkedTo}
 use Rattle.fragments.proofs.Walking.{number-at}

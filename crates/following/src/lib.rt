@@ -3,7 +3,7 @@ ghost use mathlib.Core.Path.{_≡_};
 ghost use lib.Dec.{eqb};
 ghost use Prim.Native.Nat.{_+_, _*_, _≤_};
 ghost use Rattle.words.specs.Words.{word};
-ghost use Rattle.btsnoop.specs.PacketTable.{Read};
+ghost use Rattle.packets.specs.PacketTable.{Read};
 ghost use Rattle.l2cap.specs.Steps.{rowAt, openIn};
 ghost use Rattle.following.specs.Showing.{shownBy, Show};
 ghost use Rattle.following.specs.Passing.{firstPass, Turn, Turned, RecordTurn, RecordTurned, FollowedTo};

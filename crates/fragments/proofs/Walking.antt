@@ -16,8 +16,8 @@ use Rattle.words.proofs.Words.{word-of-bytes}
 use Rattle.words.specs.Front.{Front}
 use Rattle.words.proofs.Front.{front-then, front-sets, front-refl}
 use Rattle.container.specs.Packets.{Packet}
-use Rattle.btsnoop.specs.PacketTable.{packetAt, packetsFrom}
-use Rattle.btsnoop.proofs.PacketFrames.{packets-next, packets-none, packets-snoc, packet-front, packets-front, tabled-less, tabled-front}
+use Rattle.packets.specs.PacketTable.{packetAt, packetsFrom}
+use Rattle.packets.proofs.PacketFrames.{packets-next, packets-none, packets-snoc, packet-front, packets-front, tabled-less, tabled-front}
 use Rattle.fragments.specs.Links.{soonest, tagAt, Linked}
 use Rattle.fragments.proofs.Chains.{soonest-from, soonest-tag, soonest-skip, tag-full, tag-key}
 use Rattle.fragments.specs.Bytes.{numberOf, pieceOf, gathered, since, begun, Next, Walk, Paste, Gather}

@@ -7,7 +7,7 @@ use lib.ListN.{length}
 use lib.Dec.{eqb}
 use Rattle.words.specs.Words.{word}
 use Rattle.container.specs.Packets.{Packet}
-use Rattle.btsnoop.specs.PacketTable.{packetsFrom, Tabled}
+use Rattle.packets.specs.PacketTable.{packetsFrom, Tabled}
 use Rattle.fragments.specs.Links.{Linked}
 
 -- a link and a direction as the one number that the tables keep

@@ -7,7 +7,7 @@ ghost use Rattle.laws.specs.Numbers.{le16};
 ghost use Rattle.laws.specs.Stores.{Writes};
 ghost use Rattle.words.specs.Words.{word};
 ghost use Rattle.tree.specs.Seats.{Seated};
-ghost use Rattle.btsnoop.specs.PacketTable.{packetAt};
+ghost use Rattle.packets.specs.PacketTable.{packetAt};
 ghost use Rattle.fragments.specs.Links.{indexOf, headOf, headWith, Head, noted, Note, SeatKey, LinkStep, LinkedStep, LinkRoom, LinkBegun, LinkedTo};
 ghost use Rattle.fragments.specs.Bytes.{begun, Next, Walk, Paste, Gather};
 use tree::Seating;

@@ -7,10 +7,10 @@ use native.Mathlib.Omega.{arith}
 use lib.ListN.{length}
 use Rattle.laws.proofs.Choice.{no-way}
 use Rattle.laws.specs.Answers.{Answer, accepted, refused}
-use Rattle.btsnoop.specs.Adding.{ReadTo}
-use Rattle.btsnoop.specs.PacketTable.{Read}
+use Rattle.packets.specs.Adding.{ReadTo}
+use Rattle.packets.specs.PacketTable.{Read}
 use Rattle.btsnoop.specs.Records.{btsnoop}
-use Rattle.btsnoop.specs.declared.Packets.{Packets}
+use Rattle.packets.specs.declared.Packets.{Packets}
 use Rattle.outcome.specs.Import.{Tail, fits, workSuffices}
 use Rattle.opening.specs.Opening.{opened, toldOpened, Opens}
 use Rattle.opening.proofs.AsImport.{opened-sized}

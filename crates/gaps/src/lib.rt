@@ -1,6 +1,6 @@
 // Signs in a trace that something is not in it: the call that counts them, by three walks over the records.
 ghost use mathlib.Core.Path.{_≡_};
-ghost use Rattle.btsnoop.specs.PacketTable.{Read};
+ghost use Rattle.packets.specs.PacketTable.{Read};
 ghost use Rattle.opening.specs.Opening.{tailOf};
 ghost use Rattle.signs.specs.Gaps.{gaps};
 ghost use Rattle.telling.specs.Telling.{stored};

@@ -16,7 +16,7 @@ use Rattle.words.specs.Words.{word, long}
 use Rattle.words.specs.Front.{Front}
 use Rattle.words.proofs.Front.{front-refl, front-then, front-part, front-sets, part-take}
 use Rattle.table.specs.Table.{Agree}
-use Rattle.btsnoop.specs.PacketTable.{packetAt}
+use Rattle.packets.specs.PacketTable.{packetAt}
 use Rattle.fragments.specs.Bytes.{begun, Gather}
 use Rattle.fragments.proofs.Walking.{since-one, piece-own, word-behind}
 use Rattle.l2cap.specs.Pdus.{Pdu, pduOf}

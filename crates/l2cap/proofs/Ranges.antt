@@ -6,7 +6,7 @@ use native.Mathlib.Omega.{arith}
 use lib.ListN.{length}
 use Rattle.words.specs.Words.{word}
 use Rattle.words.proofs.Front.{front-word}
-use Rattle.btsnoop.proofs.PacketFrames.{tabled-less, tabled-front}
+use Rattle.packets.proofs.PacketFrames.{tabled-less, tabled-front}
 use Rattle.fragments.proofs.Chains.{linked-less, linked-agree}
 use Rattle.l2cap.specs.Steps.{Step, Stepped, Run, Ran, stays, steps}
 use Rattle.l2cap.specs.declared.Tables.{Tables}

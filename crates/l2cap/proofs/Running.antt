@@ -15,8 +15,8 @@ use Rattle.words.specs.Front.{Front}
 use Rattle.words.proofs.Front.{front-refl, front-then}
 use Rattle.table.specs.Table.{lookup}
 use Rattle.container.specs.Packets.{Packet}
-use Rattle.btsnoop.specs.PacketTable.{packetAt, packetsFrom, dataOf, Tabled}
-use Rattle.btsnoop.proofs.PacketFrames.{packets-next, packets-none, data-mono, two-ways, packet-front, packets-front, tabled-front}
+use Rattle.packets.specs.PacketTable.{packetAt, packetsFrom, dataOf, Tabled}
+use Rattle.packets.proofs.PacketFrames.{packets-next, packets-none, data-mono, two-ways, packet-front, packets-front, tabled-front}
 use Rattle.fragments.specs.Bytes.{numberOf}
 use Rattle.l2cap.specs.Pdus.{Pdu, packetKey, reassembly, pdus}
 use Rattle.l2cap.specs.PduTable.{pdusFrom, paysOf, Reassembled}

@@ -18,8 +18,8 @@ use Rattle.table.specs.Table.{some as row, findIn, lookup, upd, second, sumOf, 
 use Rattle.table.proofs.Table.{find-below, lookup-found, lookup-agree, long-agree, sum-agree, second-le}
 use Rattle.table.specs.declared.Row.the-variants.{At}
 use Rattle.tree.proofs.Index.{find-agree}
-use Rattle.btsnoop.specs.PacketTable.{packetAt, dataOf, Tabled}
-use Rattle.btsnoop.proofs.PacketFrames.{data-next, data-front}
+use Rattle.packets.specs.PacketTable.{packetAt, dataOf, Tabled}
+use Rattle.packets.proofs.PacketFrames.{data-next, data-front}
 use Rattle.fragments.specs.Links.{Seats}
 use Rattle.fragments.specs.Bytes.{since, begun, Walk}
 use Rattle.fragments.proofs.Walking.{number-at, bytes-length, piece-own, piece-other, since-one, since-snoc, since-front}

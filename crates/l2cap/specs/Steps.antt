@@ -12,7 +12,7 @@ use Rattle.words.specs.Words.{word, putWord}
 use Rattle.words.specs.Front.{Front}
 use Rattle.words.specs.Rows.{putWords}
 use Rattle.table.specs.Table.{Slot, none as no-row, some as row, findIn, lookup, sumOf}
-use Rattle.btsnoop.specs.PacketTable.{packetAt, dataOf, Tabled}
+use Rattle.packets.specs.PacketTable.{packetAt, dataOf, Tabled}
 use Rattle.l2cap.specs.Pdus.{joined, stillOpen, completed, pduOf}
 use Rattle.l2cap.specs.PduTable.{pdusFrom, paysOf}
 use Rattle.l2cap.specs.PduFrames.{Placed}

@@ -2,7 +2,7 @@
 ghost use mathlib.Core.Path.{_≡_};
 ghost use Prim.Native.Nat.{_+_, _*_, _≤_};
 ghost use lib.ListN.{length};
-ghost use Rattle.btsnoop.specs.PacketTable.{packetsFrom, Tabled};
+ghost use Rattle.packets.specs.PacketTable.{packetsFrom, Tabled};
 ghost use Rattle.fragments.specs.Bytes.{begun, Walk};
 ghost use Rattle.l2cap.specs.Pdus.{pdus};
 ghost use Rattle.l2cap.specs.PduTable.{pduAt, Reassembled};

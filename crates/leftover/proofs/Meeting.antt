@@ -15,11 +15,11 @@ use Rattle.container.specs.Packets.{Packet}
 use Rattle.btsnoop.specs.Header.{datalink}
 use Rattle.btsnoop.specs.Packets.{packetOf}
 use Rattle.btsnoop.specs.Reading.{between}
-use Rattle.btsnoop.specs.Reader.{stepOf}
+use Rattle.trace.specs.Reader.{stepOf}
 use Rattle.btsnoop.specs.Records.{btsnoop}
-use Rattle.btsnoop.specs.Walk.{RecordAt}
-use Rattle.btsnoop.specs.declared.Step.{Step}
-use Rattle.btsnoop.specs.declared.Step.the-variants.{Record, Cut, End}
+use Rattle.trace.specs.Walk.{RecordAt}
+use Rattle.trace.specs.declared.Step.{Step}
+use Rattle.trace.specs.declared.Step.the-variants.{Record, Cut, End}
 use Rattle.l2cap.specs.Steps.{rowAt, openIn}
 use Rattle.l2cap.specs.declared.Open.{Open}
 use Rattle.l2cap.specs.declared.Open.the-variants.{Closed, From}

@@ -11,10 +11,10 @@ use Rattle.laws.proofs.Choice.{no-way}
 use Rattle.btsnoop.specs.Headers.{headerOf}
 use Rattle.btsnoop.proofs.Headers.{begins-long, no-header, other-link, known-link}
 use Rattle.btsnoop.specs.Records.{btsnoop, tailOffset}
-use Rattle.btsnoop.specs.Adding.{ReadPre, ReadTo}
+use Rattle.packets.specs.Adding.{ReadPre, ReadTo}
 use Rattle.btsnoop.specs.declared.Header.{Header}
 use Rattle.btsnoop.specs.declared.Header.the-variants.{Datalink as Known, NotBtsnoop as NoHeader, Other}
-use Rattle.btsnoop.specs.declared.Packets.{Packets}
+use Rattle.packets.specs.declared.Packets.{Packets}
 use Rattle.outcome.specs.Import.{endsWell, fits, workSuffices}
 use Rattle.outcome.specs.Import as import
 use Rattle.opening.specs.Opening.{ends, heads, opened, tailOf, toldOpened, Opens, Sized, HeaderOpens, RecordsOpen, truncates}

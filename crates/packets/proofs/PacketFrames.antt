@@ -12,7 +12,7 @@ use Rattle.words.specs.Words.{word, long}
 use Rattle.words.specs.Front.{Front}
 use Rattle.words.proofs.Front.{front-word}
 use Rattle.container.specs.Packets.{Packet}
-use Rattle.btsnoop.specs.PacketTable.{packetAt, packetsFrom, dataOf, Tabled}
+use Rattle.packets.specs.PacketTable.{packetAt, packetsFrom, dataOf, Tabled}
 
 pub front-long : (n : ℕ) (u w : List ℕ) (j : ℕ) → 4 * j + 8 ≤ n → Front n u w → long u j ≡ long w j
 unfolding long

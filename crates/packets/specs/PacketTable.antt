@@ -5,10 +5,9 @@ use mathlib.Core.List.{List, [], _∷_}
 use lib.ListN.{length, take, drop}
 use lib.Dec.{eqb}
 use Rattle.words.specs.Words.{word, long}
-use Rattle.btsnoop.specs.Header.{datalink}
-use Rattle.btsnoop.specs.Records.{records}
-use Rattle.container.specs.Packets.{Packet, packets}
-use Rattle.btsnoop.specs.Packets.{packetOf}
+use Rattle.container.specs.Packets.{Packet}
+use Rattle.trace.specs.Formats.{packetsBy}
+use Rattle.trace.specs.declared.Format.{Format}
 
 unfoldable pub packetAt : List ℕ → List ℕ → ℕ → Packet
 packetAt f w i = record {
@@ -41,6 +40,6 @@ pub record Tabled (f w : List ℕ) (count : ℕ) : Type 0 where
   pub room : 8 * length f ≤ length w
 
 -- the table holds the packets of the file's whole records
-pub record Read (f w : List ℕ) (count : ℕ) : Type 0 where
+pub record Read (g : Format) (f w : List ℕ) (count : ℕ) : Type 0 where
   pub tabled : Tabled f w count
-  pub list : packetsFrom f w 0 count ≡ packets (packetOf (datalink f)) (records f)
+  pub list : packetsFrom f w 0 count ≡ packetsBy g f

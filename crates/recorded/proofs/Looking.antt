@@ -8,12 +8,12 @@ use lib.ListN.{length}
 use borrow.Author.Tests.{lt-ltb, le-ltb}
 use Rattle.laws.specs.Numbers.{be32}
 use Rattle.btsnoop.specs.Header.{datalink}
-use Rattle.btsnoop.specs.Reader.{stepOf}
+use Rattle.trace.specs.Reader.{stepOf}
 use Rattle.btsnoop.specs.Reading.{between}
 use Rattle.btsnoop.specs.Records.{btsnoop}
-use Rattle.btsnoop.specs.Walk.{RecordAt}
-use Rattle.btsnoop.specs.declared.Step.{Step}
-use Rattle.btsnoop.specs.declared.Step.the-variants.{Record, Cut, End}
+use Rattle.trace.specs.Walk.{RecordAt}
+use Rattle.trace.specs.declared.Step.{Step}
+use Rattle.trace.specs.declared.Step.the-variants.{Record, Cut, End}
 use Rattle.signs.specs.Places.{recordsAt}
 use Rattle.signs.specs.Recorded.{isZeros, isSkipped}
 use Rattle.signs.specs.Gaps.{recordGaps}

@@ -11,7 +11,7 @@ use lib.Dec.{ltb, eqb}
 use borrow.Author.Tests.{eq-eqb, ne-eqb}
 use Rattle.laws.specs.Numbers.{be32}
 use Rattle.btsnoop.specs.Packets.{packetOf}
-use Rattle.btsnoop.proofs.Parts.{be32-part}
+use Rattle.acl.proofs.Parts.{be32-part}
 use Rattle.signs.specs.Recorded.{isShort, isZeros, isAcl, isNone, isSkipped}
 use Rattle.recorded.specs.Looking.{ShortIs, DropsIs}
 

@@ -10,7 +10,7 @@ use lib.Dec.{eqb, ltb}
 use borrow.Author.Tests.{eq-eqb, ne-eqb, lt-ltb, le-ltb}
 use Rattle.laws.proofs.Choice.{splitB, split≡}
 use Rattle.words.specs.Words.{word}
-use Rattle.btsnoop.proofs.Parts.{part-part}
+use Rattle.acl.proofs.Parts.{part-part}
 use Rattle.l2cap.specs.PduTable.{pduAt}
 use Rattle.l2cap.specs.PduFrames.{Lent}
 use Rattle.l2cap.proofs.PduFrames.{payload-length, link-at, rx-at, cid-at}

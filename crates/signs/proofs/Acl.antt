@@ -16,7 +16,7 @@ use Rattle.words.specs.declared.Field.the-variants.{Value, Missing}
 use Rattle.container.specs.Packets.{fragment, h4Packet}
 use Rattle.btsnoop.specs.Packets.{milliseconds, hciPacket, monitorPacket, packetOf}
 use Rattle.btsnoop.specs.Reading.{between, RecordPre}
-use Rattle.btsnoop.proofs.Parts.{byte-part, be32-part, drop-part}
+use Rattle.acl.proofs.Parts.{byte-part, be32-part, drop-part}
 use Rattle.signs.specs.Recorded.{isAcl, isNone}
 use Rattle.signs.specs.Reading.{lacksData, beforePacket}
 

@@ -14,7 +14,7 @@ use Rattle.container.specs.Container.{packetsIn}
 use Rattle.container.specs.Packets.{Packet}
 use Rattle.btsnoop.specs.Header.{datalink}
 use Rattle.btsnoop.specs.Packets.{packetOf}
-use Rattle.btsnoop.specs.PacketTable.{packetAt, packetsFrom}
+use Rattle.packets.specs.PacketTable.{packetAt, packetsFrom}
 use Rattle.btsnoop.specs.Records.{btsnoop}
 use Rattle.btsnoop.proofs.Laws.{packet-room}
 use Rattle.signs.specs.Places.{Placed, placed, placedPacket, placedPackets, recordsAt, packetsAt}

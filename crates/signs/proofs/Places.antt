@@ -14,11 +14,11 @@ use Rattle.btsnoop.specs.Header.{datalink}
 use Rattle.btsnoop.specs.Records.{btsnoop, recordsIn}
 use Rattle.btsnoop.specs.Packets.{packetOf}
 use Rattle.btsnoop.specs.Reading.{between}
-use Rattle.btsnoop.specs.Reader.{stepOf, isRecord}
-use Rattle.btsnoop.specs.Walk.{RecordAt}
-use Rattle.btsnoop.proofs.ReaderLaws.{record-told, none-told}
-use Rattle.btsnoop.specs.declared.Step.{Step}
-use Rattle.btsnoop.specs.declared.Step.the-variants.{Record, Cut, End}
+use Rattle.trace.specs.Reader.{stepOf, isRecord}
+use Rattle.trace.specs.Walk.{RecordAt}
+use Rattle.trace.proofs.ReaderLaws.{record-told, none-told}
+use Rattle.trace.specs.declared.Step.{Step}
+use Rattle.trace.specs.declared.Step.the-variants.{Record, Cut, End}
 use Rattle.signs.specs.Places.{Placed, placed, placedPacket, placedPackets, recordsAt, packetsAt}
 use Rattle.signs.specs.Recorded.{isNone}
 

@@ -6,7 +6,7 @@ use mathlib.Core.Option.{Option, none, some}
 use lib.ListN.{length}
 use Rattle.container.specs.Container.{packetsIn}
 use Rattle.container.specs.Packets.{Packet}
-use Rattle.btsnoop.specs.PacketTable.{packetAt, packetsFrom, Tabled}
+use Rattle.packets.specs.PacketTable.{packetAt, packetsFrom, Tabled}
 use Rattle.btsnoop.specs.Records.{btsnoop}
 use Rattle.fragments.specs.Links.{Seats}
 use Rattle.l2cap.specs.Pdus.{packetKey}

@@ -2,7 +2,7 @@
 // room for.
 ghost use mathlib.Core.Path.{_≡_};
 ghost use mathlib.Core.List.{[], _∷_};
-ghost use Rattle.btsnoop.specs.Listing.{toldListed};
+ghost use Rattle.trace.specs.Listing.{toldListed};
 ghost use Rattle.fixtures.specs.Told.{toldPlanned};
 ghost use Rattle.mdr.specs.Told.{told, toldPacked};
 ghost use Rattle.names.specs.Told.{toldNamed};

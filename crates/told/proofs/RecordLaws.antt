@@ -5,8 +5,8 @@ use mathlib.Core.List.{List, [], _∷_}
 use lib.ListN.{set}
 use lib.Seq.{sets}
 use Rattle.laws.specs.Answers.{refused}
-use Rattle.btsnoop.specs.Listing.{listing, startsOf, toldListed, Lists}
-use Rattle.btsnoop.specs.declared.Listed.{Listed}
+use Rattle.trace.specs.Listing.{listing, startsOf, toldListed, Lists}
+use Rattle.trace.specs.declared.Listed.{Listed}
 use Rattle.telling.specs.Telling.{numberOf, valuesOf, stored, Shows, Tells}
 use Rattle.telling.specs.declared.Shown.{Shown}
 use Rattle.telling.proofs.TellLaws.{told-as}

@@ -2,7 +2,7 @@
 use Prim.Native.Nat.{ℕ}
 use mathlib.Core.Path.{_≡_}
 use mathlib.Core.List.{List}
-use Rattle.btsnoop.specs.Listing.{listing, startsOf}
+use Rattle.trace.specs.Listing.{listing, startsOf}
 use Rattle.telling.specs.Telling.{stored, Told}
 
 -- the answer, told; and where each record starts, as many as the list d has room for: nothing after a refusal

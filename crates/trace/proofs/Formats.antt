@@ -55,26 +55,26 @@ file-head-most (ByEncoding e) = omega arith
 -- ---- by the case that a format is
 
 module _ (g : Format) (d : ℕ) (q : g ≡ ByDatalink d) where
-  pub file-head-btsnoop : 16 ≡ fileHead g
+  pub file-head-btsnoop : (16 ≡ fileHead g) × (16 ≤ 24)
   unfolding fileHead
-  file-head-btsnoop = rw q
+  file-head-btsnoop = (rw q, omega arith)
 
-  pub record-head-btsnoop : 24 ≡ recordHead g
+  pub record-head-btsnoop : (24 ≡ recordHead g) × (24 ≤ 24)
   unfolding recordHead
-  record-head-btsnoop = rw q
+  record-head-btsnoop = (rw q, omega arith)
 
   pub size-btsnoop : (b : List ℕ) (n : ℕ) → n ≡ btsnoop-records.recordSize b → n ≡ sizeBy g b
   unfolding sizeBy
   size-btsnoop b n e = rw q e
 
 module _ (g : Format) (x : Encoding) (q : g ≡ ByEncoding x) where
-  pub file-head-pcap : 24 ≡ fileHead g
+  pub file-head-pcap : (24 ≡ fileHead g) × (24 ≤ 24)
   unfolding fileHead
-  file-head-pcap = rw q
+  file-head-pcap = (rw q, omega arith)
 
-  pub record-head-pcap : 16 ≡ recordHead g
+  pub record-head-pcap : (16 ≡ recordHead g) × (16 ≤ 24)
   unfolding recordHead
-  record-head-pcap = rw q
+  record-head-pcap = (rw q, omega arith)
 
   pub size-pcap : (b : List ℕ) (n : ℕ) → n ≡ pcap-records.recordSize (x .big) b → n ≡ sizeBy g b
   unfolding sizeBy

@@ -15,6 +15,12 @@ pub record RecordAt (g : Format) (f : List ℕ) (at e : ℕ) : Type 0 where
   pub most : e ≤ length f
   pub list : recordsFrom g f at ≡ take (e - at) (drop at f) ∷ recordsFrom g f e
 
+-- a record stands from one place up to another
+pub record RecordPre (g : Format) (f : List ℕ) (at end : ℕ) : Type 0 where
+  pub least : at + recordHead g ≤ end
+  pub most : end ≤ length f
+  pub small : length f ≤ 1048576
+
 -- a whole record without bytes
 unfoldable pub isEmpty : Format → List ℕ → Bool
 isEmpty g b = eqb (sizeBy g b) (recordHead g) && isWhole (sizeBy g) b

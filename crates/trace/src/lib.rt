@@ -77,7 +77,7 @@ pub fn read_header(file: &[u8], container: Container) -> Header
 
 // How many bytes the file header has, after which the first record starts.
 pub fn file_head(format: Format) -> usize
-    ensures { λ r. ⌜ r ≡ fileHead format ⌝ }
+    ensures { λ r. ⌜ (r ≡ fileHead format) × (r ≤ 24) ⌝ }
 {
     match format {
         Format::Btsnoop(_) => 16,
@@ -87,7 +87,7 @@ pub fn file_head(format: Format) -> usize
 
 // How many bytes a record has before its packet.
 pub fn record_head(format: Format) -> usize
-    ensures { λ r. ⌜ r ≡ recordHead format ⌝ }
+    ensures { λ r. ⌜ (r ≡ recordHead format) × (r ≤ 24) ⌝ }
 {
     match format {
         Format::Btsnoop(_) => 24,

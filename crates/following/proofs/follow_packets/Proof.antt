@@ -10,7 +10,7 @@ use Rattle.following.proofs.follow_packets.Statement.{statement}
 use Rattle.following.proofs.follow_packets.Tie as tie
 use Rattle.following.proofs.follow_packets.Reads as reads
 use Rattle.following.proofs.follow_packets.Lts as lts
-use Rattle.btsnoop.proofs.read_at.Reads as read-at-reads
+use Rattle.trace.proofs.read_at.Reads as read-at-reads
 use Rattle.following.proofs.first_pass.Reads as first-pass-reads
 use Rattle.following.proofs.follow_record.Reads as follow-record-reads
 use Rattle.fragments.proofs.link_packets.Reads as link-packets-reads

@@ -7,7 +7,7 @@ use Rattle.leftover.proofs.left_open.Statement.{statement}
 use Rattle.leftover.proofs.left_open.Tie as tie
 use Rattle.leftover.proofs.left_open.Reads as reads
 use Rattle.leftover.proofs.left_open.Lts as lts
-use Rattle.btsnoop.proofs.read_at.Reads as read-at-reads
+use Rattle.trace.proofs.read_at.Reads as read-at-reads
 use Rattle.leftover.proofs.meet.Reads as meet-reads
 use Rattle.words.proofs.get_be32.Reads as get-be32-reads
 

@@ -1,10 +1,10 @@
-use Rattle.btsnoop.proofs.Adding.{put-all}
+use Rattle.packets.proofs.Adding.{put-all}
 use native.Mathlib.Omega.{arith}
 use borrow.Author.Needs.{needs}
-use Rattle.btsnoop.proofs.put_packet.Statement.{statement}
-use Rattle.btsnoop.proofs.put_packet.Tie as tie
-use Rattle.btsnoop.proofs.put_packet.Reads as reads
-use Rattle.btsnoop.proofs.put_packet.Lts as lts
+use Rattle.packets.proofs.put_packet.Statement.{statement}
+use Rattle.packets.proofs.put_packet.Tie as tie
+use Rattle.packets.proofs.put_packet.Reads as reads
+use Rattle.packets.proofs.put_packet.Lts as lts
 use Rattle.words.proofs.put32.Reads as put32-reads
 use Rattle.words.proofs.put64.Reads as put64-reads
 

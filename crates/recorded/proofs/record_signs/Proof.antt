@@ -7,7 +7,7 @@ use Rattle.recorded.proofs.record_signs.Statement.{statement}
 use Rattle.recorded.proofs.record_signs.Tie as tie
 use Rattle.recorded.proofs.record_signs.Reads as reads
 use Rattle.recorded.proofs.record_signs.Lts as lts
-use Rattle.btsnoop.proofs.read_at.Reads as read-at-reads
+use Rattle.trace.proofs.read_at.Reads as read-at-reads
 use Rattle.recorded.proofs.look_at.Reads as look-at-reads
 use Rattle.words.proofs.get_be32.Reads as get-be32-reads
 

@@ -1,4 +1,4 @@
-use Rattle.btsnoop.specs.Listing.{toldListed}
+use Rattle.trace.specs.Listing.{toldListed}
 use Rattle.telling.proofs.TellLaws.{shows-as}
 use borrow.Author.Needs.{needs}
 use Rattle.telling.proofs.shown_listed.Statement.{statement}

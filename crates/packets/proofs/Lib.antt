@@ -1,0 +1,2 @@
+pub mod PacketFrames
+pub mod Adding

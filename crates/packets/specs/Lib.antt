@@ -1,0 +1,2 @@
+pub mod PacketTable
+pub mod Adding
