@@ -5,7 +5,7 @@ ghost use lib.ListN.{length, set, drop};
 ghost use Rattle.trace.specs.Formats.{fileHead, recordHead, sizeBy};
 ghost use Rattle.trace.specs.Headers.{HeaderIs};
 ghost use Rattle.trace.specs.declared.Container.the-variants.{Btsnoop, Pcap};
-ghost use Rattle.trace.specs.Reader.{stepOf};
+ghost use Rattle.trace.specs.Reader.{stepOf, Starts, Moves};
 ghost use Rattle.trace.specs.Listing.{Lists};
 ghost use Rattle.trace.specs.Listings.{WalkedTo};
 use pcap::Encoding;
@@ -141,11 +141,35 @@ pub fn step_at(file: &[u8], at: usize, format: Format) -> Step
     Step::Record(at + size)
 }
 
+// The reader of a capture, at its first record.
+pub fn start<'a>(file: &'a [u8], head: usize) -> Reader<'a>
+    ensures { λ r. ⌜ Starts (file .entry) head r ⌝ }
+{
+    Reader { file, at: head }
+}
+
+// What a reader finds.
+pub fn next_step<'a>(r: Reader<'a>, format: Format) -> Step
+    ensures { λ s. ⌜ s ≡ stepOf format (now (r .entry .file)) (r .entry .at) ⌝ }
+{
+    step_at(r.file, r.at, format)
+}
+
+// The reader after a record that ends at an offset.
+pub fn moved<'a>(r: Reader<'a>, end: usize) -> Reader<'a>
+    ensures { λ q. ⌜ Moves (r .entry) end q ⌝ }
+{
+    Reader {
+        file: r.file,
+        at: end,
+    }
+}
+
 // What a reader of a capture finds at an offset, for callers that hold no reader.
 pub fn read_at(file: &[u8], at: usize, format: Format) -> Step
     ensures { λ s. ⌜ s ≡ stepOf format (now (file .entry)) at ⌝ }
 {
-    step_at(file, at, format)
+    next_step(Reader { file, at }, format)
 }
 
 // What walking the records finds: how many there are, and the tail offset.
