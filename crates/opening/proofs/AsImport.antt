@@ -7,6 +7,7 @@ use native.Mathlib.Omega.{arith}
 use Rattle.laws.proofs.Choice.{splitB}
 use Rattle.laws.specs.Answers.{Answer, accepted, refused, Outcome, refuses}
 use Rattle.container.specs.Container.{Container}
+use Rattle.trace.specs.Headers.{headed}
 use Rattle.outcome.specs.Import.{Options, Tail, endsWell, fits, workSuffices, read, outcome, given, imported}
 use Rattle.opening.specs.Opening.{ends, heads, opened}
 
@@ -19,7 +20,7 @@ orGiven (accepted vs) o = o
 orGiven (refused n vs) o = refuses n vs
 
 pub import-opened : (C : Container) (f : List ℕ) (work : ℕ) (o : Options) → imported C f work o ≡ orGiven (opened C f work (o .tail)) (given (read C f o))
-unfolding imported outcome given orGiven opened heads ends
+unfolding imported outcome given orGiven opened heads headed ends
 import-opened C f work o =
     splitB (fits f)
     (λ a. splitB (workSuffices f work)

@@ -2,6 +2,7 @@
 // room for.
 ghost use mathlib.Core.Path.{_≡_};
 ghost use mathlib.Core.List.{[], _∷_};
+ghost use Rattle.trace.specs.Headers.{toldRefusal};
 ghost use Rattle.trace.specs.Listing.{toldListed};
 ghost use Rattle.fixtures.specs.Told.{toldPlanned};
 ghost use Rattle.mdr.specs.Told.{told, toldPacked};
@@ -204,13 +205,26 @@ pub fn shown_ordered(o: order::Ordered) -> Shown
     }
 }
 
-pub fn shown_listed(l: btsnoop::Listed) -> Shown
+// Why a trace is not read.
+pub fn shown_refusal(x: trace::Refusal) -> Shown
+    ensures { λ r. ⌜ Shows (numberOf (toldRefusal x)) (valuesOf (toldRefusal x)) r ⌝ }
+{
+    match x {
+        trace::Refusal::FileLong => alone(1),
+        trace::Refusal::WorkShort => alone(2),
+        trace::Refusal::NotBtsnoop => alone(3),
+        trace::Refusal::Datalink(n) => with_one(4, n as u64),
+        trace::Refusal::NotPcap => alone(21),
+        trace::Refusal::LinkType(n) => with_one(22, n as u64),
+        trace::Refusal::Truncated(offset) => with_one(5, offset as u64),
+    }
+}
+
+pub fn shown_listed(l: trace::Listed) -> Shown
     ensures { λ r. ⌜ Shows (numberOf (toldListed l)) (valuesOf (toldListed l)) r ⌝ }
 {
     match l {
-        btsnoop::Listed::Records(count, tail) => with_two(0, count as u64, tail as u64),
-        btsnoop::Listed::FileLong => alone(1),
-        btsnoop::Listed::NotBtsnoop => alone(3),
-        btsnoop::Listed::Datalink(n) => with_one(4, n as u64),
+        trace::Listed::Records(count, tail) => with_two(0, count as u64, tail as u64),
+        trace::Listed::Refused(x) => shown_refusal(x),
     }
 }

@@ -1,4 +1,4 @@
-use Rattle.opening.proofs.Opening.{open-sized, open-long, open-short, open-read}
+use Rattle.opening.proofs.Opening.{open-long, open-short, open-read, open-sized}
 use native.Mathlib.Omega.{arith}
 use borrow.Author.Needs.{needs}
 use Rattle.opening.proofs.open_trace.Statement.{statement}
@@ -7,27 +7,27 @@ use Rattle.opening.proofs.open_trace.Reads as reads
 use Rattle.opening.proofs.open_trace.Lts as lts
 use Rattle.opening.proofs.open_header.Reads as open-header-reads
 
--- src/lib.rt:68:9
+-- src/lib.rt:66:9
 returns : tie.Need-returns
 returns c = search open-long
 
--- src/lib.rt:70:21
+-- src/lib.rt:68:21
 mul-if2 : tie.Need-mul-if2
 mul-if2 c = search needs
 
--- src/lib.rt:71:9
+-- src/lib.rt:69:9
 returns-2 : tie.Need-returns-2
 returns-2 c = search open-short
 
--- src/lib.rt:73:5
+-- src/lib.rt:71:5
 open-header-requires : tie.Need-open-header-requires
 open-header-requires c κs = search open-sized
 
--- src/lib.rt:63:1
+-- src/lib.rt:61:1
 same-length : tie.Need-same-length
 same-length c = search needs
 
--- src/lib.rt:63:1
+-- src/lib.rt:61:1
 returns-3 : tie.Need-returns-3
 returns-3 c = search open-read
 

@@ -1,8 +1,8 @@
-use Rattle.imports.proofs.NumberLaws.{option-there, option-lacks}
+use Rattle.options.proofs.Numbers.{option-there, option-lacks}
 use native.Mathlib.Omega.{arith}
 use borrow.Author.Needs.{needs}
-use Rattle.imports.proofs.option_at.Statement.{statement}
-use Rattle.imports.proofs.option_at.Tie as tie
+use Rattle.options.proofs.option_at.Statement.{statement}
+use Rattle.options.proofs.option_at.Tie as tie
 
 mul-result : tie.Need-mul-result
 mul-result c = search needs

@@ -1,8 +1,8 @@
-use Rattle.imports.proofs.NumberLaws.{tail-strict, tail-tolerant}
+use Rattle.options.proofs.Numbers.{tail-strict, tail-tolerant}
 use borrow.Author.Needs.{needs}
 use native.Mathlib.Omega.{arith}
-use Rattle.imports.proofs.tail_of.Statement.{statement}
-use Rattle.imports.proofs.tail_of.Tie as tie
+use Rattle.options.proofs.tail_of.Statement.{statement}
+use Rattle.options.proofs.tail_of.Tie as tie
 
 returns : tie.Need-returns
 returns c = search tail-strict

@@ -1,0 +1,23 @@
+-- Options by number, in a list: the channel, the tail rule, the container. What a list lacks has its default: any channel, strict, btsnoop.
+use Prim.Native.Nat.{ℕ}
+use mathlib.Core.Bool.{cond}
+use mathlib.Core.List.{List}
+use lib.ListN.{getD}
+use lib.Dec.{eqb}
+use Rattle.outcome.specs.Import.{Tail, strict, tolerant}
+use Rattle.trace.specs.declared.Container.{Container}
+use Rattle.trace.specs.declared.Container.the-variants.{Btsnoop, Pcap}
+
+-- 0 is strict, any other tolerant
+unfoldable pub tailNumber : ℕ → Tail
+tailNumber n = cond (eqb n 0) strict tolerant
+
+-- 0 is btsnoop, any other pcap
+unfoldable pub containerNumber : ℕ → Container
+containerNumber n = cond (eqb n 0) Btsnoop Pcap
+
+abbrev pub tailIn : List ℕ → Tail
+tailIn l = tailNumber (getD l 1 0)
+
+abbrev pub containerIn : List ℕ → Container
+containerIn l = containerNumber (getD l 2 0)
