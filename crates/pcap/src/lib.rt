@@ -75,7 +75,7 @@ fn is_pcap(file: &[u8]) -> bool
 }
 
 // The number at a place, by the byte order.
-fn get_number(file: &[u8], at: usize, big: bool) -> u32
+pub fn get_number(file: &[u8], at: usize, big: bool) -> u32
     requires { ⌜ at + 4 ≤ length (now file) ⌝ }
     ensures { λ r. ⌜ r ≡ number big (now (file .entry)) at ⌝ }
 {
