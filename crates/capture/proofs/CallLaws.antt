@@ -8,8 +8,13 @@ use lib.ListN.{length}
 use Rattle.laws.proofs.Choice.{no-way}
 use Rattle.laws.specs.Answers.{accepted, refused, refuses, Meets}
 use Rattle.laws.proofs.Answers.{meets-refused, meets-as}
-use Rattle.btsnoop.specs.Records.{btsnoop}
-use Rattle.btsnoop.proofs.Laws.{lawful}
+use Rattle.trace.specs.Formats.{containerOf, formatOf}
+use Rattle.trace.specs.Headers.{toldRefusal}
+use Rattle.trace.proofs.Formats.{lawful}
+use Rattle.trace.specs.declared.Container.{Container}
+use Rattle.trace.specs.declared.Format.{Format}
+use Rattle.trace.specs.declared.Refusal.{Refusal}
+use Rattle.trace.specs.declared.Refusal.the-variants.{FileLong, WorkShort, NotBtsnoop, Datalink, NotPcap, LinkType, Truncated}
 use Rattle.packets.specs.PacketTable.{packetsFrom}
 use Rattle.packets.specs.Adding.{ReadTo}
 use Rattle.packets.specs.declared.Packets.{Packets}
@@ -27,13 +32,13 @@ use Rattle.cut.proofs.Theorem.{cut-claim}
 use Rattle.opening.specs.Opening.{opened, toldOpened, Opens}
 use Rattle.opening.proofs.AsImport.{orGiven, import-opened, opened-sized}
 use Rattle.opening.specs.declared.Opened.{Opened}
-use Rattle.opening.specs.declared.Opened.the-variants.{Read, FileLong as FileLong′, WorkShort as WorkShort′, NotBtsnoop as NotBtsnoop′, Datalink as Datalink′, Truncated as Truncated′}
+use Rattle.opening.specs.declared.Opened.the-variants.{Read, Refused as Unread}
 use Rattle.capture.specs.Options.{optionsOf}
 use Rattle.capture.specs.Calls.{toldImported, Imports, Left, ImportsFound, PacketsMeet}
 use Rattle.capture.specs.Passes.{Passes}
 use Rattle.capture.specs.declared.Found.{Found}
 use Rattle.capture.specs.declared.Imported.{Imported}
-use Rattle.capture.specs.declared.Imported.the-variants.{Spans, FileLong, WorkShort, NotBtsnoop, Datalink, Truncated, NoStream, OutShort}
+use Rattle.capture.specs.declared.Imported.the-variants.{Spans, Refused, NoStream, OutShort}
 use Rattle.capture.specs.declared.Options.{Options}
 use Rattle.capture.proofs.PassLaws.{composed, left-file}
 
@@ -43,8 +48,8 @@ no-list : {G : Type 0} → _≡_ {A = ℕ} 0 1 → G
 no-list z = absurd (omega arith)
 
 left-none :
-    (f : List ℕ) (o : import.Options) (r : Imported) (n : ℕ) (u : List ℕ) → ((d a b c e : ℕ) → r ≡ Spans d a b c e → ⊥) → Left f o (record { answer = r; pieces = n }) u
-left-none f o r n u x = record { at = λ d a b c e g. absurd (x d a b c e g) }
+    (b : Container) (f : List ℕ) (o : import.Options) (r : Imported) (n : ℕ) (u : List ℕ) → ((d a b c e : ℕ) → r ≡ Spans d a b c e → ⊥) → Left b f o (record { answer = r; pieces = n }) u
+left-none b f o r n u x = record { at = λ d a b c e g. absurd (x d a b c e g) }
 
 -- a list that is told by values
 record Back (tail : ℕ) (l : Listed) (vs : List ℕ) : Type 0 where
@@ -74,11 +79,11 @@ module _ (tail : ℕ) (l : Listed) where
   told-spans s e = rw e
 
 pub packets-read :
-    (f w : List ℕ) (p : Packets) → ReadTo f w p → (o : Options) (v : List ℕ) (made : ℕ) → Reassembled f v made (pdus (packetsFrom f w 0 (p .count))) →
+    (f w : List ℕ) (p : Packets) (o : Options) → ReadTo (formatOf (o .container) f) f w p → (v : List ℕ) (made : ℕ) → Reassembled f v made (pdus (packetsFrom f w 0 (p .count))) →
     (x : List ℕ) (rows : ℕ) → ReadChannels f v made x rows → (u : List ℕ) (n : ℕ) → ReadPieces f x made u n →
     (out : List ℕ) (l : Listed) (y out′ : List ℕ) → ListsSpans f u n (o .channel) out l y out′ →
-    (r : Imported) → toldImported r ≡ told (p .tail) l → PacketsMeet f (optionsOf o) out (record { answer = r; pieces = n }) y out′
-packets-read f w p rp o v made ra x rows rc u n rps out l y out′ ls r e =
+    (r : Imported) → toldImported r ≡ told (p .tail) l → PacketsMeet (o .container) f (optionsOf o) out (record { answer = r; pieces = n }) y out′
+packets-read f w p o rp v made ra x rows rc u n rps out l y out′ ls r e =
     let s : Passes f o p out l out′ = record {
       w₁ = w;
       w₂ = v;
@@ -106,53 +111,48 @@ packets-read f w p rp o v made ra x rows rc u n rps out l y out′ ls r e =
 
 -- ---- the call
 
-pub import-needs : (f w : List ℕ) (t : import.Tail) (x : Opened) (v : List ℕ) → Opens f w t x v → (p : Packets) → x ≡ Read p → ReadTo f v p
-import-needs f w t x v op p e = op .read p e
+pub import-needs : (b : Container) (f w : List ℕ) (t : import.Tail) (x : Opened) (v : List ℕ) → Opens b f w t x v → (g : Format) (p : Packets) → x ≡ Read g p → ReadTo (formatOf b f) f v p
+import-needs b f w t x v op g p e = let r = op .read g p e in rw (r .says) at (r .reads)
 
 -- a trace opened so
-module _ (f w : List ℕ) (o : import.Options) (out : List ℕ) (x : Opened) (v : List ℕ) (op : Opens f w (o .tail) x v) where
-  imports-by : (r : Imported) (w′ out′ : List ℕ) → Meets (imported btsnoop f (length w) o) out (toldImported r) out′ → ((fits f && workSuffices f (length w)) ≡ false → w′ ≡ w) → Imports f w o out r w′ out′
-  imports-by r w′ out′ m s = record { meets = m; spared = s; cut = cut-claim lawful f (length w) o out (toldImported r) out′ m }
+module _ (b : Container) (f w : List ℕ) (o : import.Options) (out : List ℕ) (x : Opened) (v : List ℕ) (op : Opens b f w (o .tail) x v) where
+  imports-by :
+      (r : Imported) (w′ out′ : List ℕ) → Meets (imported (containerOf b) f (length w) o) out (toldImported r) out′ →
+      ((fits f && workSuffices f (length w)) ≡ false → w′ ≡ w) → Imports b f w o out r w′ out′
+  imports-by r w′ out′ m s = record { meets = m; spared = s; cut = cut-claim (lawful b) f (length w) o out (toldImported r) out′ m }
 
   -- it is refused, and import in the same words
-  refuses-as : (n : ℕ) (vs : List ℕ) → toldOpened x ≡ refused n vs → imported btsnoop f (length w) o ≡ refuses n vs
+  by-refusal : (y : Refusal) (n : ℕ) (vs : List ℕ) → x ≡ Unread y → toldRefusal y ≡ refused n vs → Meets (imported (containerOf b) f (length w) o) out (toldRefusal y) out
   unfolding orGiven
-  refuses-as n vs e = import-opened btsnoop f (length w) o ∙ rw (← op .answers, e)
+  by-refusal y n vs e q =
+      rw q (meets-refused (imported (containerOf b) f (length w) o) out n vs (import-opened (containerOf b) f (length w) o ∙ rw (← op .answers, e, q)))
 
-  by-refusal :
-      (r : Imported) (n : ℕ) (vs : List ℕ) → toldOpened x ≡ refused n vs → toldImported r ≡ refused n vs → ((d a b c e : ℕ) → r ≡ Spans d a b c e → ⊥) →
-      (z : Found) → z ≡ record { answer = r; pieces = 0 } → ImportsFound f w o out z v out
-  by-refusal r n vs ex er un z ez = rw ez (record {
-    imports = imports-by r v out (rw er (meets-refused (imported btsnoop f (length w) o) out n vs (refuses-as n vs ex))) (op .spared);
-    left = left-none f o r 0 v un;
+  refusal-meets : (y : Refusal) → x ≡ Unread y → Meets (imported (containerOf b) f (length w) o) out (toldRefusal y) out
+  refusal-meets FileLong e = by-refusal FileLong 1 [] e refl
+  refusal-meets WorkShort e = by-refusal WorkShort 2 [] e refl
+  refusal-meets NotBtsnoop e = by-refusal NotBtsnoop 3 [] e refl
+  refusal-meets (Datalink n) e = by-refusal (Datalink n) 4 (n ∷ []) e refl
+  refusal-meets NotPcap e = by-refusal NotPcap 21 [] e refl
+  refusal-meets (LinkType n) e = by-refusal (LinkType n) 22 (n ∷ []) e refl
+  refusal-meets (Truncated n) e = by-refusal (Truncated n) 5 (n ∷ []) e refl
+
+  pub import-refused : (y : Refusal) → x ≡ Unread y → (z : Found) → z ≡ record { answer = Refused y; pieces = 0 } → ImportsFound b f w o out z v out
+  import-refused y e z ez = rw ez (record {
+    imports = imports-by (Refused y) v out (refusal-meets y e) (op .spared);
+    left = left-none b f o (Refused y) 0 v (λ d a c h i g. no-list cc);
   })
 
-  pub import-long : x ≡ FileLong′ → (z : Found) → z ≡ record { answer = FileLong; pieces = 0 } → ImportsFound f w o out z v out
-  import-long e = by-refusal FileLong 1 [] (rw e) refl (λ d a b c h g. no-list cc)
-
-  pub import-short : x ≡ WorkShort′ → (z : Found) → z ≡ record { answer = WorkShort; pieces = 0 } → ImportsFound f w o out z v out
-  import-short e = by-refusal WorkShort 2 [] (rw e) refl (λ d a b c h g. no-list cc)
-
-  pub import-foreign : x ≡ NotBtsnoop′ → (z : Found) → z ≡ record { answer = NotBtsnoop; pieces = 0 } → ImportsFound f w o out z v out
-  import-foreign e = by-refusal NotBtsnoop 3 [] (rw e) refl (λ d a b c h g. no-list cc)
-
-  pub import-other : (n : ℕ) → x ≡ Datalink′ n → (z : Found) → z ≡ record { answer = Datalink n; pieces = 0 } → ImportsFound f w o out z v out
-  import-other n e = by-refusal (Datalink n) 4 (n ∷ []) (rw e) refl (λ d a b c h g. no-list cc)
-
-  pub import-truncated : (n : ℕ) → x ≡ Truncated′ n → (z : Found) → z ≡ record { answer = Truncated n; pieces = 0 } → ImportsFound f w o out z v out
-  import-truncated n e = by-refusal (Truncated n) 5 (n ∷ []) (rw e) refl (λ d a b c h g. no-list cc)
-
   -- it is read
-  module _ (p : Packets) (e : x ≡ Read p) where
-    reads : opened btsnoop f (length w) (o .tail) ≡ accepted []
+  module _ (g : Format) (p : Packets) (e : x ≡ Read g p) where
+    reads : opened (containerOf b) f (length w) (o .tail) ≡ accepted []
     reads = sym (op .answers) ∙ rw e
 
-    pub import-meets : (r : Found) (w′ out′ : List ℕ) → PacketsMeet f o out r w′ out′ → ImportsFound f w o out r w′ out′
+    pub import-meets : (r : Found) (w′ out′ : List ℕ) → PacketsMeet b f o out r w′ out′ → ImportsFound b f w o out r w′ out′
     unfolding orGiven
     import-meets r w′ out′ m = record {
       imports =
           imports-by (r .answer) w′ out′
-          (meets-as (imported btsnoop f (length w) o) (given (read btsnoop f o)) out (import-opened btsnoop f (length w) o ∙ rw reads) (m .meets))
-          (λ h. no-way (opened-sized btsnoop f (length w) (o .tail) [] reads) h);
+          (meets-as (imported (containerOf b) f (length w) o) (given (read (containerOf b) f o)) out (import-opened (containerOf b) f (length w) o ∙ rw reads) (m .meets))
+          (λ h. no-way (opened-sized (containerOf b) f (length w) (o .tail) [] reads) h);
       left = m .left;
     }

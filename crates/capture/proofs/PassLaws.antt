@@ -4,10 +4,9 @@ use mathlib.Core.Path.{_≡_, _∙_}
 use mathlib.Core.List.{List}
 use lib.ListN.{length}
 use Rattle.container.specs.Container.{packetsIn}
-use Rattle.container.specs.Packets.{packets}
-use Rattle.btsnoop.specs.Header.{datalink}
-use Rattle.btsnoop.specs.Records.{btsnoop, records}
-use Rattle.btsnoop.specs.Packets.{packetOf}
+use Rattle.trace.specs.Formats.{containerOf, formatOf}
+use Rattle.trace.proofs.Formats.{packets-of, tail-of}
+use Rattle.trace.specs.declared.Format.{Format}
 use Rattle.packets.specs.PacketTable.{packetsFrom, Tabled}
 use Rattle.packets.specs.Adding.{ReadTo}
 use Rattle.packets.specs.declared.Packets.{Packets}
@@ -29,8 +28,8 @@ use Rattle.capture.specs.declared.Options.{Options}
 
 -- ---- what each pass needs
 
-pub reassemble-needs : (f w : List ℕ) (p : Packets) → ReadTo f w p → Tabled f w (p .count)
-reassemble-needs f w p r = r .read .tabled
+pub reassemble-needs : (g : Format) (f w : List ℕ) (p : Packets) → ReadTo g f w p → Tabled f w (p .count)
+reassemble-needs g f w p r = r .read .tabled
 
 module _ (f v : List ℕ) (made : ℕ) (x : List ℕ) (rows : ℕ) (rc : ReadChannels f v made x rows) where
   list-is : pdusFrom f x (2 * (length f / 4)) 0 made ≡ pdusFrom f v (2 * (length f / 4)) 0 made
@@ -45,20 +44,21 @@ spans-need f x made u n rp = tabled f u n _ (rp .pieced)
 -- ---- together
 
 -- the pieces in the table are the file's
-file-pieces : (f : List ℕ) (o : Options) (p : Packets) (out : List ℕ) (l : Listed) (out′ : List ℕ) (s : Passes f o p out l out′) → tablePieces f (s .w₄) (s .n) ≡ filePieces btsnoop source f
-unfolding filePieces packetsIn judged
+file-pieces : (f : List ℕ) (o : Options) (p : Packets) (out : List ℕ) (l : Listed) (out′ : List ℕ) (s : Passes f o p out l out′) → tablePieces f (s .w₄) (s .n) ≡ filePieces (containerOf (o .container)) source f
+unfolding filePieces judged
 file-pieces f o p out l out′ s =
-    let e : pdusFrom f (s .w₃) (2 * (length f / 4)) 0 (s .made) ≡ pdus (packets (packetOf (datalink f)) (records f)) =
-    list-is f (s .w₂) (s .made) (s .w₃) (s .rows) (s .read-channels) ∙ s .reassemble .list ∙ rw (s .read-packets .read .list) in
+    let e : pdusFrom f (s .w₃) (2 * (length f / 4)) 0 (s .made) ≡ pdus (packetsIn (containerOf (o .container)) f) =
+    list-is f (s .w₂) (s .made) (s .w₃) (s .rows) (s .read-channels) ∙ s .reassemble .list ∙ rw (s .read-packets .read .list, packets-of (o .container) f) in
     rw e at (s .read-pieces .pieced .list)
 
 pub composed : (f : List ℕ) (o : Options) (p : Packets) (out : List ℕ) (l : Listed) (out′ : List ℕ) → Passes f o p out l out′ → Composed f o p out l out′
 unfolding read
 composed f o p out l out′ s =
-    record { meets = rw (s .read-packets .tail) (rw (file-pieces f o p out l out′ s, s .read-packets .tail) at (s .list-spans .meets (p .tail))) }
+    let t = s .read-packets .tail ∙ tail-of (o .container) f in
+    record { meets = rw t (rw (file-pieces f o p out l out′ s, t) at (s .list-spans .meets (p .tail))) }
 
 -- what the last pass leaves of the DLCI chosen is of the file's pieces
 pub left-file :
     (f : List ℕ) (o : Options) (p : Packets) (out : List ℕ) (l : Listed) (out′ : List ℕ) (s : Passes f o p out l out′) →
-    (t : Stream) → l ≡ Spans t → Leaves f (filePieces btsnoop source f) (channelOf (o .channel)) (s .n) (s .w₅) (t .dlci)
+    (t : Stream) → l ≡ Spans t → Leaves f (filePieces (containerOf (o .container)) source f) (channelOf (o .channel)) (s .n) (s .w₅) (t .dlci)
 left-file f o p out l out′ s t e = rw (file-pieces f o p out l out′ s) at (s .list-spans .left t e)

@@ -5,6 +5,6 @@ use Rattle.opening.specs.Opening.{tailOf}
 use Rattle.streams.specs.Streams.{channelOf}
 use Rattle.capture.specs.declared.Options.{Options}
 
--- the code has the source's channel rule alone
+-- beside the container; the code has the source's channel rule alone
 abbrev pub optionsOf : Options → import.Options
 optionsOf o = record { channel = channelOf (o .channel); tail = tailOf (o .tail); rule = source }

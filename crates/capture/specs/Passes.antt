@@ -3,7 +3,7 @@ use Prim.Native.Nat.{ℕ}
 use mathlib.Core.Path.{_≡_}
 use mathlib.Core.List.{List}
 use Rattle.laws.specs.Answers.{Meets}
-use Rattle.btsnoop.specs.Records.{btsnoop}
+use Rattle.trace.specs.Formats.{containerOf, formatOf}
 use Rattle.packets.specs.PacketTable.{packetsFrom}
 use Rattle.packets.specs.Adding.{ReadTo}
 use Rattle.packets.specs.declared.Packets.{Packets}
@@ -21,7 +21,7 @@ use Rattle.capture.specs.declared.Options.{Options}
 pub record Passes (f : List ℕ) (o : Options) (p : Packets) (out : List ℕ) (l : Listed) (out′ : List ℕ) : Type 0 where
   -- the table of packets
   pub w₁ : List ℕ
-  pub read-packets : ReadTo f w₁ p
+  pub read-packets : ReadTo (formatOf (o .container) f) f w₁ p
   -- so many PDUs: their table, and the payloads that had to be joined
   pub made : ℕ
   pub w₂ : List ℕ
@@ -40,4 +40,4 @@ pub record Passes (f : List ℕ) (o : Options) (p : Packets) (out : List ℕ) (l
 
 -- Together: the list is that of the definition, with the tail offset that the first pass found.
 pub record Composed (f : List ℕ) (o : Options) (p : Packets) (out : List ℕ) (l : Listed) (out′ : List ℕ) : Type 0 where
-  pub meets : Meets (given (read btsnoop f (optionsOf o))) out (told (p .tail) l) out′
+  pub meets : Meets (given (read (containerOf (o .container)) f (optionsOf o))) out (told (p .tail) l) out′

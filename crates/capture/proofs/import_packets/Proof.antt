@@ -43,7 +43,7 @@ same-length-2 c = search needs
 
 -- src/lib.rt:74:1
 returns : tie.Need-returns
-returns c = packets-read _ _ _ (c .before .before .before .before .before .before .before .before .before .before .before .before .before .before .before .before .before .before .before .before .before .before .before .pre) (c .before .before .before .before .before .before .before .before .before .before .before .before .before .before .before .before .before .before .before .before .before .before .before .args .options) _ _ (c .before .before .before .before .before .before .before .before .before .before .before .before .before .before .before .before .before .before .reassemble .ensures) _ _ (c .before .before .before .before .before .before .before .before .before .before .before .before .before .before .read-channels .ensures) _ _ (c .before .before .before .before .before .before .before .before .before .before .read-pieces .ensures) _ _ _ _ (c .before .before .before .before .before .list-spans .ensures) _ (c .answer-of .ensures)
+returns c = packets-read _ _ _ (c .before .before .before .before .before .before .before .before .before .before .before .before .before .before .before .before .before .before .before .before .before .before .before .args .options) (c .before .before .before .before .before .before .before .before .before .before .before .before .before .before .before .before .before .before .before .before .before .before .before .pre) _ _ (c .before .before .before .before .before .before .before .before .before .before .before .before .before .before .before .before .before .before .reassemble .ensures) _ _ (c .before .before .before .before .before .before .before .before .before .before .before .before .before .before .read-channels .ensures) _ _ (c .before .before .before .before .before .before .before .before .before .before .read-pieces .ensures) _ _ _ _ (c .before .before .before .before .before .list-spans .ensures) _ (c .answer-of .ensures)
 
 pub import-packets-spec : {M : Type 1} → statement M
 import-packets-spec =
