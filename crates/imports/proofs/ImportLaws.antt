@@ -1,22 +1,43 @@
 -- From the code's answer to what a caller gets.
 use Prim.Native.Nat.{ℕ}
 use mathlib.Core.Path.{_≡_, subst}
-use mathlib.Core.List.{List}
+use mathlib.Core.List.{List, [], _∷_}
 use lib.ListN.{length}
-use Rattle.btsnoop.specs.Records.{btsnoop}
+use Rattle.trace.specs.Formats.{containerOf}
+use Rattle.trace.specs.declared.Container.{Container}
+use Rattle.trace.specs.declared.Container.the-variants.{Btsnoop}
 use Rattle.outcome.specs.Import.{Options, imported}
+use Rattle.options.specs.Numbers.{containerIn}
+use Rattle.options.proofs.Numbers.{container-two}
+use Rattle.capture.specs.Options.{optionsOf}
+use Rattle.capture.specs.declared.Options as code
 use Rattle.capture.specs.Calls.{toldImported, Imports}
 use Rattle.capture.specs.declared.Imported.{Imported}
 use Rattle.telling.specs.Telling.{numberOf, valuesOf, Shows, Tells}
 use Rattle.telling.specs.declared.Shown.{Shown}
 use Rattle.telling.proofs.TellLaws.{calls}
 use Rattle.imports.specs.Imports.{ImportCalls}
+use Rattle.imports.specs.Numbers.{optionsIn, optionsNumber, AsOptions}
 
-pub import-calls :
-    (f w : List ℕ) (o : Options) (out : List ℕ) (i : Imported) (w′ out′ : List ℕ) → Imports f w o out i w′ out′ → (s : Shown) → Shows (numberOf (toldImported i)) (valuesOf (toldImported i)) s →
-    (v : List ℕ) (r : ℕ) (v′ : List ℕ) → Tells s v r v′ → (o′ : Options) → o ≡ o′ → ImportCalls f w out o′ v r w′ out′ v′
-import-calls f w o out i w′ out′ m s p v r v′ t o′ e = subst (λ (z : Options). ImportCalls f w out z v r w′ out′ v′) e (record {
-  calls = calls (imported btsnoop f (length w) o) out (toldImported i) out′ (m .meets) s p v r v′ t;
+told :
+    (b : Container) (f w : List ℕ) (o : Options) (out : List ℕ) (i : Imported) (w′ out′ : List ℕ) → Imports b f w o out i w′ out′ → (s : Shown) → Shows (numberOf (toldImported i)) (valuesOf (toldImported i)) s →
+    (v : List ℕ) (r : ℕ) (v′ : List ℕ) → Tells s v r v′ → ImportCalls b f w out o v r w′ out′ v′
+told b f w o out i w′ out′ m s p v r v′ t = record {
+  calls = calls (imported (containerOf b) f (length w) o) out (toldImported i) out′ (m .meets) s p v r v′ t;
   spared = m .spared;
   cut = rw (m .meets .answers) at (m .cut);
-})
+}
+
+-- by a list of options
+pub import-calls :
+    (l : List ℕ) (o : code.Options) → AsOptions l o → (f w out : List ℕ) (i : Imported) (w′ out′ : List ℕ) → Imports (o .container) f w (optionsOf o) out i w′ out′ →
+    (s : Shown) → Shows (numberOf (toldImported i)) (valuesOf (toldImported i)) s → (v : List ℕ) (r : ℕ) (v′ : List ℕ) → Tells s v r v′ → ImportCalls (containerIn l) f w out (optionsIn l) v r w′ out′ v′
+import-calls l o a f w out i w′ out′ m s p v r v′ t =
+    subst (λ (b : Container). ImportCalls b f w out (optionsIn l) v r w′ out′ v′) (a .container)
+    (subst (λ (z : Options). ImportCalls (o .container) f w out z v r w′ out′ v′) (a .chosen) (told (o .container) f w (optionsOf o) out i w′ out′ m s p v r v′ t))
+
+-- by two numbers
+pub import-two :
+    (channel tolerant : ℕ) (f w out v : List ℕ) (r : ℕ) (w′ out′ v′ : List ℕ) → ImportCalls (containerIn (channel ∷ tolerant ∷ [])) f w out (optionsIn (channel ∷ tolerant ∷ [])) v r w′ out′ v′ →
+    ImportCalls Btsnoop f w out (optionsNumber channel tolerant) v r w′ out′ v′
+import-two channel tolerant f w out v r w′ out′ v′ m = subst (λ (b : Container). ImportCalls b f w out (optionsNumber channel tolerant) v r w′ out′ v′) (container-two channel tolerant) m

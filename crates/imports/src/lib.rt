@@ -1,19 +1,21 @@
 // Import as the calls ask for it: by options in a list of numbers, or by two; and its answer as a number and values.
 ghost use mathlib.Core.Path.{_≡_};
-ghost use lib.ListN.{getD};
+ghost use Rattle.trace.specs.declared.Container.the-variants.{Btsnoop};
 ghost use Rattle.capture.specs.Calls.{toldImported};
-ghost use Rattle.capture.specs.Options.{optionsOf};
-ghost use Rattle.opening.specs.Opening.{tailOf};
+ghost use Rattle.options.specs.Numbers.{containerIn};
 ghost use Rattle.streams.specs.Streams.{channelOf};
 ghost use Rattle.telling.specs.Telling.{numberOf, valuesOf, Shows};
-ghost use Rattle.imports.specs.Numbers.{channelNumber, tailNumber, optionsIn, optionsNumber};
+ghost use Rattle.imports.specs.Numbers.{channelNumber, optionsIn, optionsNumber, AsOptions};
 ghost use Rattle.imports.specs.Imports.{ImportCalls};
 use capture::Imported;
 use capture::Options;
-use opening::Tail;
+use options::container_in;
+use options::option_at;
+use options::tail_in;
 use streams::Channel;
 use telling::Shown;
 use telling::alone;
+use telling::shown_refusal;
 use telling::tell;
 use telling::with_five;
 use telling::with_one;
@@ -30,35 +32,15 @@ fn channel_of(channel: u64) -> Channel
     Channel::Any
 }
 
-// The tail rule by number: 0 is strict, any other tolerant.
-pub fn tail_of(tolerant: u64) -> Tail
-    ensures { λ r. ⌜ tailOf r ≡ tailNumber tolerant ⌝ }
-{
-    if tolerant == 0 {
-        return Tail::Strict;
-    }
-    Tail::Tolerant
-}
-
-// The number at a place of the list, or its default where the list is shorter.
-fn option_at(options: &[u64], at: usize, default: u64) -> u64
-    ensures { λ r. ⌜ r ≡ getD (now (options .entry)) at default ⌝ }
-{
-    if at < options.len() {
-        return options[at];
-    }
-    default
-}
-
-// The options in a list of numbers: the channel, the tail rule.
+// The options in a list of numbers: the channel, the tail rule, the container.
 pub fn options_in(options: &[u64]) -> Options
-    ensures { λ r. ⌜ optionsOf r ≡ optionsIn (now (options .entry)) ⌝ }
+    ensures { λ r. ⌜ AsOptions (now (options .entry)) r ⌝ }
 {
     let channel = option_at(options, 0, 256);
-    let tolerant = option_at(options, 1, 0);
     Options {
+        container: container_in(options),
         channel: channel_of(channel),
-        tail: tail_of(tolerant),
+        tail: tail_in(options),
     }
 }
 
@@ -76,11 +58,7 @@ pub fn shown_imported(i: Imported) -> Shown
             tail as u64,
             written as u64,
         ),
-        Imported::FileLong => alone(1),
-        Imported::WorkShort => alone(2),
-        Imported::NotBtsnoop => alone(3),
-        Imported::Datalink(n) => with_one(4, n as u64),
-        Imported::Truncated(offset) => with_one(5, offset as u64),
+        Imported::Refused(x) => shown_refusal(x),
         Imported::NoStream => alone(6),
         Imported::OutShort(needed) => with_one(7, needed as u64),
     }
@@ -96,7 +74,7 @@ pub fn import_told(
     options: &[u64],
     values: &mut [u64],
 ) -> u32
-    ensures { λ r. ⌜ ImportCalls (now (file .entry)) (now (work .entry)) (now (out .entry)) (optionsIn (now (options .entry))) (now (values .entry)) r (now (work .exit)) (now (out .exit)) (now (values .exit)) ⌝ }
+    ensures { λ r. ⌜ ImportCalls (containerIn (now (options .entry))) (now (file .entry)) (now (work .entry)) (now (out .entry)) (optionsIn (now (options .entry))) (now (values .entry)) r (now (work .exit)) (now (out .exit)) (now (values .exit)) ⌝ }
 {
     let o = options_in(options);
     let i = capture::import(file, work, out, o);
@@ -104,7 +82,7 @@ pub fn import_told(
     tell(s, values)
 }
 
-// Imports a trace by two options.
+// Imports a btsnoop file by two options.
 pub fn import_by(
     file: &[u8],
     work: &mut [u8],
@@ -113,7 +91,7 @@ pub fn import_by(
     tolerant: u32,
     values: &mut [u64],
 ) -> u32
-    ensures { λ r. ⌜ ImportCalls (now (file .entry)) (now (work .entry)) (now (out .entry)) (optionsNumber channel tolerant) (now (values .entry)) r (now (work .exit)) (now (out .exit)) (now (values .exit)) ⌝ }
+    ensures { λ r. ⌜ ImportCalls Btsnoop (now (file .entry)) (now (work .entry)) (now (out .entry)) (optionsNumber channel tolerant) (now (values .entry)) r (now (work .exit)) (now (out .exit)) (now (values .exit)) ⌝ }
 {
     let options = [channel as u64, tolerant as u64];
     import_told(file, work, out, &options, values)

@@ -11,8 +11,15 @@ use types.Run.{OneOf, miss}
 use denote.Enum.Declared.{tagOf}
 use Rattle.laws.specs.Answers.{refused, Outcome, Meets}
 use Rattle.laws.proofs.Answers.{meets-refused, meets-as}
-use Rattle.btsnoop.specs.Records.{btsnoop}
-use Rattle.btsnoop.proofs.Laws.{lawful}
+use Rattle.trace.specs.Formats.{containerOf}
+use Rattle.trace.specs.Headers.{toldRefusal}
+use Rattle.trace.proofs.Formats.{lawful}
+use Rattle.trace.specs.declared.Container.{Container}
+use Rattle.trace.specs.declared.Container.the-variants.{Btsnoop}
+use Rattle.trace.specs.declared.Refusal.{Refusal}
+use Rattle.trace.specs.declared.Refusal.the-variants.{FileLong, WorkShort, NotBtsnoop, Datalink, NotPcap, LinkType, Truncated}
+use Rattle.options.specs.Numbers.{containerIn}
+use Rattle.options.proofs.Numbers.{container-two}
 use Rattle.outcome.specs.Import.{Options, fits, workSuffices, placesSuffice, imported, importedIn}
 use Rattle.outcome.proofs.Import.{same-in}
 use Rattle.cut.specs.Claim.{CutClaim}
@@ -20,10 +27,12 @@ use Rattle.cut.proofs.Theorem.{cut-claim}
 use Rattle.split.specs.Rows.{Laid}
 use Rattle.split.specs.declared.Plan.{Plan}
 use Rattle.streams.specs.Streams.{planOf}
+use Rattle.capture.specs.Options.{optionsOf}
+use Rattle.capture.specs.declared.Options as code
 use Rattle.capture.specs.Calls.{toldImported, ImportsFound}
 use Rattle.capture.specs.declared.Found.{Found}
 use Rattle.capture.specs.declared.Imported.{Imported}
-use Rattle.capture.specs.declared.Imported.the-variants.{Spans, FileLong, WorkShort, NotBtsnoop, Datalink, Truncated, NoStream, OutShort}
+use Rattle.capture.specs.declared.Imported.the-variants.{Spans, Refused, NoStream, OutShort}
 use Rattle.capture.proofs.Imported.{the-type}
 use Rattle.stretches.specs.Filled.{stretchesTo}
 use Rattle.stretches.specs.Listing.{SpreadPre, OpenListed}
@@ -31,62 +40,69 @@ use Rattle.stretches.specs.declared.Stretch.{Stretch}
 use Rattle.telling.specs.Telling.{numberOf, valuesOf, Shows, Tells}
 use Rattle.telling.specs.declared.Shown.{Shown}
 use Rattle.telling.proofs.TellLaws.{calls}
+use Rattle.imports.specs.Numbers.{optionsIn, optionsNumber, AsOptions}
 use Rattle.places.specs.Places.{suffices, openOn, fileStretches, listedBy, ImportsIn, ToldIn, Listable, FoundListed}
 
-module _ (f w : List ℕ) (places : ℕ) (o : Options) (out : List ℕ) where
+module _ (b : Container) (f w : List ℕ) (places : ℕ) (o : Options) (out : List ℕ) where
   abbrev O : Outcome
-  O = importedIn btsnoop f (length w) places o
+  O = importedIn (containerOf b) f (length w) places o
 
-  cut-in : (r : Imported) (out′ : List ℕ) → Meets O out (toldImported r) out′ → placesSuffice f places ≡ true → CutClaim btsnoop f (length w) o out (toldImported r) out′
-  cut-in r out′ m h = cut-claim lawful f (length w) o out (toldImported r) out′ (rw (same-in btsnoop f (length w) places o h) at m)
+  cut-in : (r : Imported) (out′ : List ℕ) → Meets O out (toldImported r) out′ → placesSuffice f places ≡ true → CutClaim (containerOf b) f (length w) o out (toldImported r) out′
+  cut-in r out′ m h = cut-claim (lawful b) f (length w) o out (toldImported r) out′ (rw (same-in (containerOf b) f (length w) places o h) at m)
 
-  refused-in : (r : Imported) (n : ℕ) → toldImported r ≡ refused n [] → Meets O out (toldImported r) out → ImportsIn f w places o out r 0 w out
+  refused-in : (r : Imported) (n : ℕ) → toldImported r ≡ refused n [] → Meets O out (toldImported r) out → ImportsIn b f w places o out r 0 w out
   unfolding stretchesTo listedBy
   refused-in r n e m = record { meets = m; spared = λ e. refl; list = rw e; few = omega arith; cut = cut-in r out m }
 
-  pub in-long : 1048576 < length f → ImportsIn f w places o out FileLong 0 w out
+  pub in-long : 1048576 < length f → ImportsIn b f w places o out (Refused FileLong) 0 w out
   unfolding importedIn fits
-  in-long h = refused-in FileLong 1 refl (meets-refused O out 1 [] (rw (lt-leb (length f) 1048576 h)))
+  in-long h = refused-in (Refused FileLong) 1 refl (meets-refused O out 1 [] (rw (lt-leb (length f) 1048576 h)))
 
-  pub in-short : length f ≤ 1048576 → length w < 8 * length f → ImportsIn f w places o out WorkShort 0 w out
+  pub in-short : length f ≤ 1048576 → length w < 8 * length f → ImportsIn b f w places o out (Refused WorkShort) 0 w out
   unfolding importedIn imported fits workSuffices
-  in-short h g = refused-in WorkShort 2 refl (meets-refused O out 2 [] (splitB (placesSuffice f places) (λ e. rw (le-leb (length f) 1048576 h, lt-leb (8 * length f) (length w) g, e)) (λ e. rw (le-leb (length f) 1048576 h, lt-leb (8 * length f) (length w) g, e))))
+  in-short h g = refused-in (Refused WorkShort) 2 refl (meets-refused O out 2 [] (splitB (placesSuffice f places) (λ e. rw (le-leb (length f) 1048576 h, lt-leb (8 * length f) (length w) g, e)) (λ e. rw (le-leb (length f) 1048576 h, lt-leb (8 * length f) (length w) g, e))))
 
-  pub in-few : length f ≤ 1048576 → places < length f / 24 → ImportsIn f w places o out WorkShort 0 w out
+  pub in-few : length f ≤ 1048576 → places < length f / 24 → ImportsIn b f w places o out (Refused WorkShort) 0 w out
   unfolding importedIn fits placesSuffice
-  in-few h g = refused-in WorkShort 2 refl (meets-refused O out 2 [] (rw (le-leb (length f) 1048576 h, lt-leb (length f / 24) places g)))
+  in-few h g = refused-in (Refused WorkShort) 2 refl (meets-refused O out 2 [] (rw (le-leb (length f) 1048576 h, lt-leb (length f / 24) places g)))
 
   pub in-met :
       length f ≤ 1048576 → 8 * length f ≤ length w → length f / 24 ≤ places →
-      (r : Found) (v out′ : List ℕ) → ImportsFound f w o out r v out′ → (listed : ℕ) (w′ : List ℕ) → FoundListed f v r w′ listed →
-      ImportsIn f w places o out (r .answer) listed w′ out′
+      (r : Found) (v out′ : List ℕ) → ImportsFound b f w o out r v out′ → (listed : ℕ) (w′ : List ℕ) → FoundListed f v r w′ listed →
+      ImportsIn b f w places o out (r .answer) listed w′ out′
   unfolding fits workSuffices placesSuffice suffices
   in-met h g k r v out′ m listed w′ l =
       let q : placesSuffice f places ≡ true = le-leb (length f / 24) places k in
       let s : suffices f (length w) places ≡ true = rw (le-leb (length f) 1048576 h, le-leb (8 * length f) (length w) g, le-leb (length f / 24) places k) in
-      let p = meets-as O (imported btsnoop f (length w) o) out (same-in btsnoop f (length w) places o q) (m .imports .meets) in
-      record { meets = p; spared = λ e. no-way s e; list = l .list o (m .left); few = omega (arith, l .few); cut = cut-in (r .answer) out′ p }
+      let p = meets-as O (imported (containerOf b) f (length w) o) out (same-in (containerOf b) f (length w) places o q) (m .imports .meets) in
+      record { meets = p; spared = λ e. no-way s e; list = l .list b o (m .left); few = omega (arith, l .few); cut = cut-in (r .answer) out′ p }
 
-  pub in-listable : length f ≤ 1048576 → (r : Found) (v out′ : List ℕ) → ImportsFound f w o out r v out′ → Listable f v r
-  in-listable h r v out′ m = record { laid = λ d a b c e k. m .left .at d a b c e k .laid; few = λ d a b c e k. omega (arith, m .left .at d a b c e k .few); small = h }
+  pub in-listable : length f ≤ 1048576 → (r : Found) (v out′ : List ℕ) → ImportsFound b f w o out r v out′ → Listable f v r
+  in-listable h r v out′ m = record { laid = λ d a x c e k. m .left .at d a x c e k .laid; few = λ d a x c e k. omega (arith, m .left .at d a x c e k .few); small = h }
 
 -- ---- the list
 
-listed-refused : (r : Imported) (l : List Stretch) → OneOf (1 ∷ 2 ∷ 3 ∷ 4 ∷ 5 ∷ 6 ∷ 7 ∷ []) (tagOf the-type r) → [] ≡ listedBy (toldImported r) l
+refusal-lists : (x : Refusal) (l : List Stretch) → [] ≡ listedBy (toldRefusal x) l
 unfolding listedBy
-listed-refused (Spans d a b c e) l h = absurd (miss (1 ∷ 2 ∷ 3 ∷ 4 ∷ 5 ∷ 6 ∷ 7 ∷ []) 0 tt h)
-listed-refused FileLong l h = refl
-listed-refused WorkShort l h = refl
-listed-refused NotBtsnoop l h = refl
-listed-refused (Datalink n) l h = refl
-listed-refused (Truncated at) l h = refl
+refusal-lists FileLong l = refl
+refusal-lists WorkShort l = refl
+refusal-lists NotBtsnoop l = refl
+refusal-lists (Datalink n) l = refl
+refusal-lists NotPcap l = refl
+refusal-lists (LinkType n) l = refl
+refusal-lists (Truncated at) l = refl
+
+listed-refused : (r : Imported) (l : List Stretch) → OneOf (1 ∷ 2 ∷ 3 ∷ []) (tagOf the-type r) → [] ≡ listedBy (toldImported r) l
+unfolding listedBy
+listed-refused (Spans d a b c e) l h = absurd (miss (1 ∷ 2 ∷ 3 ∷ []) 0 tt h)
+listed-refused (Refused x) l h = refusal-lists x l
 listed-refused NoStream l h = refl
 listed-refused (OutShort n) l h = refl
 
 -- no spans
-pub found-none : (f w : List ℕ) (r : Found) → OneOf (1 ∷ 2 ∷ 3 ∷ 4 ∷ 5 ∷ 6 ∷ 7 ∷ []) (tagOf the-type (r .answer)) → FoundListed f w r w 0
+pub found-none : (f w : List ℕ) (r : Found) → OneOf (1 ∷ 2 ∷ 3 ∷ []) (tagOf the-type (r .answer)) → FoundListed f w r w 0
 unfolding stretchesTo
-found-none f w r h = record { list = λ o l. listed-refused (r .answer) (fileStretches f o) h; few = omega arith }
+found-none f w r h = record { list = λ b o l. listed-refused (r .answer) (fileStretches b f o) h; few = omega arith }
 
 module _ (f w : List ℕ) (r : Found) (g : Listable f w r) (d a b c e : ℕ) (k : r .answer ≡ Spans d a b c e) where
   pub found-plan : (length f / 4 ≤ 1048576) × (r .pieces ≤ 1048576)
@@ -116,20 +132,35 @@ module _ (f w : List ℕ) (r : Found) (g : Listable f w r) (d a b c e : ℕ) (k 
     found-listed u listed l =
         let z : p .n ≡ r .pieces = rw ep in
         record {
-          list = λ o left.
+          list = λ y o left.
               let x = left .at d a b c e k in
               l .list f laid (rw ep (x .told)) ∙ rw (ep, k, x .is, x .pieces);
           few = omega (arith, l .few, g .few d a b c e k);
         }
 
-pub told-in :
-    (f w : List ℕ) (places : ℕ) (o : Options) (out : List ℕ) (i : Imported) (listed : ℕ) (w′ out′ : List ℕ) → ImportsIn f w places o out i listed w′ out′ →
-    (s : Shown) → Shows (numberOf (toldImported i)) (valuesOf (toldImported i)) s → (v : List ℕ) (r : ℕ) (v′ : List ℕ) → Tells s v r v′ →
-    (o′ : Options) → o ≡ o′ → ToldIn f w places out o′ v r listed w′ out′ v′
-told-in f w places o out i listed w′ out′ m s p v r v′ t o′ e = subst (λ (z : Options). ToldIn f w places out z v r listed w′ out′ v′) e (record {
-  calls = calls (importedIn btsnoop f (length w) places o) out (toldImported i) out′ (m .meets) s p v r v′ t;
+told :
+    (b : Container) (f w : List ℕ) (places : ℕ) (o : Options) (out : List ℕ) (i : Imported) (listed : ℕ) (w′ out′ : List ℕ) → ImportsIn b f w places o out i listed w′ out′ →
+    (s : Shown) → Shows (numberOf (toldImported i)) (valuesOf (toldImported i)) s → (v : List ℕ) (r : ℕ) (v′ : List ℕ) → Tells s v r v′ → ToldIn b f w places out o v r listed w′ out′ v′
+told b f w places o out i listed w′ out′ m s p v r v′ t = record {
+  calls = calls (importedIn (containerOf b) f (length w) places o) out (toldImported i) out′ (m .meets) s p v r v′ t;
   spared = m .spared;
   list = rw (m .meets .answers) at (m .list);
   few = m .few;
   cut = λ h. rw (m .meets .answers) at (m .cut h);
-})
+}
+
+-- by a list of options
+pub told-in :
+    (l : List ℕ) (o : code.Options) → AsOptions l o → (f w : List ℕ) (places : ℕ) (out : List ℕ) (i : Imported) (listed : ℕ) (w′ out′ : List ℕ) → ImportsIn (o .container) f w places (optionsOf o) out i listed w′ out′ →
+    (s : Shown) → Shows (numberOf (toldImported i)) (valuesOf (toldImported i)) s → (v : List ℕ) (r : ℕ) (v′ : List ℕ) → Tells s v r v′ →
+    ToldIn (containerIn l) f w places out (optionsIn l) v r listed w′ out′ v′
+told-in l o a f w places out i listed w′ out′ m s p v r v′ t =
+    subst (λ (b : Container). ToldIn b f w places out (optionsIn l) v r listed w′ out′ v′) (a .container)
+    (subst (λ (z : Options). ToldIn (o .container) f w places out z v r listed w′ out′ v′) (a .chosen) (told (o .container) f w places (optionsOf o) out i listed w′ out′ m s p v r v′ t))
+
+-- by two numbers
+pub told-two :
+    (channel tolerant : ℕ) (f w : List ℕ) (places : ℕ) (out v : List ℕ) (r listed : ℕ) (w′ out′ v′ : List ℕ) →
+    ToldIn (containerIn (channel ∷ tolerant ∷ [])) f w places out (optionsIn (channel ∷ tolerant ∷ [])) v r listed w′ out′ v′ → ToldIn Btsnoop f w places out (optionsNumber channel tolerant) v r listed w′ out′ v′
+told-two channel tolerant f w places out v r listed w′ out′ v′ m =
+    subst (λ (b : Container). ToldIn b f w places out (optionsNumber channel tolerant) v r listed w′ out′ v′) (container-two channel tolerant) m

@@ -6,7 +6,8 @@ use mathlib.Core.List.{List}
 use lib.ListN.{length}
 use Rattle.laws.specs.Answers.{Answer, accepted, refused, answer}
 use Rattle.laws.proofs.Choice.{splitB, no-way}
-use Rattle.btsnoop.specs.Records.{btsnoop}
+use Rattle.trace.specs.Formats.{containerOf}
+use Rattle.trace.specs.declared.Container.{Container}
 use Rattle.outcome.specs.Import.{Options, fits, workSuffices, placesSuffice, imported, importedIn}
 use Rattle.outcome.proofs.Import.{same-in}
 use Rattle.places.specs.Places.{suffices, fileStretches, placesAfter, listedBy, ToldIn}
@@ -27,36 +28,36 @@ places-are (refused m vs) l s w n h e =
     rw z
 
 pub stretch-calls :
-    (f w : List ℕ) (s : List Stretch) (out : List ℕ) (o : Options) (v : List ℕ) (r listed : ℕ) (w′ out′ v′ : List ℕ) → ToldIn f w (length s) out o v r listed w′ out′ v′ →
-    (s′ : List Stretch) → s′ ≡ filled w′ listed s → StretchCalls f w s out o v r w′ s′ out′ v′
-stretch-calls f w s out o v r listed w′ out′ v′ m s′ e = record {
+    (b : Container) (f w : List ℕ) (s : List Stretch) (out : List ℕ) (o : Options) (v : List ℕ) (r listed : ℕ) (w′ out′ v′ : List ℕ) → ToldIn b f w (length s) out o v r listed w′ out′ v′ →
+    (s′ : List Stretch) → s′ ≡ filled w′ listed s → StretchCalls b f w s out o v r w′ s′ out′ v′
+stretch-calls b f w s out o v r listed w′ out′ v′ m s′ e = record {
   calls = m .calls;
   spared = m .spared;
-  places = e ∙ places-are (answer (importedIn btsnoop f (length w) (length s) o) (length out)) (fileStretches f o) s w′ listed (m .few) (m .list);
+  places = e ∙ places-are (answer (importedIn (containerOf b) f (length w) (length s) o) (length out)) (fileStretches b f o) s w′ listed (m .few) (m .list);
   cut = m .cut;
 }
 
 -- After 1 and 2 the places are as they were.
 pub places-spared :
-    (f w : List ℕ) (s : List Stretch) (out : List ℕ) (o : Options) (v : List ℕ) (r : ℕ) (w′ : List ℕ) (s′ : List Stretch) (out′ v′ : List ℕ) →
-    suffices f (length w) (length s) ≡ false → StretchCalls f w s out o v r w′ s′ out′ v′ → s′ ≡ s
+    (b : Container) (f w : List ℕ) (s : List Stretch) (out : List ℕ) (o : Options) (v : List ℕ) (r : ℕ) (w′ : List ℕ) (s′ : List Stretch) (out′ v′ : List ℕ) →
+    suffices f (length w) (length s) ≡ false → StretchCalls b f w s out o v r w′ s′ out′ v′ → s′ ≡ s
 unfolding suffices importedIn imported answer placesAfter
-places-spared f w s out o v r w′ s′ out′ v′ h m =
+places-spared b f w s out o v r w′ s′ out′ v′ h m =
     m .places ∙ splitB (fits f)
     (λ a. splitB (placesSuffice f (length s))
-    (λ b. splitB (workSuffices f (length w)) (λ c. no-way (rw (a, b, c)) h) (λ c. rw (a, b, c)))
-    (λ b. rw (a, b)))
+    (λ c. splitB (workSuffices f (length w)) (λ d. no-way (rw (a, c, d)) h) (λ d. rw (a, c, d)))
+    (λ c. rw (a, c)))
     (λ a. rw a)
 
 -- With enough places, on every input, it is what the call without a list promises.
 pub as-import :
-    (f w : List ℕ) (s : List Stretch) (out : List ℕ) (o : Options) (v : List ℕ) (r : ℕ) (w′ : List ℕ) (s′ : List Stretch) (out′ v′ : List ℕ) →
-    placesSuffice f (length s) ≡ true → StretchCalls f w s out o v r w′ s′ out′ v′ → ImportCalls f w out o v r w′ out′ v′
+    (b : Container) (f w : List ℕ) (s : List Stretch) (out : List ℕ) (o : Options) (v : List ℕ) (r : ℕ) (w′ : List ℕ) (s′ : List Stretch) (out′ v′ : List ℕ) →
+    placesSuffice f (length s) ≡ true → StretchCalls b f w s out o v r w′ s′ out′ v′ → ImportCalls b f w out o v r w′ out′ v′
 unfolding suffices
-as-import f w s out o v r w′ s′ out′ v′ h m =
-    let e : importedIn btsnoop f (length w) (length s) o ≡ imported btsnoop f (length w) o = same-in btsnoop f (length w) (length s) o h in
+as-import b f w s out o v r w′ s′ out′ v′ h m =
+    let e : importedIn (containerOf b) f (length w) (length s) o ≡ imported (containerOf b) f (length w) o = same-in (containerOf b) f (length w) (length s) o h in
     record {
       calls = rw e at (m .calls);
-      spared = λ k. m .spared (splitB (fits f) (λ a. rw (a, h) (splitB (workSuffices f (length w)) (λ b. no-way (rw (a, b)) k) (λ b. rw b))) (λ a. rw a));
+      spared = λ k. m .spared (splitB (fits f) (λ a. rw (a, h) (splitB (workSuffices f (length w)) (λ c. no-way (rw (a, c)) k) (λ c. rw c))) (λ a. rw a));
       cut = rw e at (m .cut h);
     }

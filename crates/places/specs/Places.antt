@@ -6,7 +6,8 @@ use mathlib.Core.List.{List, [], _++_}
 use mathlib.Core.Option.{Option, none, some}
 use lib.ListN.{length, drop}
 use Rattle.laws.specs.Answers.{Answer, accepted, refused, answer, Meets}
-use Rattle.btsnoop.specs.Records.{btsnoop}
+use Rattle.trace.specs.Formats.{containerOf}
+use Rattle.trace.specs.declared.Container.{Container}
 use Rattle.rfcomm.specs.Pieces.{Piece}
 use Rattle.spans.specs.Spans.{onDlci}
 use Rattle.split.specs.Rows.{Laid}
@@ -30,8 +31,8 @@ openOn ps none = []
 openOn ps (some d) = openStretches d (onDlci d ps)
 
 -- the stretches that are open at the end of a file
-unfoldable pub fileStretches : List ℕ → Options → List Stretch
-fileStretches f o = openOn (filePieces btsnoop (o .rule) f) (chosen (o .channel) (filePieces btsnoop (o .rule) f))
+unfoldable pub fileStretches : Container → List ℕ → Options → List Stretch
+fileStretches b f o = openOn (filePieces (containerOf b) (o .rule) f) (chosen (o .channel) (filePieces (containerOf b) (o .rule) f))
 
 -- the places after a call that answers so: the open stretches and then the places past them; all as they were after a refusal
 unfoldable pub placesAfter : Answer → List Stretch → List Stretch → List Stretch
@@ -51,20 +52,20 @@ suffices f work places = fits f && (workSuffices f work && placesSuffice f place
 
 -- Answer and output by the definition; work is unchanged after 1 and 2; the open stretches are listed at the start of work, none after a
 -- refusal; and with enough places the claim of the cut.
-pub record ImportsIn (f w : List ℕ) (places : ℕ) (o : Options) (out : List ℕ) (r : Imported) (listed : ℕ) (w′ out′ : List ℕ) : Type 0 where
-  pub meets : Meets (importedIn btsnoop f (length w) places o) out (toldImported r) out′
+pub record ImportsIn (b : Container) (f w : List ℕ) (places : ℕ) (o : Options) (out : List ℕ) (r : Imported) (listed : ℕ) (w′ out′ : List ℕ) : Type 0 where
+  pub meets : Meets (importedIn (containerOf b) f (length w) places o) out (toldImported r) out′
   pub spared : suffices f (length w) places ≡ false → w′ ≡ w
-  pub list : stretchesTo w′ listed ≡ listedBy (toldImported r) (fileStretches f o)
+  pub list : stretchesTo w′ listed ≡ listedBy (toldImported r) (fileStretches b f o)
   pub few : listed ≤ places
-  pub cut : placesSuffice f places ≡ true → CutClaim btsnoop f (length w) o out (toldImported r) out′
+  pub cut : placesSuffice f places ≡ true → CutClaim (containerOf b) f (length w) o out (toldImported r) out′
 
 -- The same with the answer told, as a number and values.
-pub record ToldIn (f w : List ℕ) (places : ℕ) (out : List ℕ) (o : Options) (v : List ℕ) (r listed : ℕ) (w′ out′ v′ : List ℕ) : Type 0 where
-  pub calls : Calls (importedIn btsnoop f (length w) places o) out out′ v r v′
+pub record ToldIn (b : Container) (f w : List ℕ) (places : ℕ) (out : List ℕ) (o : Options) (v : List ℕ) (r listed : ℕ) (w′ out′ v′ : List ℕ) : Type 0 where
+  pub calls : Calls (importedIn (containerOf b) f (length w) places o) out out′ v r v′
   pub spared : suffices f (length w) places ≡ false → w′ ≡ w
-  pub list : stretchesTo w′ listed ≡ listedBy (answer (importedIn btsnoop f (length w) places o) (length out)) (fileStretches f o)
+  pub list : stretchesTo w′ listed ≡ listedBy (answer (importedIn (containerOf b) f (length w) places o) (length out)) (fileStretches b f o)
   pub few : listed ≤ places
-  pub cut : placesSuffice f places ≡ true → CutClaim btsnoop f (length w) o out (answer (importedIn btsnoop f (length w) places o) (length out)) out′
+  pub cut : placesSuffice f places ≡ true → CutClaim (containerOf b) f (length w) o out (answer (importedIn (containerOf b) f (length w) places o) (length out)) out′
 
 -- ---- from what import found
 
@@ -74,7 +75,7 @@ pub record Listable (f w : List ℕ) (r : Found) : Type 0 where
   pub few : (d frames unfinished tail written : ℕ) → r .answer ≡ Spans d frames unfinished tail written → 32 * r .pieces ≤ length f
   pub small : length f ≤ 1048576
 
--- the open stretches are listed, whichever options the import had
+-- the open stretches are listed, whichever container and options the import had
 pub record FoundListed (f w : List ℕ) (r : Found) (u : List ℕ) (listed : ℕ) : Type 0 where
-  pub list : (o : Options) → Left f o r w → stretchesTo u listed ≡ listedBy (toldImported (r .answer)) (fileStretches f o)
+  pub list : (b : Container) (o : Options) → Left b f o r w → stretchesTo u listed ≡ listedBy (toldImported (r .answer)) (fileStretches b f o)
   pub few : listed ≤ length f / 24

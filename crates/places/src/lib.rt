@@ -1,7 +1,9 @@
 // Import where places for stretches are lent: the open stretches are listed at the start of work, and the answer is told as a
 // number and values.
 ghost use Rattle.capture.specs.Options.{optionsOf};
-ghost use Rattle.imports.specs.Numbers.{optionsNumber};
+ghost use Rattle.trace.specs.declared.Container.the-variants.{Btsnoop};
+ghost use Rattle.options.specs.Numbers.{containerIn};
+ghost use Rattle.imports.specs.Numbers.{optionsIn, optionsNumber};
 ghost use Rattle.places.specs.Places.{ImportsIn, ToldIn, Listable, FoundListed};
 use capture::Found;
 use capture::Imported;
@@ -12,6 +14,7 @@ use imports::shown_imported;
 use streams::plan;
 use stretches::list_open;
 use telling::tell;
+use trace::Refusal;
 
 // An answer's number, and how many stretches stand at the start of work.
 pub struct Told {
@@ -19,8 +22,29 @@ pub struct Told {
     pub listed: usize,
 }
 
-// Imports a trace where a list of stretches of so many places is lent, and tells the answer.
+// Imports a trace by options in a list of numbers, where a list of stretches of so many places is lent, and tells the answer.
 pub fn places_told(
+    file: &[u8],
+    work: &mut [u8],
+    out: &mut [u8],
+    options: &[u64],
+    values: &mut [u64],
+    places: usize,
+) -> Told
+    ensures { λ r. ⌜ ToldIn (containerIn (now (options .entry))) (now (file .entry)) (now (work .entry)) places (now (out .entry)) (optionsIn (now (options .entry))) (now (values .entry)) (r .number) (r .listed) (now (work .exit)) (now (out .exit)) (now (values .exit)) ⌝ }
+{
+    let o = options_in(options);
+    let p = import_places(file, work, out, o, places);
+    let answer = p.answer;
+    let s = shown_imported(answer);
+    Told {
+        number: tell(s, values),
+        listed: p.listed,
+    }
+}
+
+// The same for a btsnoop file, by two options.
+pub fn places_by(
     file: &[u8],
     work: &mut [u8],
     out: &mut [u8],
@@ -29,17 +53,10 @@ pub fn places_told(
     values: &mut [u64],
     places: usize,
 ) -> Told
-    ensures { λ r. ⌜ ToldIn (now (file .entry)) (now (work .entry)) places (now (out .entry)) (optionsNumber channel tolerant) (now (values .entry)) (r .number) (r .listed) (now (work .exit)) (now (out .exit)) (now (values .exit)) ⌝ }
+    ensures { λ r. ⌜ ToldIn Btsnoop (now (file .entry)) (now (work .entry)) places (now (out .entry)) (optionsNumber channel tolerant) (now (values .entry)) (r .number) (r .listed) (now (work .exit)) (now (out .exit)) (now (values .exit)) ⌝ }
 {
     let options = [channel as u64, tolerant as u64];
-    let o = options_in(&options);
-    let p = import_places(file, work, out, o, places);
-    let answer = p.answer;
-    let s = shown_imported(answer);
-    Told {
-        number: tell(s, values),
-        listed: p.listed,
-    }
+    places_told(file, work, out, &options, values, places)
 }
 
 // An answer, and how many stretches stand at the start of work.
@@ -56,24 +73,24 @@ pub fn import_places(
     options: Options,
     places: usize,
 ) -> Placed
-    ensures { λ r. ⌜ ImportsIn (now (file .entry)) (now (work .entry)) places (optionsOf options) (now (out .entry)) (r .answer) (r .listed) (now (work .exit)) (now (out .exit)) ⌝ }
+    ensures { λ r. ⌜ ImportsIn (options .container) (now (file .entry)) (now (work .entry)) places (optionsOf options) (now (out .entry)) (r .answer) (r .listed) (now (work .exit)) (now (out .exit)) ⌝ }
 {
     let n = file.len();
     if 1048576 < n {
         return Placed {
-            answer: Imported::FileLong,
+            answer: Imported::Refused(Refusal::FileLong),
             listed: 0,
         };
     }
     if work.len() < 8 * n {
         return Placed {
-            answer: Imported::WorkShort,
+            answer: Imported::Refused(Refusal::WorkShort),
             listed: 0,
         };
     }
     if places < n / 24 {
         return Placed {
-            answer: Imported::WorkShort,
+            answer: Imported::Refused(Refusal::WorkShort),
             listed: 0,
         };
     }

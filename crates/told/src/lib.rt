@@ -1,4 +1,4 @@
-// The calls on frames, names and lists, and the one that lists records, as plain functions: each writes its output, and tells its
+// The calls on frames, names and lists, and those that list records, as plain functions: each writes its output, and tells its
 // answer by a number and values.
 ghost use mathlib.Core.Path.{_≡_};
 ghost use Rattle.commands.specs.Commands.{isCommandName};
@@ -7,9 +7,12 @@ ghost use Rattle.items.specs.Items.{rxOf};
 ghost use Rattle.mdr.specs.Frame.{unpackOf, packOf};
 ghost use Rattle.names.specs.Names.{fixtureName};
 ghost use Rattle.order.specs.Order.{captureOrder};
+ghost use Rattle.trace.specs.declared.Container.the-variants.{Btsnoop};
+ghost use Rattle.options.specs.Numbers.{containerIn};
 ghost use Rattle.telling.specs.Telling.{Calls};
 ghost use Rattle.told.specs.Numbers.{bit, wayOf};
 ghost use Rattle.told.specs.RecordCalls.{RecordsCalls};
+use options::container_in;
 use telling::shown_listed;
 use telling::shown_named;
 use telling::shown_ordered;
@@ -17,6 +20,7 @@ use telling::shown_packed;
 use telling::shown_planned;
 use telling::shown_unpacked;
 use telling::tell;
+use trace::Container;
 
 pub fn unpack_told(wire: &[u8], out: &mut [u8], values: &mut [u64]) -> u32
     ensures { λ r. ⌜ Calls (unpackOf (now (wire .entry))) (now (out .entry)) (now (out .exit)) (now (values .entry)) r (now (values .exit)) ⌝ }
@@ -86,10 +90,25 @@ pub fn order_told(names: &[u8], out: &mut [u8], values: &mut [u64]) -> u32
     tell(s, values)
 }
 
-pub fn records_told(file: &[u8], starts: &mut [u64], values: &mut [u64]) -> u32
-    ensures { λ r. ⌜ RecordsCalls (now (file .entry)) (now (starts .entry)) (now (values .entry)) r (now (starts .exit)) (now (values .exit)) ⌝ }
+// Lists the records of a file of the container.
+fn records_of(file: &[u8], container: Container, starts: &mut [u64], values: &mut [u64]) -> u32
+    ensures { λ r. ⌜ RecordsCalls container (now (file .entry)) (now (starts .entry)) (now (values .entry)) r (now (starts .exit)) (now (values .exit)) ⌝ }
 {
-    let l = btsnoop::list_records(file, starts);
+    let l = trace::list_records(file, container, starts);
     let s = shown_listed(l);
     tell(s, values)
+}
+
+pub fn records_told(file: &[u8], starts: &mut [u64], values: &mut [u64]) -> u32
+    ensures { λ r. ⌜ RecordsCalls Btsnoop (now (file .entry)) (now (starts .entry)) (now (values .entry)) r (now (starts .exit)) (now (values .exit)) ⌝ }
+{
+    records_of(file, Container::Btsnoop, starts, values)
+}
+
+// By the container in a list of options.
+pub fn records_with(file: &[u8], starts: &mut [u64], options: &[u64], values: &mut [u64]) -> u32
+    ensures { λ r. ⌜ RecordsCalls (containerIn (now (options .entry))) (now (file .entry)) (now (starts .entry)) (now (values .entry)) r (now (starts .exit)) (now (values .exit)) ⌝ }
+{
+    let container = container_in(options);
+    records_of(file, container, starts, values)
 }
