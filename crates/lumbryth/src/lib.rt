@@ -8,14 +8,18 @@ ghost use Rattle.names.specs.Names.{fixtureName};
 ghost use Rattle.order.specs.Order.{captureOrder};
 ghost use Rattle.gaps.specs.Calls.{GapsCalls};
 ghost use Rattle.imports.specs.Imports.{ImportCalls};
-ghost use Rattle.imports.specs.Numbers.{tailNumber, optionsIn, optionsNumber};
+ghost use Rattle.imports.specs.Numbers.{optionsIn, optionsNumber};
+ghost use Rattle.options.specs.Numbers.{tailNumber, tailIn, containerIn};
 ghost use Rattle.places.specs.Stretches.{StretchCalls};
 ghost use Rattle.telling.specs.Telling.{Calls};
+ghost use Rattle.trace.specs.declared.Container.the-variants.{Btsnoop};
 ghost use Rattle.told.specs.Numbers.{bit, wayOf};
 ghost use Rattle.told.specs.RecordCalls.{RecordsCalls};
 use gaps::gaps_told;
+use gaps::gaps_with;
 use imports::import_by;
 use imports::import_told;
+use places::places_by;
 use places::places_told;
 use told::command_told;
 use told::name_told;
@@ -23,6 +27,7 @@ use told::order_told;
 use told::pack_told;
 use told::plan_told;
 use told::records_told;
+use told::records_with;
 use told::unpack_told;
 
 // Reads one frame, and writes its payload to the front of out. Values: type, sequence number, payload length.
@@ -92,8 +97,8 @@ pub extern "C" fn lumbryth_capture_order(names: &[u8], out: &mut [u8], values: &
 }
 
 // Imports a trace: writes the list of the spans of one DLCI to the front of out. The options are a list of numbers: a channel,
-// over 255 for any; 0 for the strict rule, any other for the tolerant one. A list that ends earlier asks for any channel,
-// strictly. Values: DLCI, frames, unfinished, tail offset, bytes written.
+// over 255 for any; 0 for the strict rule, any other for the tolerant one; 0 for btsnoop, any other for pcap. A list that ends
+// earlier asks for any channel, strictly, of btsnoop. Values: DLCI, frames, unfinished, tail offset, bytes written.
 #[no_mangle]
 pub extern "C" fn lumbryth_import_with(
     file: &[u8],
@@ -102,12 +107,12 @@ pub extern "C" fn lumbryth_import_with(
     options: &[u64],
     values: &mut [u64],
 ) -> u32
-    ensures { λ r. ⌜ ImportCalls (now (file .entry)) (now (work .entry)) (now (out .entry)) (optionsIn (now (options .entry))) (now (values .entry)) r (now (work .exit)) (now (out .exit)) (now (values .exit)) ⌝ }
+    ensures { λ r. ⌜ ImportCalls (containerIn (now (options .entry))) (now (file .entry)) (now (work .entry)) (now (out .entry)) (optionsIn (now (options .entry))) (now (values .entry)) r (now (work .exit)) (now (out .exit)) (now (values .exit)) ⌝ }
 {
     import_told(file, work, out, options, values)
 }
 
-// Imports a trace by two options.
+// Imports a btsnoop file by two options.
 #[no_mangle]
 pub extern "C" fn lumbryth_import(
     file: &[u8],
@@ -117,12 +122,12 @@ pub extern "C" fn lumbryth_import(
     tolerant: u32,
     values: &mut [u64],
 ) -> u32
-    ensures { λ r. ⌜ ImportCalls (now (file .entry)) (now (work .entry)) (now (out .entry)) (optionsNumber channel tolerant) (now (values .entry)) r (now (work .exit)) (now (out .exit)) (now (values .exit)) ⌝ }
+    ensures { λ r. ⌜ ImportCalls Btsnoop (now (file .entry)) (now (work .entry)) (now (out .entry)) (optionsNumber channel tolerant) (now (values .entry)) r (now (work .exit)) (now (out .exit)) (now (values .exit)) ⌝ }
 {
     import_by(file, work, out, channel, tolerant, values)
 }
 
-// Imports a trace by the strict rule.
+// Imports a btsnoop file by the strict rule.
 #[no_mangle]
 pub extern "C" fn lumbryth_import_strict(
     file: &[u8],
@@ -131,22 +136,35 @@ pub extern "C" fn lumbryth_import_strict(
     channel: u32,
     values: &mut [u64],
 ) -> u32
-    ensures { λ r. ⌜ ImportCalls (now (file .entry)) (now (work .entry)) (now (out .entry)) (optionsNumber channel 0) (now (values .entry)) r (now (work .exit)) (now (out .exit)) (now (values .exit)) ⌝ }
+    ensures { λ r. ⌜ ImportCalls Btsnoop (now (file .entry)) (now (work .entry)) (now (out .entry)) (optionsNumber channel 0) (now (values .entry)) r (now (work .exit)) (now (out .exit)) (now (values .exit)) ⌝ }
 {
     import_by(file, work, out, channel, 0, values)
 }
 
-// Stores where each whole record of a trace starts at the front of starts, as many as there is room for. Values: records,
+// Stores where each whole record of a btsnoop file starts at the front of starts, as many as there is room for. Values: records,
 // tail offset.
 #[no_mangle]
 pub extern "C" fn lumbryth_records(file: &[u8], starts: &mut [u64], values: &mut [u64]) -> u32
-    ensures { λ r. ⌜ RecordsCalls (now (file .entry)) (now (starts .entry)) (now (values .entry)) r (now (starts .exit)) (now (values .exit)) ⌝ }
+    ensures { λ r. ⌜ RecordsCalls Btsnoop (now (file .entry)) (now (starts .entry)) (now (values .entry)) r (now (starts .exit)) (now (values .exit)) ⌝ }
 {
     records_told(file, starts, values)
 }
 
-// Counts the signs in a trace that something is not in it; 0 is strict, any other tolerant. Refused as import is, by 1 to 5.
-// Values, for each sign how many and at which byte the record starts that shows the first, 0 if none does: records stored
+// The same by a list of options, of which the container counts.
+#[no_mangle]
+pub extern "C" fn lumbryth_records_with(
+    file: &[u8],
+    starts: &mut [u64],
+    options: &[u64],
+    values: &mut [u64],
+) -> u32
+    ensures { λ r. ⌜ RecordsCalls (containerIn (now (options .entry))) (now (file .entry)) (now (starts .entry)) (now (values .entry)) r (now (starts .exit)) (now (values .exit)) ⌝ }
+{
+    records_with(file, starts, options, values)
+}
+
+// Counts the signs in a btsnoop file that something is not in it; 0 is strict, any other tolerant. Refused as import is, by 1 to
+// 5. Values, for each sign how many and at which byte the record starts that shows the first, 0 if none does: records stored
 // short, packets that the recorder dropped, ACL packets skipped because data is not there, records of zeros, continuations
 // with nothing open, partial PDUs given up because another starts, PDUs open at the end.
 #[no_mangle]
@@ -156,13 +174,26 @@ pub extern "C" fn lumbryth_gaps(
     tolerant: u32,
     values: &mut [u64],
 ) -> u32
-    ensures { λ r. ⌜ GapsCalls (now (file .entry)) (now (work .entry)) (tailNumber tolerant) (now (values .entry)) r (now (work .exit)) (now (values .exit)) ⌝ }
+    ensures { λ r. ⌜ GapsCalls Btsnoop (now (file .entry)) (now (work .entry)) (tailNumber tolerant) (now (values .entry)) r (now (work .exit)) (now (values .exit)) ⌝ }
 {
     gaps_told(file, work, tolerant, values)
 }
 
-// Imports a trace, and fills the first places of the list lent with the stretches that are open at the end, in the order of
-// their first pieces; the places past them stay, and all of them after a refusal. It wants as many places as the file length
+// The same by a list of options, of which the tail rule and the container count.
+#[no_mangle]
+pub extern "C" fn lumbryth_gaps_with(
+    file: &[u8],
+    work: &mut [u8],
+    options: &[u64],
+    values: &mut [u64],
+) -> u32
+    ensures { λ r. ⌜ GapsCalls (containerIn (now (options .entry))) (now (file .entry)) (now (work .entry)) (tailIn (now (options .entry))) (now (values .entry)) r (now (work .exit)) (now (values .exit)) ⌝ }
+{
+    gaps_with(file, work, options, values)
+}
+
+// Imports a btsnoop file, and fills the first places of the list lent with the stretches that are open at the end, in the order
+// of their first pieces; the places past them stay, and all of them after a refusal. It wants as many places as the file length
 // divided by 24, rounded down, else 2. Values: as for lumbryth_import.
 #[no_mangle]
 pub extern "C" fn lumbryth_import_stretches(
@@ -174,10 +205,28 @@ pub extern "C" fn lumbryth_import_stretches(
     tolerant: u32,
     values: &mut [u64],
 ) -> u32
-    ensures { λ r. ⌜ StretchCalls (now (file .entry)) (now (work .entry)) (now (stretches .entry)) (now (out .entry)) (optionsNumber channel tolerant) (now (values .entry)) r (now (work .exit)) (now (stretches .exit)) (now (out .exit)) (now (values .exit)) ⌝ }
+    ensures { λ r. ⌜ StretchCalls Btsnoop (now (file .entry)) (now (work .entry)) (now (stretches .entry)) (now (out .entry)) (optionsNumber channel tolerant) (now (values .entry)) r (now (work .exit)) (now (stretches .exit)) (now (out .exit)) (now (values .exit)) ⌝ }
 {
     let places = stretches.len();
-    let t = places_told(file, work, out, channel, tolerant, values, places);
+    let t = places_by(file, work, out, channel, tolerant, values, places);
+    stretches::fill(work, stretches, t.listed);
+    t.number
+}
+
+// The same by a list of options.
+#[no_mangle]
+pub extern "C" fn lumbryth_import_stretches_with(
+    file: &[u8],
+    work: &mut [u8],
+    stretches: &mut [stretches::Stretch],
+    out: &mut [u8],
+    options: &[u64],
+    values: &mut [u64],
+) -> u32
+    ensures { λ r. ⌜ StretchCalls (containerIn (now (options .entry))) (now (file .entry)) (now (work .entry)) (now (stretches .entry)) (now (out .entry)) (optionsIn (now (options .entry))) (now (values .entry)) r (now (work .exit)) (now (stretches .exit)) (now (out .exit)) (now (values .exit)) ⌝ }
+{
+    let places = stretches.len();
+    let t = places_told(file, work, out, options, values, places);
     stretches::fill(work, stretches, t.listed);
     t.number
 }

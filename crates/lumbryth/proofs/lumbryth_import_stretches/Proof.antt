@@ -1,5 +1,5 @@
--- `lumbryth::lumbryth_import_stretches` meets its contract: a walk of its MIR, by hand. Work is lent again to `places_told` and comes back, is then shared, and goes with the stretches to `fill`; out, values and the stretches are given to the callees for good.
--- All that the proof knows of `places_told` and `fill` is that each meets its contract.
+-- `lumbryth::lumbryth_import_stretches` meets its contract: a walk of its MIR, by hand. Work is lent again to `places_by` and comes back, is then shared, and goes with the stretches to `fill`; out, values and the stretches are given to the callees for good.
+-- All that the proof knows of `places_by` and `fill` is that each meets its contract.
 use mathlib.Core.Path.{_≡_, refl, sym, ap, subst}
 use Prim.Native.Nat.{ℕ, _<_, _≤_, _^_}
 use mathlib.Core.List.{List, [], _∷_}
@@ -55,10 +55,10 @@ use Rattle.places.proofs.Told.Laws as S′
 use Rattle.places.specs.Stretches.{StretchCalls}
 use Rattle.places.proofs.StretchLaws.{stretch-calls}
 use Rattle.places.proofs.Again.{LentAgain, lends-again, comes-back, shares}
-use Rattle.places.proofs.places_told as told
-use Rattle.places.proofs.places_told.Symbol as told-def
-use Rattle.places.proofs.places_told.Symbol.{name as #places·places-told}
-use Rattle.places.proofs.places_told.Met as told-thm
+use Rattle.places.proofs.places_by as told
+use Rattle.places.proofs.places_by.Symbol as told-def
+use Rattle.places.proofs.places_by.Symbol.{name as #places·places-by}
+use Rattle.places.proofs.places_by.Met as told-thm
 use Rattle.lumbryth.proofs.lumbryth_import_stretches.Key.{name as #lumbryth·lumbryth-import-stretches}
 use Rattle.lumbryth.proofs.lumbryth_import_stretches as entry
 use Rattle.lumbryth.proofs.lumbryth_import_stretches.Statement as stated
@@ -79,8 +79,8 @@ fits-unit r e = subst (λ (v : Val). Holds (hasTy tyUnit v) × WT v) (sym e) (tt
 
 -- the contracts that the proof cites
 module _ {M : Type 1} (𝓤 : URA M) (H : Heap 𝓤) (A : Atoms 𝓤) (mem : Memory → SProp 𝓤) (run : Routine → Fun 𝓤) where
-  abbrev PlacesTold : Contract 𝓤
-  PlacesTold = tripleOf 𝓤 H A told.signature (told.spec 𝓤 H A mem run)
+  abbrev PlacesBy : Contract 𝓤
+  PlacesBy = tripleOf 𝓤 H A told.signature (told.spec 𝓤 H A mem run)
 
   abbrev Fill : Contract 𝓤
   Fill = tripleOf 𝓤 H A fill.signature (fill.spec 𝓤 H A mem run)
@@ -127,7 +127,7 @@ module _ {M : Type 1} (𝓤 : URA M) (H : Heap 𝓤) (A : Atoms 𝓤) (W : Given
   abbrev Own : Fml
   Own = ShrSlice (named 0) κf u8 .own f (vf ∷ [])
 
-  -- what `places_told`'s triple binds outside: work lent again for the lifetime ν, under the name δ
+  -- what `places_by`'s triple binds outside: work lent again for the lifetime ν, under the name δ
   abbrev κsT : ℕ → Lfts 4
   κsT ν = (κf, (ν ∷ [], (κo, (κv, tt))))
 
@@ -140,10 +140,10 @@ module _ {M : Type 1} (𝓤 : URA M) (H : Heap 𝓤) (A : Atoms 𝓤) (W : Given
   abbrev atT : (ν : ℕ) → Vals told.signature (κsT ν)
   atT ν = (vf ∷ [], (vw ∷ [], (vo ∷ [], (vint w32 ch ∷ [], (vint w32 tol ∷ [], (vv ∷ [], (vint w64 places ∷ [], tt)))))))
 
-  abbrev to-told : ℕ → GName → PlacesTold 𝓤 H A mem run .Ghost
+  abbrev to-told : ℕ → GName → PlacesBy 𝓤 H A mem run .Ghost
   to-told ν δ = ((κsT ν, (qf, (fullShare, (qo, (qv, tt)))), tt, aT δ, atT ν), tt)
 
-  asked-told : (ν : ℕ) (δ : GName) → ent 𝓤 (onEntry 𝓤 H A told.signature (κsT ν) (qf, (fullShare, (qo, (qv, tt)))) (aT δ) (atT ν)) (PlacesTold 𝓤 H A mem run .pre (to-told ν δ))
+  asked-told : (ν : ℕ) (δ : GName) → ent 𝓤 (onEntry 𝓤 H A told.signature (κsT ν) (qf, (fullShare, (qo, (qv, tt)))) (aT δ) (atT ν)) (PlacesBy 𝓤 H A mem run .pre (to-told ν δ))
   asked-told ν δ =
       qed W ((‵ (flft κf qf) ⊛ ‵ (flft (ν ∷ []) fullShare) ⊛ ‵ (flft κo qo) ⊛ ‵ (flft κv qv) ⊛ ‵ ftrue) ∷ ‵ (owns (ShrSlice (named 0) κf u8 ∷ MutSlice (named 1) (ν ∷ []) u8 ∷ MutSlice (named 2) κo u8 ∷ u32 ∷ u32 ∷ MutSlice (named 3) κv u64 ∷ usize ∷ []) (aT δ) (atT ν)) ∷ []) ∵
       join ! $ frame ! $ done !
@@ -191,7 +191,7 @@ module _ {M : Type 1} (𝓤 : URA M) (H : Heap 𝓤) (A : Atoms 𝓤) (W : Given
       move ! (4 ∷ 0 ∷ []) $ fjoin ! $ move ! (3 ∷ 0 ∷ []) $ fjoin ! $ move ! (2 ∷ 0 ∷ []) $ fjoin ! $ move ! (1 ∷ 0 ∷ []) $ fjoin ! $ frame ! $
       owned ! u32 (Is u32) (uint-makes 𝓤 H A W w32) (r .number) _ (refl, fits) $ done !
 
-  module _ (C : Calls 𝓤 H) (Λ : Loops 𝓤 H) (fm : FmC 𝓤 H (W .laws) C) (known-told : Triple 𝓤 (C #places·places-told) (PlacesTold 𝓤 H A mem run)) (known-fill : Triple 𝓤 (C #stretches·fill) (Fill 𝓤 H A mem run)) where
+  module _ (C : Calls 𝓤 H) (Λ : Loops 𝓤 H) (fm : FmC 𝓤 H (W .laws) C) (known-told : Triple 𝓤 (C #places·places-by) (PlacesBy 𝓤 H A mem run)) (known-fill : Triple 𝓤 (C #stretches·fill) (Fill 𝓤 H A mem run)) where
     walk : Is (ShrSlice (named 0) κf u8) f (vf ∷ []) → Room u8 (length w) → Room R places → Room u8 (length (xo .now)) → Room u64 (length (xv .now))
         → ent 𝓤 (onEntry 𝓤 H A entry.signature κs (qf, (qw, (qs, (qo, (qv, tt))))) a at) (WpFn 𝓤 H C Λ code.function (vf ∷ vw ∷ vs ∷ vo ∷ vint w32 ch ∷ vint w32 tol ∷ vv ∷ []) Post)
     walk p roomw rooms roomo roomv =
@@ -221,9 +221,9 @@ module _ {M : Type 1} (𝓤 : URA M) (H : Heap 𝓤) (A : Atoms 𝓤) (W : Given
         owned ! u32 (Is u32) (uint-makes 𝓤 H A W w32) tol _ (refl, tol-fits) $ fjoin ! $ owned ! u32 (Is u32) (uint-makes 𝓤 H A W w32) ch _ (refl, ch-fits) $ fjoin ! $
         move ! (12 ∷ 0 ∷ []) $ fjoin ! $ move ! (1 ∷ 0 ∷ []) $ fjoin ! $ move ! (3 ∷ 0 ∷ []) $ fjoin ! $
         move ! (4 ∷ 5 ∷ []) $ join ! $ move ! (5 ∷ 0 ∷ []) $ join ! $ move ! (3 ∷ 0 ∷ []) $ join ! $ move ! (5 ∷ 0 ∷ []) $ join ! $
-        use2 W (raw (PlacesTold 𝓤 H A mem run .pre (to-told ν δ))) (asked-told ν δ) $
+        use2 W (raw (PlacesBy 𝓤 H A mem run .pre (to-told ν δ))) (asked-told ν δ) $
         -- [the callee's; what is kept of work; file; stretches' token; true; stretches; the locals]
-        calls-at ! fm (PlacesTold 𝓤 H A mem run) known-told (to-told ν δ) (and-then ! (load ! (from ! (stop !)) (look ! 44 refl)) (and-then ! (load ! (from ! (stop !)) (look ! 24 refl)) (and-then ! (load ! (from ! (stop !)) (look ! 20 refl)) (and-then ! (load ! (from ! (stop !)) (look ! 36 refl)) (and-then ! (load ! (from ! (stop !)) (look ! 34 refl)) (and-then ! (load ! (from ! (stop !)) (look ! 16 refl)) (and-then ! (load ! (from ! (stop !)) (look ! 30 refl)) (no-more !)))))))) (λ u.
+        calls-at ! fm (PlacesBy 𝓤 H A mem run) known-told (to-told ν δ) (and-then ! (load ! (from ! (stop !)) (look ! 44 refl)) (and-then ! (load ! (from ! (stop !)) (look ! 24 refl)) (and-then ! (load ! (from ! (stop !)) (look ! 20 refl)) (and-then ! (load ! (from ! (stop !)) (look ! 36 refl)) (and-then ! (load ! (from ! (stop !)) (look ! 34 refl)) (and-then ! (load ! (from ! (stop !)) (look ! 16 refl)) (and-then ! (load ! (from ! (stop !)) (look ! 30 refl)) (no-more !)))))))) (λ u.
         use1 W (later (some (λ (r : Told). ((‵ (flft κf qf) ⊛ ‵ (flft (ν ∷ []) fullShare) ⊛ ‵ (flft κo qo) ⊛ ‵ (flft κv qv) ⊛ ‵ ftrue) ⊛ ‵ (Q .own r (u ∷ []))) ⊛ raw (ensured 𝓤 H A told.ended (told.clauses 𝓤 H A mem run) (κsT ν) (aT δ) tt r)))) (id⊢ 𝓤 _) $ await ! tt $ pick ! (λ r.
         split ! $ move ! (1 ∷ []) $ use1 W (some (λ (zs : Lasts). ‵ (lasts told.ended (κsT ν) (aT δ) zs) ⊛ raw (fact 𝓤 (Said r zs)))) (id⊢ 𝓤 _) $ pick ! (λ zs.
         split ! $ move ! (1 ∷ []) $ heard ! (Said r zs) (λ e. fsplit ! $ drop ! $
@@ -260,7 +260,7 @@ module _ {M : Type 1} (𝓤 : URA M) (H : Heap 𝓤) (A : Atoms 𝓤) (W : Given
         keep ! (9 ∷ 5 ∷ 3 ∷ 2 ∷ 0 ∷ 13 ∷ 8 ∷ 6 ∷ 12 ∷ 10 ∷ []) $ by ! (exits r zs (ts .1 .0) (number-fits r u is) e e′ samew sames sameo samev)))))))))))))))))))))))))))))))))))))))
 
 module _ {M : Type 1} (𝓤 : URA M) (H : Heap 𝓤) (A : Atoms 𝓤) (W : Given 𝓤 H A) (mem : Memory → SProp 𝓤) (run : Routine → Fun 𝓤) where
-  entry-walks : (C : Calls 𝓤 H) (Λ : Loops 𝓤 H) → FmC 𝓤 H (W .laws) C → Triple 𝓤 (C #places·places-told) (PlacesTold 𝓤 H A mem run) → Triple 𝓤 (C #stretches·fill) (Fill 𝓤 H A mem run)
+  entry-walks : (C : Calls 𝓤 H) (Λ : Loops 𝓤 H) → FmC 𝓤 H (W .laws) C → Triple 𝓤 (C #places·places-by) (PlacesBy 𝓤 H A mem run) → Triple 𝓤 (C #stretches·fill) (Fill 𝓤 H A mem run)
       → Walks 𝓤 H A entry.ended stayed (WpFn 𝓤 H C Λ code.function) (entry.clauses 𝓤 H A mem run)
   entry-walks C Λ fm known-told known-fill = walked 𝓤 H A entry.ended stayed (entry.clauses 𝓤 H A mem run) (WpFn 𝓤 H C Λ code.function)
       (λ κs. (slice-vals, (slice-vals, (slice-vals, (slice-vals, (uint-vals w32, (uint-vals w32, (slice-vals, tt))))))))
@@ -271,7 +271,7 @@ module _ {M : Type 1} (𝓤 : URA M) (H : Heap 𝓤) (A : Atoms 𝓤) (W : Given
       C Λ fm known-told known-fill (are .0) (are .1 .0 .0 .1) (are .1 .1 .0 .0 .1) (are .1 .1 .1 .0 .0 .1) (are .1 .1 .1 .1 .1 .1 .0 .0 .1)))
 
 entry-meets : {M : Type 1} (𝓤 : URA M) (H : Heap 𝓤) (A : Atoms 𝓤) (W : Given 𝓤 H A) (mem : Memory → SProp 𝓤) (run : Routine → Fun 𝓤) (𝓣 : Tables 𝓤 H)
-    → Triple 𝓤 (𝓣 .C #places·places-told) (PlacesTold 𝓤 H A mem run) → Triple 𝓤 (𝓣 .C #stretches·fill) (Fill 𝓤 H A mem run)
+    → Triple 𝓤 (𝓣 .C #places·places-by) (PlacesBy 𝓤 H A mem run) → Triple 𝓤 (𝓣 .C #stretches·fill) (Fill 𝓤 H A mem run)
     → Meets 𝓤 H A entry.signature (WpFn 𝓤 H (𝓣 .C) (𝓣 .Λ) code.function) (entry.spec 𝓤 H A mem run)
 entry-meets 𝓤 H A W mem run 𝓣 known-told known-fill = walk-meets 𝓤 H A entry.ended stayed W
     (goes-none-slice 𝓤 H A W 5 (0 ∷ []) tt (plain (λ _. u8)) yes, (goes-gave-slice 𝓤 H A W 5 1 tt (plain (λ _. u8)), (goes-gave-slice 𝓤 H A W 5 2 tt (plain (λ _. R)), (goes-gave-slice 𝓤 H A W 5 3 tt (plain (λ _. u8)), (goes-none 𝓤 H A W 5 (λ _. u32) yes (λ κs x f. refl), (goes-none 𝓤 H A W 5 (λ _. u32) yes (λ κs x f. refl), (goes-gave-slice 𝓤 H A W 5 4 tt (plain (λ _. u64)), tt)))))))
@@ -284,5 +284,5 @@ lumbryth-import-stretches-spec 𝓤 H 𝓜 𝓖 𝓡 =
     entered 𝓤 H (tripleOf 𝓤 H (𝓖 .A) entry.signature (entry.spec 𝓤 H (𝓖 .A) (𝓜 .mem) (𝓡 .run)))
     (tables 𝓤 H 𝓜 𝓡 code.env .C) (tables 𝓤 H 𝓜 𝓡 code.env .Λ) #lumbryth·lumbryth-import-stretches code.function (code.unfolded 𝓤 H 𝓜 𝓡)
     (entry-meets 𝓤 H (𝓖 .A) (givenOf 𝓤 H 𝓜 𝓖) (𝓜 .mem) (𝓡 .run) (tablesOf 𝓤 H 𝓜 (tables 𝓤 H 𝓜 𝓡 code.env))
-    (cited 𝓤 H (PlacesTold 𝓤 H (𝓖 .A) (𝓜 .mem) (𝓡 .run)) 𝓜 𝓡 code.env #places·places-told told-def.routine code.calls-places·places-told (told-thm.met 𝓤 H 𝓜 𝓖 𝓡))
+    (cited 𝓤 H (PlacesBy 𝓤 H (𝓖 .A) (𝓜 .mem) (𝓡 .run)) 𝓜 𝓡 code.env #places·places-by told-def.routine code.calls-places·places-by (told-thm.met 𝓤 H 𝓜 𝓖 𝓡))
     (cited 𝓤 H (Fill 𝓤 H (𝓖 .A) (𝓜 .mem) (𝓡 .run)) 𝓜 𝓡 code.env #stretches·fill fill-def.routine code.calls-stretches·fill (fill-thm.met 𝓤 H 𝓜 𝓖 𝓡)))
