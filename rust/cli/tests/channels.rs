@@ -348,7 +348,8 @@ fn a_cut_file_is_looked_at_up_to_there() {
         let file = &whole[..n];
         agrees(file);
         let start = bounds.iter().copied().rfind(|&start| start <= n).unwrap();
-        assert_eq!(look(file), look(&whole[..start]).map(|seen| Seen { tail: start, ..seen }), "cut at {n}");
+        let looked = |file| look(look::Trace::of(file));
+        assert_eq!(looked(file), looked(&whole[..start]).map(|seen| Seen { tail: start, ..seen }), "cut at {n}");
         if n % 9 == 0 {
             let output = words(&[&"channels", &place.file("trace", file)]);
             assert_eq!((status(&output), err(&output)), (0, String::new()), "cut at {n}");
@@ -441,7 +442,7 @@ fn an_object_a_line() {
     files.extend((0..40).map(|_| made::trace(&mut rng)));
     let mut kinds = BTreeSet::new();
     for file in files {
-        let seen = look(&file).unwrap();
+        let seen = look(look::Trace::of(&file)).unwrap();
         let output = words(&[&"channels", &place.file("trace", &file), &"--json"]);
         assert_eq!((status(&output), err(&output)), (0, String::new()));
         let text = out(&output);
@@ -484,7 +485,7 @@ fn an_object_a_line() {
 /// The look and the proved import agree, for each channel and without one.
 #[track_caller]
 fn agrees(file: &[u8]) -> Seen {
-    let seen = look(file).unwrap();
+    let seen = look(look::Trace::of(file)).unwrap();
     assert_eq!(seen.skipped as u64, gaps(file, TailRule::Tolerant).unwrap().skipped.count);
     for channel in (0..=31).map(Some).chain([None]) {
         match (import_stretches(file, channel, TailRule::Tolerant), seen.taken(channel)) {
@@ -565,7 +566,7 @@ fn damaged_files_agree() {
         let (mut read, mut refused) = (0, 0);
         for _ in 0..2_000 {
             let file = rng.damaged(&whole);
-            match look(&file) {
+            match look(look::Trace::of(&file)) {
                 Ok(_) => {
                     agrees(&file);
                     read += 1;
