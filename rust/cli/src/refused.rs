@@ -43,19 +43,19 @@ fn words(trace: Trace, channel: Option<u8>, refusal: Refusal) -> String {
 }
 
 /// What helps, a line each.
-fn hints(trace: Trace, refusal: Refusal) -> Vec<&'static str> {
-    let mut hints = match refusal {
-        Refusal::FileLong => {
-            vec!["record a shorter log; a file that is trimmed by hand loses frames and does not tell"]
-        }
-        Refusal::Truncated { .. } => vec!["--tolerant keeps what was complete before that"],
-        Refusal::NoStream => vec!["see lumbryth channels, which shows what there is and why it is not taken"],
+fn hints(trace: Trace, refusal: Refusal) -> Vec<String> {
+    let hint = match refusal {
+        Refusal::FileLong => "record a shorter log; a file that is trimmed by hand loses frames and does not tell",
+        Refusal::Truncated { .. } => "--tolerant keeps what was complete before that",
+        Refusal::NoStream => "see lumbryth channels, which shows what there is and why it is not taken",
+        Refusal::NotPcap if trace.is_pcapng() => CONVERT,
         // The Linux monitor's own records, which btsnoop has as datalink 2001.
-        Refusal::LinkType(254) => vec!["to save it as btsnoop, which can be read: editcap -F btsnoop TRACE NEW"],
-        _ => Vec::new(),
+        Refusal::LinkType(254) => "to save it as btsnoop, which can be read: editcap -F btsnoop TRACE NEW",
+        _ => return Vec::new(),
     };
-    if trace.is_pcapng() {
-        hints.push(CONVERT);
+    let mut hints = vec![hint.to_string()];
+    if refusal == Refusal::FileLong && trace.is_pcapng() {
+        hints.push(format!("this is a pcapng file; {CONVERT}"));
     }
     hints
 }
@@ -69,7 +69,7 @@ pub fn refused(path: &Path, channel: Option<u8>, trace: Trace, refusal: Refusal)
         let lost = trace.gaps(TailRule::Tolerant).unwrap_or_default();
         more.extend(losses::seen(trace, &lost).iter().map(|loss| loss.sentence()));
     }
-    more.extend(hints(trace, refusal).into_iter().map(String::from));
+    more.extend(hints(trace, refusal));
     let more: String = more.iter().map(|line| format!("\nlumbryth: {line}")).collect();
     format!("refused ({}): {}: {}{more}", refusal.number(), words(trace, channel, refusal), shown(path))
 }
