@@ -432,6 +432,8 @@ fn records_that_are_passed_over() {
         (directed(2), "other, no direction", "null", "null"),
         (directed(3), "other, no direction", "null", "null"),
         (directed(0x100), "other, no direction", "null", "null"),
+        (directed(0x101), "other, no direction", "null", "null"),
+        (directed(0x8000_0001), "other, no direction", "null", "null"),
         (directed(0x0100_0000), "other, no direction", "null", "null"),
         (directed(u32::MAX), "other, no direction", "null", "null"),
         (vec![0, 0, 0, 0, 3, 6, 0], "other, tx", r#""tx""#, "0"),
