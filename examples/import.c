@@ -1,6 +1,6 @@
 /*
- * Reads a trace, imports it tolerantly, and prints what was found. `import.rs` does
- * and prints the same.
+ * Reads a trace, btsnoop or pcap, imports it tolerantly, and prints what was found.
+ * `import.rs` does and prints the same.
  *
  *     cc -I include -o target/import examples/import.c target/staticlib/liblumbryth.a
  *     target/import TRACE
@@ -8,6 +8,7 @@
 #include <inttypes.h>
 #include <stdio.h>
 #include <stdlib.h>
+#include <string.h>
 
 #include "lumbryth.h"
 
@@ -24,6 +25,23 @@ static long read_file(const char *path, uint8_t *file)
     failed = ferror(f);
     fclose(f);
     return failed ? -1 : (long)n;
+}
+
+/* What to ask for a file as. The library guesses nothing, so that a caller says it; this one
+ * goes by pcap's four magic numbers, and what begins with none of them is asked for as
+ * btsnoop, and refused (3) if it is not. */
+static uint64_t container_of(const uint8_t *file, size_t len)
+{
+    static const uint8_t magic[4][4] = {
+        {0xD4, 0xC3, 0xB2, 0xA1}, {0xA1, 0xB2, 0xC3, 0xD4}, /* microseconds */
+        {0x4D, 0x3C, 0xB2, 0xA1}, {0xA1, 0xB2, 0x3C, 0x4D}, /* nanoseconds */
+    };
+    size_t i;
+    for (i = 0; i < 4; i++) {
+        if (len >= 4 && memcmp(file, magic[i], 4) == 0)
+            return LUMBRYTH_PCAP;
+    }
+    return LUMBRYTH_BTSNOOP;
 }
 
 /* A number of so many bytes, lowest first. */
@@ -63,6 +81,7 @@ static void print_spans(const uint8_t *list, size_t len)
 int main(int argc, char **argv)
 {
     uint8_t *file, *work, *out = NULL;
+    struct lumbryth_options options = {LUMBRYTH_ANY_CHANNEL, 1, LUMBRYTH_BTSNOOP};
     uint64_t values[LUMBRYTH_VALUES];
     uint8_t nothing[1];
     size_t work_len;
@@ -90,14 +109,15 @@ int main(int argc, char **argv)
     }
 
     /* With no output lent, 7 says how much is needed. */
-    refusal = lumbryth_import(file, (size_t)len, work, work_len, nothing, 0,
-        LUMBRYTH_ANY_CHANNEL, 1, values, LUMBRYTH_VALUES);
+    options.container = container_of(file, (size_t)len);
+    refusal = lumbryth_import_with(file, (size_t)len, work, work_len, nothing, 0,
+        (const uint64_t *)&options, LUMBRYTH_OPTIONS, values, LUMBRYTH_VALUES);
     if (refusal == LUMBRYTH_OUT_SHORT) {
         size_t out_len = (size_t)values[0];
         out = malloc(out_len);
         if (out != NULL)
-            refusal = lumbryth_import(file, (size_t)len, work, work_len, out, out_len,
-                LUMBRYTH_ANY_CHANNEL, 1, values, LUMBRYTH_VALUES);
+            refusal = lumbryth_import_with(file, (size_t)len, work, work_len, out, out_len,
+                (const uint64_t *)&options, LUMBRYTH_OPTIONS, values, LUMBRYTH_VALUES);
     }
     if (refusal != LUMBRYTH_OK) {
         fprintf(stderr, "%s: refused (%" PRIu32 ")\n", argv[1], refusal);

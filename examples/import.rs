@@ -1,5 +1,5 @@
-//! Reads a trace, imports it tolerantly, and prints what was found. `import.c` does and
-//! prints the same.
+//! Reads a trace, btsnoop or pcap, imports it tolerantly, and prints what was found. `import.c`
+//! does and prints the same.
 //!
 //!     cargo run --example import -- TRACE
 
@@ -7,14 +7,23 @@ use std::env;
 use std::error::Error;
 use std::fs;
 
-use lumbryth::{cut, fixture_name, import, Direction, TailRule};
+use lumbryth::{cut_with, fixture_name, import_with, Container, Direction, Options, TailRule};
+
+/// What pcap files begin with: microseconds, then nanoseconds, the lowest byte of a number first or the highest.
+const PCAP: [[u8; 4]; 4] =
+    [[0xD4, 0xC3, 0xB2, 0xA1], [0xA1, 0xB2, 0xC3, 0xD4], [0x4D, 0x3C, 0xB2, 0xA1], [0xA1, 0xB2, 0x3C, 0x4D]];
 
 fn main() -> Result<(), Box<dyn Error>> {
     let path = env::args_os().nth(1).ok_or("say which trace to read")?;
     let file = fs::read(&path)?;
-    let imported = import(&file, None, TailRule::Tolerant)?;
+    // The library guesses nothing, so that a caller says what the file is. This one goes by its first four bytes; what is not pcap is
+    // asked for as btsnoop, and refused if it is not.
+    let is_pcap = PCAP.iter().any(|magic| file.starts_with(magic));
+    let container = if is_pcap { Container::Pcap } else { Container::Btsnoop };
+    let options = Options::default().with_tail(TailRule::Tolerant).with_container(container);
+    let imported = import_with(&file, &options)?;
     println!("DLCI {}, frames {}, unfinished {}", imported.dlci, imported.frames, imported.unfinished);
-    if let Some(cut) = cut(&file, imported.tail) {
+    if let Some(cut) = cut_with(&file, imported.tail, &options) {
         println!("the file ends inside the record that starts at byte {}", cut.offset);
     }
     for (counter, span) in (1..).zip(&imported.spans) {

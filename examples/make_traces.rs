@@ -1,6 +1,7 @@
 //! Makes the example traces: `headset.btsnoop`, and `cut.btsnoop`, which is the same
-//! recording cut off inside its last record but one, while a reply is under way; and
-//! `two-adapters.btsnoop`.
+//! recording cut off inside its last record but one, while a reply is under way;
+//! `headset.pcap` and `cut.pcap`, the same packets with the same times in the other
+//! container; and `two-adapters.btsnoop`.
 //!
 //!     cargo run --example make_traces -- DIR
 //!
@@ -17,6 +18,7 @@ use std::{env, fs};
 
 use lumbryth::Direction::{self, Rx, Tx};
 use lumbryth::{pack, Refusal};
+use trace::pcap::{twin, PLAIN};
 use trace::{control, pdu, signal, uih, Trace};
 
 const HANDLE: u16 = 0x0006;
@@ -192,6 +194,11 @@ fn main() -> Result<(), Box<dyn Error>> {
     fs::write(Path::new(&dir).join("headset.btsnoop"), &trace.file)?;
     fs::write(Path::new(&dir).join("cut.btsnoop"), &trace.file[..last_but_one + 30])?;
     println!("{} records, {} bytes; the other is cut at {}", trace.starts.len(), trace.file.len(), last_but_one + 30);
+    // A record's header is 24 bytes in btsnoop and 16 in pcap, where the direction's 4 follow; then 6 of the packet are there.
+    let (file, before) = (twin(&trace.file, PLAIN), twin(&trace.file[..last_but_one], PLAIN).len());
+    fs::write(Path::new(&dir).join("headset.pcap"), &file)?;
+    fs::write(Path::new(&dir).join("cut.pcap"), &file[..before + 16 + 4 + 6])?;
+    println!("in pcap {} bytes; the other is cut at {}", file.len(), before + 26);
     let trace = two_adapters()?;
     fs::write(Path::new(&dir).join("two-adapters.btsnoop"), &trace.file)?;
     println!("two adapters: {} records, {} bytes", trace.starts.len(), trace.file.len());

@@ -1,6 +1,6 @@
 /*
  * Lumbryth: the MDR frames that a headset and a phone exchanged, from a recorded
- * Bluetooth trace (a btsnoop file).
+ * Bluetooth trace (a btsnoop or a pcap file).
  *
  * Link with target/staticlib/liblumbryth.a, which `rt staticlib lumbryth` makes
  * (x86-64 Linux). `examples/import.c` shows an import from reading the file to
@@ -23,13 +23,36 @@
  *   lumbryth_is_command_name returns a yes or no instead.
  * - At the front of `values` it stores what it answers or, after a refusal, what
  *   the refusal carries: as many as `values_len` has room for. LUMBRYTH_VALUES
- *   places are room for all, but for lumbryth_gaps, which stores LUMBRYTH_GAPS.
- *   Places past those stay as they were.
+ *   places are room for all, but for lumbryth_gaps and lumbryth_gaps_with, which
+ *   store LUMBRYTH_GAPS. Places past those stay as they were.
  * - What it writes goes to the front of `out`; the bytes of `out` behind that stay
  *   as they were, and after a refusal all of them do.
  * - An output that is too short is refusal 7 (LUMBRYTH_OUT_SHORT), which carries the
  *   length needed. So a call with `out_len` 0 asks for the length. 7 is checked
  *   last: what is refused for another reason is refused so with any output.
+ *
+ *
+ * Traces
+ *
+ * A trace is a file of one of two containers. The caller says which: the calls that take
+ * options do as these say, the others read btsnoop. Nothing is guessed: a file of the one
+ * that is asked for as the other is refused, with 3 or 21.
+ *
+ * - LUMBRYTH_BTSNOOP. 16 bytes of header: "btsnoop", a zero byte, version 1, the
+ *   datalink, 1001, 1002 or 2001. A record is 24 bytes and its packet. Numbers have
+ *   their highest byte first.
+ * - LUMBRYTH_PCAP. 24 bytes of header: the magic number A1B2C3D4 (times have
+ *   microseconds) or A1B23C4D (nanoseconds), 16 bytes that are not looked at, the link
+ *   type, 201. Numbers have their highest or their lowest byte first, as the magic number
+ *   has. A record is 16 bytes (seconds since 1970, fraction, captured length, original
+ *   length, 4 bytes each) and its packet, as many bytes as the captured length says. A
+ *   packet is the direction, 4 bytes, highest first in any file (0 to the headset, 1 from
+ *   it), then the type byte of H4, then the HCI packet. One with another direction, or
+ *   too short to have one and a type, is passed over. There is one adapter, index 0.
+ *
+ * From the packets on, both are read alike: the same packets with the same times give the
+ * same answer, but for offsets. pcapng, which Wireshark saves by default, is neither; it
+ * is saved as pcap by `editcap -F pcap TRACE NEW`.
  *
  *
  * Lists
@@ -76,8 +99,9 @@ extern "C" {
 #define LUMBRYTH_PAYLOAD_MAX 32760   /* the longest payload that is packed */
 #define LUMBRYTH_LIST_MAX 16777216   /* the longest list that is read */
 #define LUMBRYTH_NAME_MAX 118        /* the longest name that is given */
-#define LUMBRYTH_PACKET_MAX 65540    /* the longest packet that there is; a record that says more is damaged */
-#define LUMBRYTH_VALUES 5            /* the most values that a call stores, but for lumbryth_gaps */
+#define LUMBRYTH_PACKET_MAX 65540    /* the longest packet of a btsnoop record; one that says more is damaged */
+#define LUMBRYTH_PCAP_PACKET_MAX 65544 /* the same of a pcap record, which has the direction too, 4 bytes */
+#define LUMBRYTH_VALUES 5            /* the most values that a call stores, but for the gaps */
 
 /* A channel that stands for: any. So does every other number over 255. */
 #define LUMBRYTH_ANY_CHANNEL 256
@@ -87,7 +111,8 @@ extern "C" {
  */
 #define LUMBRYTH_OK 0
 
-/* Of a trace, in the order in which they are checked. */
+/* Of a trace, in the order in which they are checked; of a pcap file, 21 and 22 (below)
+ * stand in the places of 3 and 4. */
 #define LUMBRYTH_FILE_LONG 1     /* the file has over LUMBRYTH_FILE_MAX bytes */
 #define LUMBRYTH_WORK_SHORT 2    /* work has under 8 times the file's length */
 #define LUMBRYTH_NOT_BTSNOOP 3   /* under 16 bytes, or no btsnoop file of version 1 */
@@ -115,6 +140,10 @@ extern "C" {
  * its body has under 8 bytes. A list over LUMBRYTH_LIST_MAX bytes is wrong at 0. */
 #define LUMBRYTH_SPANS_ILL 19        /* a list of spans. Carries: where its first wrong item starts */
 #define LUMBRYTH_NAMES_ILL 20        /* a list of names. Carries: the same */
+
+/* Of a trace that is asked for as pcap. */
+#define LUMBRYTH_NOT_PCAP 21     /* under 24 bytes, or none of the four magic numbers first */
+#define LUMBRYTH_LINK_TYPE 22    /* a link type, all 4 bytes, other than 201. Carries: it */
 
 /*
  * Reads one frame, from its 3E through its 3C, and writes its payload to `out`.
@@ -169,7 +198,7 @@ uint32_t lumbryth_capture_order(const uint8_t *names, size_t names_len,
     uint8_t *out, size_t out_len, uint64_t *values, size_t values_len);
 
 /*
- * Imports a trace: writes a list of spans to `out`, those of one DLCI, in the order
+ * Imports a btsnoop file: writes a list of spans to `out`, those of one DLCI, in the order
  * in which they were complete. It is the first DLCI seen that has a span which
  * unpacks; with a `channel` from 0 to 255, one of that channel.
  *
@@ -190,9 +219,10 @@ uint32_t lumbryth_capture_order(const uint8_t *names, size_t names_len,
  * marker, 3C; a PDU of which only a part was recorded is not counted), tail offset,
  * bytes written.
  * The tail offset is where reading stopped: the file's length, or where the record
- * starts that passes the file's end. If it is less than `file_len`, the file was cut, or
- * is damaged there: no packet has over LUMBRYTH_PACKET_MAX bytes. If it is `file_len`,
- * the file ends at a record's end, and whether more was recorded cannot be seen.
+ * starts that passes the file's end, from the file's start. If it is less than
+ * `file_len`, the file was cut, or is damaged there: no packet has over
+ * LUMBRYTH_PACKET_MAX bytes (in pcap LUMBRYTH_PCAP_PACKET_MAX). If it is `file_len`, the
+ * file ends at a record's end, and whether more was recorded cannot be seen.
  *
  * Refusals: 1 to 7, in this order.
  */
@@ -205,15 +235,20 @@ uint32_t lumbryth_import_strict(const uint8_t *file, size_t file_len,
     uint8_t *work, size_t work_len, uint8_t *out, size_t out_len,
     uint32_t channel, uint64_t *values, size_t values_len);
 
+/* The containers of a trace. */
+#define LUMBRYTH_BTSNOOP 0
+#define LUMBRYTH_PCAP 1
+
 /*
- * What a caller of an import chooses. The call takes it as a list of numbers, its fields,
- * of which there are LUMBRYTH_OPTIONS. Fields that are added later come at the end,
- * and an option that is not in the list has its default, so a caller that passes fewer
- * goes on as before.
+ * What a caller chooses. The calls whose names end with `_with` take it as a list of
+ * numbers, its fields, of which there are LUMBRYTH_OPTIONS. Fields that are added later
+ * come at the end, and an option that is not in the list has its default, so a caller that
+ * passes fewer goes on as before.
  */
 struct lumbryth_options {
-    uint64_t channel;  /* 0 to 255; any other number, and the default: any channel */
-    uint64_t tolerant; /* 0, and the default: the strict rule; any other number: tolerant */
+    uint64_t channel;   /* 0 to 255; any other number, and the default: any channel */
+    uint64_t tolerant;  /* 0, and the default: the strict rule; any other number: tolerant */
+    uint64_t container; /* 0, and the default: btsnoop; any other number: pcap */
 };
 #define LUMBRYTH_OPTIONS (sizeof(struct lumbryth_options) / sizeof(uint64_t))
 
@@ -227,12 +262,15 @@ struct lumbryth_imported {
 };
 
 /*
- * Imports as lumbryth_import does, by a list of options. For example
+ * Imports as lumbryth_import does, by a list of options: a btsnoop or a pcap file. For
+ * example
  *
- *   struct lumbryth_options options = {LUMBRYTH_ANY_CHANNEL, 1};
+ *   struct lumbryth_options options = {LUMBRYTH_ANY_CHANNEL, 1, LUMBRYTH_PCAP};
  *   struct lumbryth_imported answer;
  *   number = lumbryth_import_with(file, file_len, work, work_len, out, out_len,
  *       (const uint64_t *)&options, LUMBRYTH_OPTIONS, (uint64_t *)&answer, LUMBRYTH_VALUES);
+ *
+ * Refusals: 1 to 7, in this order; of pcap 1, 2, 21, 22, 5, 6, 7.
  */
 uint32_t lumbryth_import_with(const uint8_t *file, size_t file_len,
     uint8_t *work, size_t work_len, uint8_t *out, size_t out_len,
@@ -249,8 +287,8 @@ uint32_t lumbryth_import_with(const uint8_t *file, size_t file_len,
  *   link = 4096 * index + handle   handle: 0 to 4095
  *
  * The index is 0 to 65535 in a trace of datalink 2001, whose records tell it, and 0 in
- * one of 1001 or 1002; there `way` is 2 * handle + direction. The three macros below
- * take `way` apart.
+ * one of 1001 or 1002 and in pcap; there `way` is 2 * handle + direction. The three
+ * macros below take `way` apart.
  *
  * Sessions and links are those of the connection, by index and handle, that were counted
  * before the stretch.
@@ -281,15 +319,34 @@ uint32_t lumbryth_import_stretches(const uint8_t *file, size_t file_len,
     uint32_t channel, uint32_t tolerant, uint64_t *values, size_t values_len);
 
 /*
- * Finds the records of a trace: stores where each whole record starts at the front of
- * `starts`, as many as there is room for; places past those stay as they were, and all of
- * them after a refusal. A trace has at most (file_len - 16) / 24 records. A record is 24
+ * The same by a list of options: of a btsnoop or a pcap file. Places, and the refusal
+ * without enough of them, are as there. Refusals: as for lumbryth_import_with.
+ */
+uint32_t lumbryth_import_stretches_with(const uint8_t *file, size_t file_len,
+    uint8_t *work, size_t work_len, struct lumbryth_stretch *stretches, size_t stretches_len,
+    uint8_t *out, size_t out_len,
+    const uint64_t *options, size_t options_len, uint64_t *values, size_t values_len);
+
+/*
+ * Finds the records of a btsnoop file: stores where each whole record starts at the front
+ * of `starts`, as many as there is room for; places past those stay as they were, and all
+ * of them after a refusal. A file has at most (file_len - 16) / 24 records. A record is 24
  * bytes and its packet, whose length stands in its bytes 4 to 7, highest first.
  * Values: number of records, tail offset (as for an import).
  * Refusals: 1, 3, 4.
  */
 uint32_t lumbryth_records(const uint8_t *file, size_t file_len,
     uint64_t *starts, size_t starts_len, uint64_t *values, size_t values_len);
+
+/*
+ * The same by a list of options, of which only the container is looked at: of a btsnoop
+ * or a pcap file. A pcap file has at most (file_len - 24) / 16 records. A record of it is
+ * 16 bytes and its packet, whose length stands in its bytes 8 to 11, in the file's order.
+ * Refusals: 1, 3, 4; of pcap 1, 21, 22.
+ */
+uint32_t lumbryth_records_with(const uint8_t *file, size_t file_len,
+    uint64_t *starts, size_t starts_len,
+    const uint64_t *options, size_t options_len, uint64_t *values, size_t values_len);
 
 /*
  * A sign that something is not in a trace: how many there are, and the byte of the file
@@ -301,10 +358,11 @@ struct lumbryth_gap {
     uint64_t first;
 };
 
-/* What lumbryth_gaps stores in `values`, with room for LUMBRYTH_GAPS. */
+/* What lumbryth_gaps and lumbryth_gaps_with store in `values`, with room for
+ * LUMBRYTH_GAPS. */
 struct lumbryth_signs {
-    struct lumbryth_gap stored_short; /* records whose original length is over the included one */
-    struct lumbryth_gap dropped;      /* packets that the recorder says it dropped */
+    struct lumbryth_gap stored_short; /* records whose original length is over the stored one */
+    struct lumbryth_gap dropped;      /* packets that the recorder says it dropped; in pcap it cannot */
     struct lumbryth_gap skipped;      /* ACL packets without one of their fields, or their data */
     struct lumbryth_gap zeros;        /* records of zeros */
     struct lumbryth_gap stray;        /* continuations with nothing open */
@@ -314,7 +372,7 @@ struct lumbryth_signs {
 #define LUMBRYTH_GAPS (sizeof(struct lumbryth_signs) / sizeof(uint64_t))
 
 /*
- * Finds the signs in a trace that something is not in it. Which DLCI they are of is not
+ * Finds the signs in a btsnoop file that something is not in it. Which DLCI they are of is not
  * asked: they are those of the whole records of the file. Without any, something may be
  * missing all the same, as what leaves no sign cannot be seen.
  *
@@ -334,6 +392,16 @@ struct lumbryth_signs {
  */
 uint32_t lumbryth_gaps(const uint8_t *file, size_t file_len,
     uint8_t *work, size_t work_len, uint32_t tolerant, uint64_t *values, size_t values_len);
+
+/*
+ * The same by a list of options, of which the rule and the container are looked at: of a
+ * btsnoop or a pcap file. In pcap a record is stored short if its original length is over
+ * its captured length, and `dropped` is always 0 and 0: its records have no such count.
+ * Refusals: 1 to 5, in this order; of pcap 1, 2, 21, 22, 5.
+ */
+uint32_t lumbryth_gaps_with(const uint8_t *file, size_t file_len,
+    uint8_t *work, size_t work_len,
+    const uint64_t *options, size_t options_len, uint64_t *values, size_t values_len);
 
 #ifdef __cplusplus
 }

@@ -1,4 +1,6 @@
-//! Writes btsnoop files: records, ACL packets, L2CAP PDUs, RFCOMM frames.
+//! Writes btsnoop files: records, ACL packets, L2CAP PDUs, RFCOMM frames. Beside it, the same packets in pcap.
+
+pub mod pcap;
 
 use lumbryth::Direction::{self, Rx};
 

@@ -4,21 +4,17 @@ use std::fmt::Write;
 
 use crate::losses;
 use crate::report::{end_fields, end_of, sentence};
-use crate::words::{capital, count, named, null_or, object, string, way};
-use look::{Channel, Dlci, Handle, Link, Seen, Share, Standing};
+use crate::words::{capital, count, datalink, datalink_fields, named, null_or, object, string, way};
+use look::{Channel, Dlci, Handle, Link, Seen, Share, Standing, Trace};
 use lumbryth::Gaps;
 
 /// How import is asked to read the file: one that ends inside a record is read by the tolerant rule only.
-fn import(file: &[u8], seen: &Seen) -> &'static str {
-    if seen.tail < file.len() {
+fn import(trace: Trace, seen: &Seen) -> &'static str {
+    if seen.tail < trace.file.len() {
         "import --tolerant"
     } else {
         "import"
     }
-}
-
-fn datalink(file: &[u8]) -> u32 {
-    u32::from_be_bytes([file[12], file[13], file[14], file[15]])
 }
 
 fn channels(seen: &Seen) -> usize {
@@ -142,24 +138,24 @@ fn none(seen: &Seen) -> Option<&'static str> {
 }
 
 /// Handles, channels and DLCIs, a line for each fact.
-pub fn text(file: &[u8], seen: &Seen, gaps: &Gaps) -> String {
-    let (import, adapters) = (import(file, seen), seen.adapters().len());
+pub fn text(trace: Trace, seen: &Seen, gaps: &Gaps) -> String {
+    let (import, adapters) = (import(trace, seen), seen.adapters().len());
     let several = adapters > 1;
     let mut text = if several { format!("{adapters} adapters, ") } else { String::new() };
     let _ = writeln!(
         text,
-        "{}, {}, {}: datalink {}.",
+        "{}, {}, {}: {}.",
         count(seen.handles.len(), "handle", "handles"),
         count(channels(seen), "channel", "channels"),
         count(seen.dlcis.len(), "DLCI", "DLCIs"),
-        datalink(file),
+        datalink(trace),
     );
-    let (words, ends) = end_of(file).unwrap_or_default();
+    let (words, ends) = end_of(trace).unwrap_or_default();
     let _ = writeln!(text, "{}", sentence(&words));
     if ends {
         text += "Whatever came later is missing.\n";
     }
-    text += &losses::lines(file, gaps);
+    text += &losses::lines(trace, gaps);
     text.extend(seen.handles.iter().map(|handle| handle_lines(handle, several)));
     text.extend(seen.dlcis.iter().map(|dlci| dlci_lines(import, seen, dlci, several)));
     if let Some(words) = none(seen) {
@@ -169,17 +165,17 @@ pub fn text(file: &[u8], seen: &Seen, gaps: &Gaps) -> String {
 }
 
 /// What `text` says, an object a line.
-pub fn objects(file: &[u8], seen: &Seen, gaps: &Gaps) -> String {
-    let mut fields = vec![
-        ("kind", string("file")),
-        ("datalink", datalink(file).to_string()),
+pub fn objects(trace: Trace, seen: &Seen, gaps: &Gaps) -> String {
+    let mut fields = vec![("kind", string("file"))];
+    fields.extend(datalink_fields(trace));
+    fields.extend([
         ("records", seen.records.to_string()),
         ("adapters", seen.adapters().len().to_string()),
         ("taken", null_or(seen.taken(None).map(|dlci| dlci.dlci))),
         ("reason", none(seen).map_or("null".to_string(), string)),
-    ];
-    fields.extend(end_fields(file));
-    fields.push(("losses", losses::fields(file, gaps)));
+    ]);
+    fields.extend(end_fields(trace));
+    fields.push(("losses", losses::fields(trace, gaps)));
     let mut text = object(&fields);
     for handle in &seen.handles {
         text += &object(&[
@@ -255,8 +251,8 @@ fn others(seen: &Seen, taken: Option<u8>) -> impl Iterator<Item = &Dlci> {
 }
 
 /// What other DLCIs have frames than the one taken, if one is: a sentence each.
-pub fn other_lines(file: &[u8], taken: Option<u8>) -> Vec<String> {
-    let Ok(seen) = look::look(file) else { return Vec::new() };
+pub fn other_lines(trace: Trace, taken: Option<u8>) -> Vec<String> {
+    let Ok(seen) = look::look(trace) else { return Vec::new() };
     let line = |dlci: &Dlci| {
         let (number, channel) = (dlci.dlci, dlci.channel());
         let frames = count(dlci.all.frames, "frame that unpacks", "frames that unpack");
@@ -276,8 +272,8 @@ pub fn other_lines(file: &[u8], taken: Option<u8>) -> Vec<String> {
 }
 
 /// What `other_lines` says, an object a line.
-pub fn other_objects(file: &[u8], taken: u8) -> String {
-    let Ok(seen) = look::look(file) else { return String::new() };
+pub fn other_objects(trace: Trace, taken: u8) -> String {
+    let Ok(seen) = look::look(trace) else { return String::new() };
     let other = |dlci: &Dlci| {
         object(&[
             ("kind", string("other")),

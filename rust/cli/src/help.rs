@@ -11,7 +11,7 @@ usage: lumbryth import TRACE --out DIR [options]
 
 pub const ALL: &str = "\
 lumbryth: the MDR frames that a headset and a phone exchanged, from a recorded
-Bluetooth trace (a btsnoop file of at most 1048576 bytes)
+Bluetooth trace (a btsnoop or pcap file of at most 1048576 bytes)
 
 usage: lumbryth import TRACE --out DIR [options]   write each frame to a file
        lumbryth frames TRACE [options]             list the frames
@@ -20,6 +20,10 @@ usage: lumbryth import TRACE --out DIR [options]   write each frame to a file
        lumbryth check DIR [TRACE] [options]        check what import wrote
        lumbryth COMMAND --help                     more about a command
        lumbryth --version
+
+TRACE is a btsnoop file, or a pcap file of link type 201, Bluetooth HCI H4 with
+pseudo-header; its first bytes tell which. A pcapng file, which Wireshark saves by default,
+has to be saved as pcap first: editcap -F pcap TRACE NEW
 
 Exit status: 0 if it was done; 1 if it was refused or something could not be read or
 written, with the reason on standard error; 2 if the command line is wrong.
@@ -61,7 +65,8 @@ that were not complete are not counted there.
 Losses that the file itself shows are told, a line each: what, how many, at which byte
 first. They are of the whole file. Hints come after them and are less: by the frames alone,
 what may be missing, such as the answer to a question. Where neither is told, something
-may be missing all the same.
+may be missing all the same. What the recorder dropped, by its own count, only a btsnoop
+file can tell.
 
 A trace of the Linux monitor may have more than one Bluetooth adapter. Then what is
 unfinished, and a loss that is an adapter's, is told with the adapter. The frames of all
@@ -94,10 +99,10 @@ pub const RECORDS: &str = "\
 usage: lumbryth records TRACE [options]
 
 Lists the records of TRACE: what the packet is, direction (rx is from the headset or the
-controller), number, length of the packet, the byte that the record starts at, time (UTC).
-Before them stand the losses that the file shows. A file that ends inside a record is
-listed up to there. If the trace has more than one adapter, each packet is told with its
-adapter.
+controller), number, length of the packet (in pcap with the 4 bytes of its direction), the
+byte that the record starts at, time (UTC). Before them stand the losses that the file
+shows. A file that ends inside a record is listed up to there. If the trace has more than
+one adapter, each packet is told with its adapter.
 
   --json           an object a line: file, then record
   --               what follows is no option

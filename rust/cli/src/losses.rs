@@ -1,7 +1,7 @@
 //! What a trace shows of what is not in it, in words: a sentence for people, a fact for the list of a set, an object for programs.
 
 use crate::words::{count, null_or, object, several};
-use look::adapter_at;
+use look::Trace;
 use lumbryth::{Gap, Gaps};
 
 /// The words for a sign: for one, and for more.
@@ -94,8 +94,8 @@ pub struct Loss {
     several: bool,
 }
 
-/// The signs that are seen in a file.
-pub fn seen(file: &[u8], gaps: &Gaps) -> Vec<Loss> {
+/// The signs that are seen in a trace.
+pub fn seen(trace: Trace, gaps: &Gaps) -> Vec<Loss> {
     let all: [(&'static Words, &Gap); 7] = [
         (&SHORT, &gaps.short),
         (&DROPPED, &gaps.dropped),
@@ -105,10 +105,10 @@ pub fn seen(file: &[u8], gaps: &Gaps) -> Vec<Loss> {
         (&GIVEN_UP, &gaps.given_up),
         (&OPEN, &gaps.open),
     ];
-    let several = several(file);
+    let several = several(trace);
     let loss = |(words, gap): (&'static Words, &Gap)| {
         let first = gap.first?;
-        let adapter = adapter_at(file, first).filter(|_| words.of_adapter);
+        let adapter = trace.record(first).adapter.filter(|_| words.of_adapter);
         Some(Loss { words, count: gap.count as usize, first, adapter, several })
     };
     all.into_iter().filter_map(loss).collect()
@@ -135,16 +135,16 @@ impl Loss {
 }
 
 /// A line for each sign that is seen.
-pub fn lines(file: &[u8], gaps: &Gaps) -> String {
-    seen(file, gaps).iter().map(|loss| format!("{}\n", loss.sentence())).collect()
+pub fn lines(trace: Trace, gaps: &Gaps) -> String {
+    seen(trace, gaps).iter().map(|loss| format!("{}\n", loss.sentence())).collect()
 }
 
 /// What a list says where no sign is seen.
 pub const NONE: &str = "none seen";
 
 /// The facts for a list.
-pub fn facts(file: &[u8], gaps: &Gaps) -> Vec<String> {
-    let seen = seen(file, gaps);
+pub fn facts(trace: Trace, gaps: &Gaps) -> Vec<String> {
+    let seen = seen(trace, gaps);
     if seen.is_empty() {
         return vec![NONE.to_string()];
     }
@@ -152,7 +152,7 @@ pub fn facts(file: &[u8], gaps: &Gaps) -> Vec<String> {
 }
 
 /// The signs that are seen as one object, by name: how often, where first, and of which adapter that is.
-pub fn fields(file: &[u8], gaps: &Gaps) -> String {
+pub fn fields(trace: Trace, gaps: &Gaps) -> String {
     let of = |loss: &Loss| {
         object(&[
             ("count", loss.count.to_string()),
@@ -160,7 +160,7 @@ pub fn fields(file: &[u8], gaps: &Gaps) -> String {
             ("adapter", null_or(loss.adapter)),
         ])
     };
-    let seen = seen(file, gaps);
+    let seen = seen(trace, gaps);
     let fields: Vec<(&str, String)> =
         seen.iter().map(|loss| (loss.words.name, of(loss).trim_end().to_string())).collect();
     object(&fields).trim_end().to_string()
@@ -169,6 +169,7 @@ pub fn fields(file: &[u8], gaps: &Gaps) -> String {
 #[cfg(test)]
 mod tests {
     use super::{facts, fields, lines};
+    use look::Trace;
     use lumbryth::{Gap, Gaps};
 
     fn set(gap: &mut Gap, count: u64, first: usize) {
@@ -208,8 +209,8 @@ mod tests {
     #[test]
     fn none() {
         let gaps = Gaps::default();
-        assert_eq!((lines(&FILE, &gaps), fields(&FILE, &gaps)), (String::new(), "{}".into()));
-        assert_eq!(facts(&FILE, &gaps), ["none seen"]);
+        assert_eq!((lines(Trace::of(&FILE), &gaps), fields(Trace::of(&FILE), &gaps)), (String::new(), "{}".into()));
+        assert_eq!(facts(Trace::of(&FILE), &gaps), ["none seen"]);
     }
 
     #[test]
@@ -223,9 +224,9 @@ Without a beginning: 1 packet, at byte 20. What it continues is not in the file.
 Broken off: 1 message, at byte 21, where another begins. Its rest is not in the file.
 Open at the end: 1 message, begun at byte 22. Its rest is not in the file.
 ";
-        assert_eq!(lines(&FILE, &each(1, 1)), text);
+        assert_eq!(lines(Trace::of(&FILE), &each(1, 1)), text);
         // The same of any one adapter.
-        assert_eq!(lines(&monitored(&[0x3_0004, 0x3_0005]), &each(1, 1)), text);
+        assert_eq!(lines(Trace::of(&monitored(&[0x3_0004, 0x3_0005])), &each(1, 1)), text);
     }
 
     #[test]
@@ -239,7 +240,7 @@ Without a beginning: 3 packets, the first at byte 20. What they continue is not 
 Broken off: 3 messages, the first at byte 21, where another begins. Their rest is not in the file.
 Open at the end: 3 messages, the first begun at byte 22. Their rest is not in the file.
 ";
-        assert_eq!(lines(&FILE, &each(3, 1)), text);
+        assert_eq!(lines(Trace::of(&FILE), &each(3, 1)), text);
     }
 
     #[test]
@@ -251,9 +252,9 @@ Open at the end: 3 messages, the first begun at byte 22. Their rest is not in th
             "stored short, 1 record, at byte 16",
             "broken off, 2 messages, the first at byte 40, where another begins",
         ];
-        assert_eq!(facts(&FILE, &gaps), told);
+        assert_eq!(facts(Trace::of(&FILE), &gaps), told);
         assert_eq!(
-            fields(&FILE, &gaps),
+            fields(Trace::of(&FILE), &gaps),
             r#"{"short":{"count":1,"first":16,"adapter":0},"given_up":{"count":2,"first":40,"adapter":0}}"#
         );
     }
@@ -271,7 +272,7 @@ Without a beginning: 1 packet, at byte 128 on adapter 0. What it continues is no
 Broken off: 1 message, at byte 156 on adapter 1, where another begins. Its rest is not in the file.
 Open at the end: 1 message, begun at byte 184 on adapter 0. Its rest is not in the file.
 ";
-        assert_eq!(lines(&file, &each(1, 28)), text);
+        assert_eq!(lines(Trace::of(&file), &each(1, 28)), text);
         let mut gaps = Gaps::default();
         set(&mut gaps.dropped, 5, 44);
         set(&mut gaps.given_up, 2, 156);
@@ -279,16 +280,16 @@ Open at the end: 1 message, begun at byte 184 on adapter 0. Its rest is not in t
             "dropped by the recorder, 5 packets, first told at byte 44",
             "broken off, 2 messages, the first at byte 156 on adapter 1, where another begins",
         ];
-        assert_eq!(facts(&file, &gaps), told);
+        assert_eq!(facts(Trace::of(&file), &gaps), told);
         assert_eq!(
-            fields(&file, &gaps),
+            fields(Trace::of(&file), &gaps),
             r#"{"dropped":{"count":5,"first":44,"adapter":null},"given_up":{"count":2,"first":156,"adapter":1}}"#
         );
         // A record that has no packet is of no adapter.
         let file = monitored(&[0xFFFF_000C, 4, 0x1_0004]);
         let mut gaps = Gaps::default();
         set(&mut gaps.short, 1, 16);
-        assert_eq!(facts(&file, &gaps), ["stored short, 1 record, at byte 16"]);
-        assert_eq!(fields(&file, &gaps), r#"{"short":{"count":1,"first":16,"adapter":null}}"#);
+        assert_eq!(facts(Trace::of(&file), &gaps), ["stored short, 1 record, at byte 16"]);
+        assert_eq!(fields(Trace::of(&file), &gaps), r#"{"short":{"count":1,"first":16,"adapter":null}}"#);
     }
 }

@@ -11,6 +11,7 @@ mod hints;
 mod losses;
 #[allow(unsafe_code)]
 mod os;
+mod refused;
 mod report;
 mod set;
 mod sha256;
@@ -27,7 +28,9 @@ use std::process::ExitCode;
 
 use args::{Check, Command, Import, Look};
 use check::Fault;
-use lumbryth::{gaps, import_stretches, plan, records, Fixture, Gaps, Imported, Refusal, Stretch, TailRule};
+use look::Trace;
+use lumbryth::{import_stretches_with, plan, Fixture, Gaps, Imported, Stretch, TailRule};
+use refused::refused;
 use set::Set;
 use words::{count, shown};
 use write::Stopped;
@@ -109,51 +112,26 @@ struct Found {
     gaps: Gaps,
 }
 
+impl Found {
+    fn trace(&self) -> Trace<'_> {
+        Trace::of(&self.file)
+    }
+}
+
 /// Reads and imports a trace; what is refused is told in words.
 fn found(look: &Look) -> Result<Found, Failure> {
     imported(look, source::read(&look.trace).map_err(Failure::Refused)?)
 }
 
 fn imported(look: &Look, file: Vec<u8>) -> Result<Found, Failure> {
-    let rule = if look.tolerant { TailRule::Tolerant } else { TailRule::Strict };
-    match import_stretches(&file, look.channel, rule).and_then(|found| Ok((found, gaps(&file, rule)?))) {
+    let trace = Trace::of(&file);
+    let tail = if look.tolerant { TailRule::Tolerant } else { TailRule::Strict };
+    let mut options = trace.options().with_tail(tail);
+    options.channel = look.channel;
+    match import_stretches_with(&file, &options).and_then(|found| Ok((found, trace.gaps(tail)?))) {
         Ok(((imported, open), gaps)) => Ok(Found { file, imported, open, gaps }),
-        Err(refusal) => Err(Failure::Refused(refused(&look.trace, look.channel, &file, refusal))),
+        Err(refusal) => Err(Failure::Refused(refused(&look.trace, look.channel, trace, refusal))),
     }
-}
-
-/// A refusal of a trace, with its number, in words that fit what was asked.
-fn refused(trace: &Path, channel: Option<u8>, file: &[u8], refusal: Refusal) -> String {
-    let end = report::end_of(file);
-    let words = match (refusal, end) {
-        (Refusal::NotBtsnoop, _) if file.is_empty() => "the file is empty".to_string(),
-        (Refusal::NotBtsnoop, _) if file.len() < 16 => {
-            format!("the file has only {}, and a btsnoop header has 16", count(file.len(), "byte", "bytes"))
-        }
-        (Refusal::Truncated { .. }, Some((words, _))) => words,
-        (Refusal::NoStream, Some((words, _))) => {
-            let place = channel.map_or("in the trace".to_string(), |channel| format!("on channel {channel}"));
-            format!("nothing {place} unpacks as a frame; {words}")
-        }
-        (other, _) => other.to_string(),
-    };
-    let hint = match refusal {
-        Refusal::FileLong => {
-            "\nlumbryth: record a shorter log; a file that is trimmed by hand loses frames and does not tell"
-        }
-        Refusal::Truncated { .. } => "\nlumbryth: --tolerant keeps what was complete before that",
-        Refusal::NoStream => "\nlumbryth: see lumbryth channels, which shows what there is and why it is not taken",
-        _ => "",
-    };
-    // On another channel than the one asked for there may be frames; and why nothing is found may be that it is not in the file.
-    let mut more: Vec<String> = Vec::new();
-    if refusal == Refusal::NoStream {
-        more.extend(channels::other_lines(file, None));
-        let lost = gaps(file, TailRule::Tolerant).unwrap_or_default();
-        more.extend(losses::seen(file, &lost).iter().map(|loss| loss.sentence()));
-    }
-    let more: String = more.iter().map(|line| format!("\nlumbryth: {line}")).collect();
-    format!("refused ({}): {words}: {}{more}{hint}", refusal.number(), shown(trace))
 }
 
 /// The fixtures of an import, and the list of their set.
@@ -161,22 +139,22 @@ fn planned(look: &Look, exclude: &[String], found: &Found) -> Result<(Vec<Fixtur
     let fixtures = plan(&found.imported.spans, exclude).map_err(|refusal| {
         Failure::Refused(format!("refused ({}): {refusal}: {}", refusal.number(), shown(&look.trace)))
     })?;
-    let set = Set::of(&found.file, look, exclude, &found.imported, &found.gaps, &fixtures);
+    let set = Set::of(found.trace(), look, exclude, &found.imported, &found.gaps, &fixtures);
     Ok((fixtures, set))
 }
 
 /// The other DLCIs that carry frames, a line each.
-fn others(file: &[u8], imported: &Imported) -> String {
-    channels::other_lines(file, Some(imported.dlci)).iter().map(|line| format!("{line}\n")).collect()
+fn others(trace: Trace, imported: &Imported) -> String {
+    channels::other_lines(trace, Some(imported.dlci)).iter().map(|line| format!("{line}\n")).collect()
 }
 
 fn run_import(options: &Import) -> Result<(), Failure> {
     let found = found(&options.look)?;
     let (fixtures, set) = planned(&options.look, &options.exclude, &found)?;
-    let Found { file, imported, open, gaps } = &found;
-    let mut findings = report::findings(file, imported, open, options.look.channel.is_some(), "among the fixtures");
-    findings += &report::missing(file, imported, gaps);
-    findings += &others(file, imported);
+    let (trace, Found { imported, open, gaps, .. }) = (found.trace(), &found);
+    let mut findings = report::findings(trace, imported, open, options.look.channel.is_some(), "among the fixtures");
+    findings += &report::missing(trace, imported, gaps);
+    findings += &others(trace, imported);
     let excluded = imported.frames - report::broken(imported) - fixtures.len();
     if !options.exclude.is_empty() {
         findings += &format!("{} left out by --exclude.\n", count(excluded, "frame", "frames"));
@@ -192,29 +170,32 @@ fn run_import(options: &Import) -> Result<(), Failure> {
 }
 
 fn run_frames(look: &Look, json: bool) -> Result<(), Failure> {
-    let Found { file, imported, open, gaps } = found(look)?;
+    let found = found(look)?;
+    let (trace, Found { imported, open, gaps, .. }) = (found.trace(), &found);
     if json {
-        let others = channels::other_objects(&file, imported.dlci);
-        return print(&(report::frame_objects(&file, &imported, &open, &gaps) + &others));
+        let others = channels::other_objects(trace, imported.dlci);
+        return print(&(report::frame_objects(trace, imported, open, gaps) + &others));
     }
-    let mut findings = report::findings(&file, &imported, &open, look.channel.is_some(), "listed");
-    findings += &report::missing(&file, &imported, &gaps);
-    findings += &others(&file, &imported);
-    print(&(findings + &report::frames(&imported)))
+    let mut findings = report::findings(trace, imported, open, look.channel.is_some(), "listed");
+    findings += &report::missing(trace, imported, gaps);
+    findings += &others(trace, imported);
+    print(&(findings + &report::frames(imported)))
 }
 
-fn run_records(trace: &Path, json: bool) -> Result<(), Failure> {
-    let file = source::read(trace).map_err(Failure::Refused)?;
-    let told = |refusal| Failure::Refused(refused(trace, None, &file, refusal));
-    let (found, gaps) = (records(&file).map_err(told)?, gaps(&file, TailRule::Tolerant).map_err(told)?);
-    print(&if json { report::record_objects(&file, &found, &gaps) } else { report::records(&file, &found, &gaps) })
+fn run_records(path: &Path, json: bool) -> Result<(), Failure> {
+    let file = source::read(path).map_err(Failure::Refused)?;
+    let trace = Trace::of(&file);
+    let told = |refusal| Failure::Refused(refused(path, None, trace, refusal));
+    let (found, gaps) = (trace.records().map_err(told)?, trace.gaps(TailRule::Tolerant).map_err(told)?);
+    print(&if json { report::record_objects(trace, &found, &gaps) } else { report::records(trace, &found, &gaps) })
 }
 
-fn run_channels(trace: &Path, json: bool) -> Result<(), Failure> {
-    let file = source::read(trace).map_err(Failure::Refused)?;
-    let told = |refusal| Failure::Refused(refused(trace, None, &file, refusal));
-    let (seen, gaps) = (look::look(&file).map_err(told)?, gaps(&file, TailRule::Tolerant).map_err(told)?);
-    print(&if json { channels::objects(&file, &seen, &gaps) } else { channels::text(&file, &seen, &gaps) })
+fn run_channels(path: &Path, json: bool) -> Result<(), Failure> {
+    let file = source::read(path).map_err(Failure::Refused)?;
+    let trace = Trace::of(&file);
+    let told = |refusal| Failure::Refused(refused(path, None, trace, refusal));
+    let (seen, gaps) = (look::look(trace).map_err(told)?, trace.gaps(TailRule::Tolerant).map_err(told)?);
+    print(&if json { channels::objects(trace, &seen, &gaps) } else { channels::text(trace, &seen, &gaps) })
 }
 
 fn run_check(options: &Check) -> Result<(), Failure> {

@@ -6,10 +6,12 @@ use std::path::Path;
 use crate::hints::{self, Hint, Kind};
 use crate::losses;
 use crate::time::utc;
-use crate::words::{capital, count, hex, named, null_or, object, several, shown, string, way};
+use crate::words::{
+    capital, count, datalink, datalink_fields, hex, named, null_or, object, several, shown, string, way,
+};
 use crate::write::Done;
-use look::{adapter_at, adapters, Link};
-use lumbryth::{ending, unpack, Cut, Direction, Ending, Gaps, Imported, Records, Stretch, PACKET_MAX};
+use look::{adapters, Kind as Held, Link, Trace};
+use lumbryth::{unpack, Cut, Direction, Ending, Gaps, Imported, Records, Stretch};
 
 /// How many spans do not unpack.
 pub fn broken(imported: &Imported) -> usize {
@@ -27,7 +29,7 @@ fn bytes_of(cut: Cut) -> String {
 }
 
 /// What is seen of a file's end, without a full stop; and whether it is more than that the end is at a record's end.
-pub fn end(file: &[u8], ending: Ending) -> (String, bool) {
+fn end(trace: Trace, ending: Ending) -> (String, bool) {
     match ending {
         Ending::Inside(cut) => {
             (format!("the file ends inside the record that starts at byte {}: {}", cut.offset, bytes_of(cut)), true)
@@ -35,7 +37,8 @@ pub fn end(file: &[u8], ending: Ending) -> (String, bool) {
         Ending::Length { offset, length } => (
             format!(
                 "the file is damaged: the record that starts at byte {offset} gives its packet {length} bytes, \
-                 and no packet has over {PACKET_MAX}"
+                 and no packet has over {}",
+                trace.container.packet_max()
             ),
             true,
         ),
@@ -43,15 +46,16 @@ pub fn end(file: &[u8], ending: Ending) -> (String, bool) {
             (format!("the file is damaged: from byte {offset} to its end there are zeros only, {n} of them"), true)
         }
         _ => {
-            let place = if file.len() == 16 { "after its header" } else { "at a record's end" };
+            let bare = trace.file.len() == trace.container.header();
+            let place = if bare { "after its header" } else { "at a record's end" };
             (format!("the file ends {place}, so whether more was recorded cannot be seen"), false)
         }
     }
 }
 
 /// How a file ends, in words; a file that has no records to look at says nothing.
-pub fn end_of(file: &[u8]) -> Option<(String, bool)> {
-    ending(file).ok().map(|ending| end(file, ending))
+pub fn end_of(trace: Trace) -> Option<(String, bool)> {
+    trace.ending().ok().map(|ending| end(trace, ending))
 }
 
 /// A text with a capital and a full stop.
@@ -87,7 +91,7 @@ fn unfinished(open: &[Stretch], several: bool) -> Vec<String> {
 
 /// What an import found. `open` are the stretches that hold bytes at the end, `asked` is whether it was asked for a channel, and
 /// `place` is where the frames are: among the fixtures, or listed.
-pub fn findings(file: &[u8], imported: &Imported, open: &[Stretch], asked: bool, place: &str) -> String {
+pub fn findings(trace: Trace, imported: &Imported, open: &[Stretch], asked: bool, place: &str) -> String {
     let mut text = format!(
         "{}, {}: DLCI {}, channel {}.\n",
         count(imported.frames, "frame", "frames"),
@@ -99,7 +103,7 @@ pub fn findings(file: &[u8], imported: &Imported, open: &[Stretch], asked: bool,
         imported.dlci,
         imported.dlci / 2,
     );
-    let adapters = adapters(file).len();
+    let adapters = adapters(trace).len();
     if adapters > 1 {
         let _ = writeln!(
             text,
@@ -112,7 +116,7 @@ pub fn findings(file: &[u8], imported: &Imported, open: &[Stretch], asked: bool,
         let _ = writeln!(text, "Unfinished on DLCI {}: nothing is held without an end marker.", imported.dlci);
     }
     unfinished.iter().for_each(|sentence| text += &format!("{sentence}\n"));
-    let (words, seen) = end_of(file).unwrap_or_default();
+    let (words, seen) = end_of(trace).unwrap_or_default();
     let _ = writeln!(text, "{}", sentence(&words));
     if seen {
         let _ = writeln!(text, "Kept: {}, complete before that.", count(imported.frames, "frame", "frames"));
@@ -127,16 +131,16 @@ pub fn findings(file: &[u8], imported: &Imported, open: &[Stretch], asked: bool,
 }
 
 /// The hints that the frames give. That the end may be missing is none where the file tells it.
-fn hints_of(file: &[u8], imported: &Imported) -> Vec<Hint> {
-    let told = end_of(file).is_some_and(|(_, seen)| seen);
+fn hints_of(trace: Trace, imported: &Imported) -> Vec<Hint> {
+    let told = end_of(trace).is_some_and(|(_, seen)| seen);
     hints::hints(&imported.spans).into_iter().filter(|hint| hint.kind != Kind::End || !told).collect()
 }
 
 /// What is not in the trace: the signs of it that are seen, then hints.
-pub fn missing(file: &[u8], imported: &Imported, gaps: &Gaps) -> String {
-    let mut text = losses::lines(file, gaps);
-    let hints = hints_of(file, imported);
-    if !hints.is_empty() && several(file) {
+pub fn missing(trace: Trace, imported: &Imported, gaps: &Gaps) -> String {
+    let mut text = losses::lines(trace, gaps);
+    let hints = hints_of(trace, imported);
+    if !hints.is_empty() && several(trace) {
         text += "Hints go by the one list of frames: they may take a frame of one adapter for one of another.\n";
     }
     text + &hints::lines(&hints)
@@ -176,8 +180,8 @@ pub fn frames(imported: &Imported) -> String {
 }
 
 /// How the file ends, as fields of an object.
-pub fn end_fields(file: &[u8]) -> Vec<(&'static str, String)> {
-    let (name, mut fields) = match ending(file) {
+pub fn end_fields(trace: Trace) -> Vec<(&'static str, String)> {
+    let (name, mut fields) = match trace.ending() {
         Ok(Ending::Inside(cut)) => {
             let missing = null_or(cut.missing);
             (
@@ -198,15 +202,15 @@ pub fn end_fields(file: &[u8]) -> Vec<(&'static str, String)> {
 }
 
 /// What `findings`, `missing` and `frames` say, an object a line.
-pub fn frame_objects(file: &[u8], imported: &Imported, open: &[Stretch], gaps: &Gaps) -> String {
+pub fn frame_objects(trace: Trace, imported: &Imported, open: &[Stretch], gaps: &Gaps) -> String {
     let numbers =
         [("dlci", imported.dlci as usize), ("channel", imported.dlci as usize / 2), ("frames", imported.frames)];
     let mut fields = vec![("kind", string("import"))];
     fields.extend(numbers.map(|(name, number)| (name, number.to_string())));
     fields.push(("unfinished", imported.unfinished.to_string()));
-    fields.push(("adapters", adapters(file).len().to_string()));
-    fields.extend(end_fields(file));
-    fields.push(("losses", losses::fields(file, gaps)));
+    fields.push(("adapters", adapters(trace).len().to_string()));
+    fields.extend(end_fields(trace));
+    fields.push(("losses", losses::fields(trace, gaps)));
     let mut text = object(&fields);
     for stretch in open {
         text += &object(&[
@@ -218,7 +222,7 @@ pub fn frame_objects(file: &[u8], imported: &Imported, open: &[Stretch], gaps: &
             ("held", stretch.held.to_string()),
         ]);
     }
-    text += &hints::objects(&hints_of(file, imported));
+    text += &hints::objects(&hints_of(trace, imported));
     for (counter, span) in (1..).zip(&imported.spans) {
         let mut fields = vec![
             ("kind", string("frame")),
@@ -245,47 +249,25 @@ pub fn frame_objects(file: &[u8], imported: &Imported, open: &[Stretch], gaps: &
     text
 }
 
-/// 1970 in a trace: microseconds since the year 0.
-const EPOCH: u64 = 0x00dc_ddb3_0f2f_8000;
-
-fn number(bytes: &[u8]) -> u64 {
-    bytes.iter().fold(0, |n, &byte| n << 8 | u64::from(byte))
-}
-
-/// Which way a record's packet went, if that is told, and what it is, as the import reads it; with the adapter if one is given.
-fn kind(datalink: u64, flags: u64, packet: &[u8], adapter: Option<u16>) -> (Option<&'static str>, String) {
-    let (way, name) = if datalink == 2001 {
-        match flags & 0xFFFF {
-            2 => (Some("tx"), "command"),
-            3 => (Some("rx"), "event"),
-            4 => (Some("tx"), "ACL data"),
-            5 => (Some("rx"), "ACL data"),
-            _ => (None, "other"),
-        }
-    } else {
-        let way = if flags & 1 == 0 { "tx" } else { "rx" };
-        let name = match (flags & 2, datalink, packet.first()) {
-            (0, 1001, _) | (0, _, Some(2)) => "ACL data",
-            (0, ..) => "other",
-            _ if way == "tx" => "command",
-            _ => "event",
-        };
-        (Some(way), name)
+/// What a record's packet is, as the import reads it; with the adapter if the trace has several.
+fn what(record: &look::Record, several: bool) -> String {
+    let (name, data) = match record.kind {
+        Held::Command => ("command", None),
+        Held::Event => ("event", None),
+        Held::Data(bytes) => ("ACL data", bytes.get(..2)),
+        Held::Other => ("other", None),
     };
     let mut what = name.to_string();
-    adapter.into_iter().for_each(|adapter| what += &format!(", adapter {adapter}"));
-    let acl = if datalink == 1002 { packet.get(1..) } else { Some(packet) };
-    match acl.and_then(|acl| acl.get(..2)) {
-        Some(field) if name == "ACL data" => {
-            let handle = u16::from(field[1] & 0x0F) << 8 | u16::from(field[0]);
-            let part = if field[1] >> 4 & 3 == 1 { "continues a PDU" } else { "begins a PDU" };
-            (way, format!("{what}, handle {handle}, {part}"))
-        }
-        _ => (way, what),
+    record.adapter.filter(|_| several).into_iter().for_each(|adapter| what += &format!(", adapter {adapter}"));
+    if let Some(field) = data {
+        let handle = u16::from(field[1] & 0x0F) << 8 | u16::from(field[0]);
+        let part = if field[1] >> 4 & 3 == 1 { "continues a PDU" } else { "begins a PDU" };
+        what += &format!(", handle {handle}, {part}");
     }
+    what
 }
 
-/// A record: where it starts, its packet's adapter, which way that went, what it is, its length, milliseconds since 1970.
+/// A record in words: where it starts, its packet's adapter, which way that went, what it is, its length, milliseconds since 1970.
 struct Record {
     start: usize,
     adapter: Option<u16>,
@@ -295,33 +277,30 @@ struct Record {
     ms: u64,
 }
 
-fn each_record<'a>(file: &'a [u8], found: &'a Records) -> impl Iterator<Item = Record> + 'a {
-    let (datalink, several) = (number(&file[12..16]), several(file));
+fn each_record<'a>(trace: Trace<'a>, found: &'a Records) -> impl Iterator<Item = Record> + 'a {
+    let several = several(trace);
     found.starts.iter().map(move |&start| {
-        let (head, rest) = file[start..].split_at(24);
-        let packet = &rest[..number(&head[4..8]) as usize];
-        let adapter = adapter_at(file, start);
-        let (way, what) = kind(datalink, number(&head[8..12]), packet, adapter.filter(|_| several));
-        let ms = number(&head[16..24]).saturating_sub(EPOCH) / 1000;
-        Record { start, adapter, way, what, length: packet.len(), ms }
+        let record = trace.record(start);
+        let (way, what) = (record.direction.map(way), what(&record, several));
+        Record { start, adapter: record.adapter, way, what, length: record.length, ms: record.ms }
     })
 }
 
 /// The list of records, a line each.
-pub fn records(file: &[u8], found: &Records, gaps: &Gaps) -> String {
+pub fn records(trace: Trace, found: &Records, gaps: &Gaps) -> String {
     let mut records = count(found.starts.len(), "record", "records");
-    let adapters = adapters(file).len();
+    let adapters = adapters(trace).len();
     if adapters > 1 {
         records += &format!(", {adapters} adapters");
     }
-    let mut text = format!("{records}: datalink {}.\n", number(&file[12..16]));
-    let (words, seen) = end_of(file).unwrap_or_default();
+    let mut text = format!("{records}: {}.\n", datalink(trace));
+    let (words, seen) = end_of(trace).unwrap_or_default();
     let _ = writeln!(text, "{}", sentence(&words));
     if seen {
         text += "Whatever came later is missing.\n";
     }
-    text += &losses::lines(file, gaps);
-    for (n, record) in (1..).zip(each_record(file, found)) {
+    text += &losses::lines(trace, gaps);
+    for (n, record) in (1..).zip(each_record(trace, found)) {
         let (way, bytes) = (record.way.unwrap_or("no direction"), count(record.length, "byte", "bytes"));
         let _ = writeln!(text, "{}, {way} {n}, {bytes} at {}, {}", record.what, record.start, utc(record.ms));
     }
@@ -329,17 +308,15 @@ pub fn records(file: &[u8], found: &Records, gaps: &Gaps) -> String {
 }
 
 /// What `records` says, an object a line.
-pub fn record_objects(file: &[u8], found: &Records, gaps: &Gaps) -> String {
-    let mut fields = vec![
-        ("kind", string("file")),
-        ("datalink", number(&file[12..16]).to_string()),
-        ("records", found.starts.len().to_string()),
-        ("adapters", adapters(file).len().to_string()),
-    ];
-    fields.extend(end_fields(file));
-    fields.push(("losses", losses::fields(file, gaps)));
+pub fn record_objects(trace: Trace, found: &Records, gaps: &Gaps) -> String {
+    let mut fields = vec![("kind", string("file"))];
+    fields.extend(datalink_fields(trace));
+    fields.push(("records", found.starts.len().to_string()));
+    fields.push(("adapters", adapters(trace).len().to_string()));
+    fields.extend(end_fields(trace));
+    fields.push(("losses", losses::fields(trace, gaps)));
     let mut text = object(&fields);
-    for (n, record) in (1..).zip(each_record(file, found)) {
+    for (n, record) in (1..).zip(each_record(trace, found)) {
         let n: usize = n;
         text += &object(&[
             ("kind", string("record")),

@@ -8,8 +8,9 @@ use std::collections::{BTreeMap, BTreeSet};
 use crate::args::{is_name, Look};
 use crate::losses;
 use crate::sha256::sum;
-use crate::words::shown;
-use lumbryth::{ending, fixture_name, Ending, Fixture, Gaps, Imported, TailRule};
+use crate::words::{datalink, shown};
+use look::Trace;
+use lumbryth::{fixture_name, Container, Ending, Fixture, Gaps, Imported, TailRule};
 
 /// The list's name. A reader of fixtures takes only names with -rx. or -tx. that end with .bin.
 pub const NAME: &str = "fixtures.sha256";
@@ -46,8 +47,8 @@ pub fn command_in(name: &str) -> &str {
 }
 
 /// How a file ends.
-fn end(file: &[u8]) -> String {
-    match ending(file) {
+fn end(trace: Trace) -> String {
+    match trace.ending() {
         Ok(Ending::Inside(cut)) => format!("cut inside the record that starts at byte {}", cut.offset),
         Ok(Ending::Length { offset, length }) => {
             format!("damaged, the record that starts at byte {offset} has length {length}")
@@ -57,10 +58,18 @@ fn end(file: &[u8]) -> String {
     }
 }
 
+/// The format of a trace, and its datalink or link type.
+fn container(trace: Trace) -> String {
+    match trace.container {
+        Container::Btsnoop => format!("btsnoop, {}", datalink(trace)),
+        _ => datalink(trace),
+    }
+}
+
 impl Set {
     /// The list of an import and the fixtures planned from it.
     pub fn of(
-        file: &[u8],
+        trace: Trace,
         look: &Look,
         exclude: &[String],
         imported: &Imported,
@@ -72,26 +81,23 @@ impl Set {
         let name = look.trace.file_name().unwrap_or(look.trace.as_os_str());
         let mut facts = vec![
             ("channel", look.channel.map_or("any".to_string(), |channel| channel.to_string())),
-            (
-                "container",
-                format!("btsnoop, datalink {}", u32::from_be_bytes([file[12], file[13], file[14], file[15]])),
-            ),
+            ("container", container(trace)),
             ("dlci", imported.dlci.to_string()),
-            ("end", end(file)),
+            ("end", end(trace)),
             ("fixtures", fixtures.len().to_string()),
             ("frames", imported.frames.to_string()),
             ("tail offset", imported.tail.to_string()),
             ("tail rule", if look.tolerant { "tolerant" } else { "strict" }.to_string()),
-            ("trace length", file.len().to_string()),
+            ("trace length", trace.file.len().to_string()),
             ("trace name", shown(name)),
-            ("trace sha256", sum(file)),
+            ("trace sha256", sum(trace.file)),
             ("unfinished", imported.unfinished.to_string()),
         ];
         facts.extend(exclude.iter().map(|name| ("exclude", name.clone())));
         if exclude.is_empty() {
             facts.push(("exclude", "none".to_string()));
         }
-        facts.extend(losses::facts(file, gaps).into_iter().map(|loss| ("losses", loss)));
+        facts.extend(losses::facts(trace, gaps).into_iter().map(|loss| ("losses", loss)));
         for (counter, span) in (1..).zip(&imported.spans) {
             let reason = match fixture_name(span.ms, counter, span.direction, &span.wire) {
                 Ok(name) if fixtures.contains_key(&name) => continue,

@@ -4,8 +4,8 @@ use std::ffi::OsStr;
 use std::fmt::Write;
 use std::os::unix::ffi::OsStrExt;
 
-use look::Link;
-use lumbryth::Direction;
+use look::{Link, Trace};
+use lumbryth::{Container, Direction};
 
 /// A number and what it counts.
 pub fn count(n: usize, one: &str, more: &str) -> String {
@@ -28,8 +28,26 @@ pub fn way(direction: Direction) -> &'static str {
 }
 
 /// Whether a trace has more than one adapter. Only then are adapters named.
-pub fn several(file: &[u8]) -> bool {
-    look::adapters(file).len() > 1
+pub fn several(trace: Trace) -> bool {
+    look::adapters(trace).len() > 1
+}
+
+/// What a trace is: its datalink, or that it is pcap and its link type.
+pub fn datalink(trace: Trace) -> String {
+    let number = trace.datalink();
+    match trace.container {
+        Container::Pcap => format!("pcap, link type {number}"),
+        _ => format!("datalink {number}"),
+    }
+}
+
+/// What `datalink` says, as fields of an object.
+pub fn datalink_fields(trace: Trace) -> Vec<(&'static str, String)> {
+    let number = trace.datalink().to_string();
+    match trace.container {
+        Container::Pcap => vec![("container", string("pcap")), ("link_type", number)],
+        _ => vec![("datalink", number)],
+    }
 }
 
 /// A connection by its handle, and by its adapter where there are several.

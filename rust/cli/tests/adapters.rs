@@ -286,7 +286,7 @@ fn each_key_has_the_adapter() {
                 (adapter, 64, direction, true, &between),
                 (0, 64, Rx, true, &end),
             ]);
-            let seen = look(&file).unwrap();
+            let seen = look(look::Trace::of(&file)).unwrap();
             let imported = import(&file, None, TailRule::Strict);
             assert_eq!(imported.map_or(0, |imported| imported.frames), found, "{between:?} on adapter {adapter}");
             assert_eq!(seen.taken(None).map_or(0, |dlci| dlci.all.frames), found, "{between:?} on adapter {adapter}");
@@ -533,7 +533,7 @@ fn links_renamed() {
         }
         let (new, links) = renamed(&file);
         assert_eq!(gaps(&new, TailRule::Tolerant), gaps(&file, TailRule::Tolerant));
-        let (seen, again) = (look(&file).unwrap(), look(&new).unwrap());
+        let (seen, again) = (look(look::Trace::of(&file)).unwrap(), look(look::Trace::of(&new)).unwrap());
         for channel in (0..=31).map(Some).chain([None]) {
             let found = import_stretches(&file, channel, TailRule::Tolerant);
             match (found, import_stretches(&new, channel, TailRule::Tolerant)) {

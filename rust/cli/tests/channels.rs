@@ -15,7 +15,8 @@ use std::process::{Command, Stdio};
 use common::*;
 use look::{look, Link, Seen};
 use lumbryth::Direction::{self, Rx, Tx};
-use lumbryth::{gaps, import, import_stretches, pack, unpack, Refusal, TailRule};
+use lumbryth::{import_stretches_with, import_with, pack, unpack, Refusal, TailRule};
+use trace::pcap::{twin, FORMS};
 use trace::{control, pdu, signal, uih, Trace};
 
 /// A trace of PDUs, a packet each: handle, direction, PDU.
@@ -348,7 +349,8 @@ fn a_cut_file_is_looked_at_up_to_there() {
         let file = &whole[..n];
         agrees(file);
         let start = bounds.iter().copied().rfind(|&start| start <= n).unwrap();
-        assert_eq!(look(file), look(&whole[..start]).map(|seen| Seen { tail: start, ..seen }), "cut at {n}");
+        let looked = |file| look(look::Trace::of(file));
+        assert_eq!(looked(file), looked(&whole[..start]).map(|seen| Seen { tail: start, ..seen }), "cut at {n}");
         if n % 9 == 0 {
             let output = words(&[&"channels", &place.file("trace", file)]);
             assert_eq!((status(&output), err(&output)), (0, String::new()), "cut at {n}");
@@ -441,7 +443,7 @@ fn an_object_a_line() {
     files.extend((0..40).map(|_| made::trace(&mut rng)));
     let mut kinds = BTreeSet::new();
     for file in files {
-        let seen = look(&file).unwrap();
+        let seen = look(look::Trace::of(&file)).unwrap();
         let output = words(&[&"channels", &place.file("trace", &file), &"--json"]);
         assert_eq!((status(&output), err(&output)), (0, String::new()));
         let text = out(&output);
@@ -484,10 +486,13 @@ fn an_object_a_line() {
 /// The look and the proved import agree, for each channel and without one.
 #[track_caller]
 fn agrees(file: &[u8]) -> Seen {
-    let seen = look(file).unwrap();
-    assert_eq!(seen.skipped as u64, gaps(file, TailRule::Tolerant).unwrap().skipped.count);
+    let trace = look::Trace::of(file);
+    let seen = look(trace).unwrap();
+    assert_eq!(seen.skipped as u64, trace.gaps(TailRule::Tolerant).unwrap().skipped.count);
+    let mut options = trace.options().with_tail(TailRule::Tolerant);
     for channel in (0..=31).map(Some).chain([None]) {
-        match (import_stretches(file, channel, TailRule::Tolerant), seen.taken(channel)) {
+        options.channel = channel;
+        match (import_stretches_with(file, &options), seen.taken(channel)) {
             (Err(Refusal::NoStream), None) => {}
             (Ok((imported, open)), Some(dlci)) => {
                 let frames = imported.spans.iter().filter(|span| unpack(&span.wire).is_ok()).count();
@@ -556,27 +561,57 @@ fn the_look_agrees_with_the_import() {
     assert_eq!(hit.len(), 7, "{hit:?}");
 }
 
+/// The same packets in pcap, in each form, and cut anywhere.
+#[test]
+fn the_look_agrees_in_pcap() {
+    let mut rng = made::Rng(3);
+    let mut counts = [0; 5];
+    for n in 0..2_000 {
+        let file = made::trace(&mut rng);
+        let pcap = twin(&file, FORMS[n % 4]);
+        let seen = agrees(&pcap);
+        agrees(rng.cut(&pcap, 24));
+        // Where there is one adapter, the same is seen as in btsnoop, but for its index and where the reading stopped.
+        let there = look(look::Trace::of(&file)).unwrap();
+        let adapters = there.adapters();
+        if adapters.iter().all(|adapter| *adapter == 0) {
+            assert_eq!(Seen { tail: there.tail, ..seen.clone() }, there);
+        }
+        let facts = [
+            seen.taken(None).is_some(),
+            seen.taken(None).is_none(),
+            seen.skipped > 0,
+            adapters.len() <= 1 && seen.taken(None).is_some_and(|dlci| dlci.all.unfinished > 0),
+            seen.handles.len() > 1,
+        ];
+        counts.iter_mut().zip(facts).for_each(|(count, fact)| *count += usize::from(fact));
+    }
+    assert!(counts.iter().all(|count| *count >= 100), "{counts:?}");
+}
+
 /// Whatever a file has, it is read as the import reads it, or refused as it refuses.
 #[test]
 fn damaged_files_agree() {
     let mut rng = made::Rng(2);
-    for name in ["headset.btsnoop", "two-adapters.btsnoop"] {
-        let whole = fs::read(example(name)).unwrap();
+    let [headset, adapters] = ["headset.btsnoop", "two-adapters.btsnoop"].map(|name| fs::read(example(name)).unwrap());
+    let pcap = FORMS.map(|form| twin(&headset, form));
+    for (n, whole) in [headset, adapters].into_iter().chain(pcap).enumerate() {
         let (mut read, mut refused) = (0, 0);
         for _ in 0..2_000 {
             let file = rng.damaged(&whole);
-            match look(&file) {
+            let trace = look::Trace::of(&file);
+            match look(trace) {
                 Ok(_) => {
                     agrees(&file);
                     read += 1;
                 }
                 Err(refusal) => {
-                    assert_eq!(import(&file, None, TailRule::Tolerant), Err(refusal));
+                    assert_eq!(import_with(&file, &trace.options().with_tail(TailRule::Tolerant)), Err(refusal));
                     refused += 1;
                 }
             }
         }
-        assert!(read >= 1_000 && refused >= 20, "{name}: {read} {refused}");
+        assert!(read >= 1_000 && refused >= 20, "trace {n}: {read} {refused}");
     }
 }
 

@@ -419,13 +419,16 @@ fn files_that_cannot_be_read() {
     fails(&look(&fifo), 1, &["this is a pipe, not a file; save the trace to a file first: ", "fifo\n"]);
     fails(&look(&place.file("empty", b"")), 1, &["lumbryth: refused (3): the file is empty: ", "empty\n"]);
     let short = place.file("short", b"btsnoop\0");
-    fails(&look(&short), 1, &["refused (3): the file has only 8 bytes, and a btsnoop header has 16: "]);
-    let text = place.file("text", b"This is a letter and not a trace.");
     fails(
-        &look(&text),
+        &look(&short),
         1,
-        &["refused (3): this is not a btsnoop file: its first 16 bytes are not a btsnoop header of version 1: "],
+        &["refused (3): the file has only 8 bytes, and a btsnoop header has 16, a pcap header 24: "],
     );
+    let text = place.file("text", b"This is a letter and not a trace.");
+    let told =
+        "refused (3): this is neither a btsnoop file nor a pcap file: its first 16 bytes are not a btsnoop header \
+        of version 1, and its first 4 are not those of pcap: ";
+    fails(&look(&text), 1, &[told]);
     let other = place.file("other", b"btsnoop\0\0\0\0\x01\0\0\x03\xEB");
     fails(&words(&[&"records", &other]), 1, &["refused (4): the trace has datalink 1003"]);
     fails(&look(&other), 1, &["refused (4): the trace has datalink 1003, and only 1001, 1002 and 2001 can be read: "]);

@@ -91,11 +91,35 @@ extern "C" {
         values: *mut u64,
         values_len: usize,
     ) -> u32;
+    fn lumbryth_import_stretches_with(
+        file: *const u8,
+        file_len: usize,
+        work: *mut u8,
+        work_len: usize,
+        stretches: *mut Stretch,
+        stretches_len: usize,
+        out: *mut u8,
+        out_len: usize,
+        options: *const u64,
+        options_len: usize,
+        values: *mut u64,
+        values_len: usize,
+    ) -> u32;
     fn lumbryth_records(
         file: *const u8,
         file_len: usize,
         starts: *mut u64,
         starts_len: usize,
+        values: *mut u64,
+        values_len: usize,
+    ) -> u32;
+    fn lumbryth_records_with(
+        file: *const u8,
+        file_len: usize,
+        starts: *mut u64,
+        starts_len: usize,
+        options: *const u64,
+        options_len: usize,
         values: *mut u64,
         values_len: usize,
     ) -> u32;
@@ -105,6 +129,16 @@ extern "C" {
         work: *mut u8,
         work_len: usize,
         tolerant: u32,
+        values: *mut u64,
+        values_len: usize,
+    ) -> u32;
+    fn lumbryth_gaps_with(
+        file: *const u8,
+        file_len: usize,
+        work: *mut u8,
+        work_len: usize,
+        options: *const u64,
+        options_len: usize,
         values: *mut u64,
         values_len: usize,
     ) -> u32;
@@ -235,6 +269,33 @@ pub fn import_stretches(
     }
 }
 
+pub fn import_stretches_with(
+    file: &[u8],
+    work: &mut [u8],
+    stretches: &mut [Stretch],
+    out: &mut [u8],
+    options: &[u64],
+    values: &mut [u64],
+) -> u32 {
+    // Safety: as for `import_stretches`.
+    unsafe {
+        lumbryth_import_stretches_with(
+            file.as_ptr(),
+            file.len(),
+            work.as_mut_ptr(),
+            work.len(),
+            stretches.as_mut_ptr(),
+            stretches.len(),
+            out.as_mut_ptr(),
+            out.len(),
+            options.as_ptr(),
+            options.len(),
+            values.as_mut_ptr(),
+            values.len(),
+        )
+    }
+}
+
 pub fn records(file: &[u8], starts: &mut [u64], values: &mut [u64]) -> u32 {
     // Safety: as for `unpack`; `starts` too is borrowed for the call alone.
     unsafe {
@@ -243,6 +304,22 @@ pub fn records(file: &[u8], starts: &mut [u64], values: &mut [u64]) -> u32 {
             file.len(),
             starts.as_mut_ptr(),
             starts.len(),
+            values.as_mut_ptr(),
+            values.len(),
+        )
+    }
+}
+
+pub fn records_with(file: &[u8], starts: &mut [u64], options: &[u64], values: &mut [u64]) -> u32 {
+    // Safety: as for `records`.
+    unsafe {
+        lumbryth_records_with(
+            file.as_ptr(),
+            file.len(),
+            starts.as_mut_ptr(),
+            starts.len(),
+            options.as_ptr(),
+            options.len(),
             values.as_mut_ptr(),
             values.len(),
         )
@@ -258,6 +335,22 @@ pub fn gaps(file: &[u8], work: &mut [u8], tolerant: u32, values: &mut [u64]) -> 
             work.as_mut_ptr(),
             work.len(),
             tolerant,
+            values.as_mut_ptr(),
+            values.len(),
+        )
+    }
+}
+
+pub fn gaps_with(file: &[u8], work: &mut [u8], options: &[u64], values: &mut [u64]) -> u32 {
+    // Safety: as for `gaps`.
+    unsafe {
+        lumbryth_gaps_with(
+            file.as_ptr(),
+            file.len(),
+            work.as_mut_ptr(),
+            work.len(),
+            options.as_ptr(),
+            options.len(),
             values.as_mut_ptr(),
             values.len(),
         )

@@ -1,5 +1,5 @@
 //! The MDR frames that a headset and a phone exchanged, from a recorded Bluetooth trace (a
-//! btsnoop file): every frame whole, in order, with direction and time.
+//! btsnoop or a pcap file): every frame whole, in order, with direction and time.
 //!
 //! The work is done by a library whose calls are proved to do what their definitions say, and
 //! this crate makes them safe to call from Rust: it lends the memory that they need, and turns
@@ -25,16 +25,30 @@
 //! assert_eq!(fixtures[0].wire, imported.spans[0].wire);
 //! # Ok::<(), lumbryth::Refusal>(())
 //! ```
+//!
+//! [`import`] and the other functions that take a trace read btsnoop. Those whose names end with `_with` take [`Options`], which say
+//! what the file is; nothing is guessed.
+//!
+//! ```
+//! use lumbryth::{import_with, Container, Options};
+//!
+//! let file = std::fs::read("../../examples/headset.pcap")?;
+//! let imported = import_with(&file, &Options::default().with_container(Container::Pcap))?;
+//! assert_eq!((imported.dlci, imported.frames), (18, 31));
+//! # Ok::<(), Box<dyn std::error::Error>>(())
+//! ```
 
 #![deny(missing_docs)]
 #![deny(unsafe_code)]
 
+mod container;
 #[allow(unsafe_code)]
 mod ffi;
 mod items;
 mod kind;
 mod refusal;
 
+pub use container::Container;
 pub use kind::FrameType;
 pub use refusal::Refusal;
 
@@ -45,7 +59,8 @@ pub const PAYLOAD_MAX: usize = 32_760;
 /// The longest list of spans or of names, in bytes: 14 and its wire for a span, 6 and its bytes for a name.
 pub const LIST_MAX: usize = 16_777_216;
 
-/// The longest packet that a record can hold: 65,535 bytes of data, 4 before them, and one for the packet's type.
+/// The longest packet that a record of btsnoop can hold: 65,535 bytes of data, 4 before them, and one for the packet's type.
+/// [`Container::packet_max`] tells it for each container.
 pub const PACKET_MAX: u32 = 65_540;
 
 /// A channel number that stands for any.
@@ -84,13 +99,15 @@ pub enum TailRule {
     Tolerant,
 }
 
-/// What a caller of an import chooses: by default any channel, and the strict rule.
+/// What a caller chooses: by default any channel, the strict rule, and btsnoop.
 ///
 /// ```
-/// use lumbryth::{Options, TailRule};
+/// use lumbryth::{Container, Options, TailRule};
 ///
 /// let options = Options::default().with_channel(9).with_tail(TailRule::Tolerant);
 /// assert_eq!((options.channel, options.tail), (Some(9), TailRule::Tolerant));
+/// assert_eq!(options.container, Container::Btsnoop);
+/// assert_eq!(options.with_container(Container::Pcap).container, Container::Pcap);
 /// ```
 #[derive(Debug, Clone, Copy, PartialEq, Eq, Hash, Default)]
 #[non_exhaustive]
@@ -99,6 +116,8 @@ pub struct Options {
     pub channel: Option<u8>,
     /// What becomes of a file that ends inside a record.
     pub tail: TailRule,
+    /// What the file is.
+    pub container: Container,
 }
 
 impl Options {
@@ -110,6 +129,17 @@ impl Options {
     /// The same with this rule.
     pub fn with_tail(self, tail: TailRule) -> Options {
         Options { tail, ..self }
+    }
+
+    /// The same with this container.
+    pub fn with_container(self, container: Container) -> Options {
+        Options { container, ..self }
+    }
+
+    /// The list that the library takes.
+    fn numbers(&self) -> [u64; 3] {
+        let (channel, tolerant) = numbers(self.channel, self.tail);
+        [u64::from(channel), u64::from(tolerant), self.container.number()]
     }
 }
 
@@ -190,7 +220,7 @@ pub struct Imported {
 #[derive(Debug, Clone, Copy, PartialEq, Eq, Hash)]
 #[non_exhaustive]
 pub struct Stretch {
-    /// The adapter's index, by which a trace of datalink 2001 tells adapters apart; 0 for 1001 and 1002.
+    /// The adapter's index, by which a trace of datalink 2001 tells adapters apart; 0 for 1001, 1002 and pcap.
     pub adapter: u16,
     /// The handle, 0 to 4095. Two adapters may use the same one for two connections, so that the connection is `(adapter, handle)`.
     pub handle: u16,
@@ -239,7 +269,7 @@ pub struct Fixture {
 #[derive(Debug, Clone, PartialEq, Eq, Hash)]
 #[non_exhaustive]
 pub struct Records {
-    /// Where each whole record starts: 24 bytes, then its packet.
+    /// Where each whole record starts: [`Container::record_header`] bytes, then its packet.
     pub starts: Vec<usize>,
     /// The file's length, or where the record starts that passes its end.
     pub tail: usize,
@@ -260,9 +290,10 @@ pub struct Gap {
 #[derive(Debug, Clone, PartialEq, Eq, Default)]
 #[non_exhaustive]
 pub struct Gaps {
-    /// Records stored short: their original length is over the included one.
+    /// Records stored short: their original length is over that of what is stored.
     pub short: Gap,
-    /// Packets that the recorder says it dropped: by how much the drops field rises from record to record, from 0.
+    /// Packets that the recorder says it dropped: by how much the drops field rises from record to record, from 0. A pcap file has no
+    /// such field, and so none is ever told.
     pub dropped: Gap,
     /// ACL packets that were skipped because a field or data is not there.
     pub skipped: Gap,
@@ -296,7 +327,7 @@ pub enum Ending {
     AtRecord,
     /// Inside a record: the file was cut.
     Inside(Cut),
-    /// At a record that gives its packet more bytes than any packet has, over [`PACKET_MAX`]: the file is damaged there.
+    /// At a record that gives its packet more bytes than any packet has, over [`Container::packet_max`]: the file is damaged there.
     Length {
         /// Where the record starts.
         offset: usize,
@@ -432,7 +463,7 @@ pub fn capture_order<N: AsRef<[u8]>>(names: &[N]) -> Result<Vec<Vec<u8>>, Refusa
     Ok(items::names(&list))
 }
 
-/// Imports a trace: the spans of one DLCI. It is the first DLCI seen that has a span which
+/// Imports a btsnoop file: the spans of one DLCI. It is the first DLCI seen that has a span which
 /// unpacks; with a channel, one of that channel.
 ///
 /// A trace of datalink 2001 may be of several adapters. Connections are told apart by the
@@ -450,23 +481,25 @@ pub fn capture_order<N: AsRef<[u8]>>(names: &[N]) -> Result<Vec<Vec<u8>>, Refusa
 /// assert_eq!(import(&cut, None, TailRule::Tolerant), Err(Refusal::NoStream));
 /// ```
 pub fn import(file: &[u8], channel: Option<u8>, tail: TailRule) -> Result<Imported, Refusal> {
-    import_with(file, &Options { channel, tail })
+    import_with(file, &Options { channel, tail, container: Container::Btsnoop })
 }
 
-/// Imports as [`import`] does, by options.
+/// Imports as [`import`] does, by options: a btsnoop or a pcap file.
 ///
 /// ```
-/// use lumbryth::{import_with, Options, Refusal, TailRule};
+/// use lumbryth::{import_with, Container, Options, Refusal, TailRule};
 ///
 /// let cut = b"btsnoop\0\0\0\0\x01\0\0\x03\xEA\0";
 /// assert_eq!(import_with(cut, &Options::default()), Err(Refusal::Truncated { offset: 16 }));
 ///
 /// let tolerant = Options::default().with_tail(TailRule::Tolerant);
 /// assert_eq!(import_with(cut, &tolerant), Err(Refusal::NoStream));
+///
+/// let pcap = Options::default().with_container(Container::Pcap);
+/// assert_eq!(import_with(cut, &pcap), Err(Refusal::NotPcap));
 /// ```
 pub fn import_with(file: &[u8], options: &Options) -> Result<Imported, Refusal> {
-    let (channel, tolerant) = numbers(options.channel, options.tail);
-    let options = [u64::from(channel), u64::from(tolerant)];
+    let options = options.numbers();
     let size = lent(file);
     let mut work = vec![0; 8 * size];
     let (list, values) = with_output(2 * size, |out, values| ffi::import_with(file, &mut work, out, &options, values))?;
@@ -498,9 +531,38 @@ pub fn import_stretches(file: &[u8], channel: Option<u8>, tail: TailRule) -> Res
     let (list, values) = with_output(2 * size, |out, values| {
         ffi::import_stretches(file, &mut work, &mut stretches, out, channel, tolerant, values)
     })?;
-    let imported = imported(list, &values);
-    let open = stretches.iter().take(imported.unfinished).map(Stretch::of).collect();
-    Ok((imported, open))
+    Ok(with_stretches(list, &values, &stretches))
+}
+
+/// Imports as [`import_stretches`] does, by options: a btsnoop or a pcap file.
+///
+/// ```
+/// use lumbryth::{import_stretches_with, Container, Options, TailRule};
+///
+/// // The example is cut inside a reply.
+/// let file = std::fs::read("../../examples/cut.pcap")?;
+/// let options = Options::default().with_container(Container::Pcap).with_tail(TailRule::Tolerant);
+/// let (imported, open) = import_stretches_with(&file, &options)?;
+/// assert_eq!((imported.frames, imported.unfinished), (29, 1));
+/// assert_eq!((open[0].adapter, open[0].handle, open[0].held), (0, 6, 8));
+/// # Ok::<(), Box<dyn std::error::Error>>(())
+/// ```
+pub fn import_stretches_with(file: &[u8], options: &Options) -> Result<(Imported, Vec<Stretch>), Refusal> {
+    let options = options.numbers();
+    let size = lent(file);
+    let mut work = vec![0; 8 * size];
+    let mut stretches = vec![ffi::Stretch::default(); size / 24];
+    let (list, values) = with_output(2 * size, |out, values| {
+        ffi::import_stretches_with(file, &mut work, &mut stretches, out, &options, values)
+    })?;
+    Ok(with_stretches(list, &values, &stretches))
+}
+
+/// What an import answered, and the stretches that it told, among the places lent.
+fn with_stretches(list: Vec<u8>, values: &[u64; VALUES], places: &[ffi::Stretch]) -> (Imported, Vec<Stretch>) {
+    let imported = imported(list, values);
+    let open = places.iter().take(imported.unfinished).map(Stretch::of).collect();
+    (imported, open)
 }
 
 /// Channel and tail rule by number.
@@ -530,7 +592,7 @@ fn imported(mut list: Vec<u8>, values: &[u64; VALUES]) -> Imported {
     }
 }
 
-/// The records of a trace. A file that ends inside a record is not refused; [`Records::tail`] tells.
+/// The records of a btsnoop file. A file that ends inside a record is not refused; [`Records::tail`] tells.
 ///
 /// ```
 /// use lumbryth::{records, Refusal};
@@ -544,10 +606,40 @@ fn imported(mut list: Vec<u8>, values: &[u64; VALUES]) -> Imported {
 /// # Ok::<(), Refusal>(())
 /// ```
 pub fn records(file: &[u8]) -> Result<Records, Refusal> {
-    // A record has at least 24 bytes, and a file that is too long is refused.
-    let mut starts = vec![0; file.len().min(FILE_MAX).saturating_sub(16) / 24];
-    let mut values = [0; VALUES];
-    match ffi::records(file, &mut starts, &mut values) {
+    found_records(file, Container::Btsnoop, |starts, values| ffi::records(file, starts, values))
+}
+
+/// The records of a btsnoop or a pcap file. Of the options, only the container is looked at.
+///
+/// ```
+/// use lumbryth::{records_with, Container, Options, Refusal};
+///
+/// // Little-endian, with microseconds; link type 201. Two records, the second cut.
+/// let mut file = [&[0xD4, 0xC3, 0xB2, 0xA1], &[0; 16][..], &[201, 0, 0, 0]].concat();
+/// file.extend([0, 0, 0, 0, 0, 0, 0, 0, 2, 0, 0, 0, 2, 0, 0, 0, 0, 0]);
+/// file.extend([0; 15]);
+/// let pcap = Options::default().with_container(Container::Pcap);
+/// let found = records_with(&file, &pcap)?;
+/// assert_eq!((found.starts, found.tail), (vec![24], 42));
+/// file[20] = 187;
+/// assert_eq!(records_with(&file, &pcap), Err(Refusal::LinkType(187)));
+/// # Ok::<(), Refusal>(())
+/// ```
+pub fn records_with(file: &[u8], options: &Options) -> Result<Records, Refusal> {
+    let numbers = options.numbers();
+    found_records(file, options.container, |starts, values| ffi::records_with(file, starts, &numbers, values))
+}
+
+/// The records that a call finds, with room for as many as a file of this container can have.
+fn found_records(
+    file: &[u8],
+    container: Container,
+    call: impl FnOnce(&mut [u64], &mut [u64]) -> u32,
+) -> Result<Records, Refusal> {
+    // A file that is too long is refused.
+    let room = file.len().min(FILE_MAX).saturating_sub(container.header()) / container.record_header();
+    let (mut starts, mut values) = (vec![0; room], [0; VALUES]);
+    match call(&mut starts, &mut values) {
         0 => {
             starts.truncate(values[0] as usize);
             Ok(Records { starts: starts.into_iter().map(|start| start as usize).collect(), tail: values[1] as usize })
@@ -556,7 +648,7 @@ pub fn records(file: &[u8]) -> Result<Records, Refusal> {
     }
 }
 
-/// The signs in a trace that something is not in it: how many of each there are, and where the first is. They are those of the
+/// The signs in a btsnoop file that something is not in it: how many of each there are, and where the first is. They are those of the
 /// whole records of the file, whatever DLCI they are of. Refuses as [`import`] does, but for [`Refusal::NoStream`].
 ///
 /// ```
@@ -586,6 +678,36 @@ pub fn gaps(file: &[u8], tail: TailRule) -> Result<Gaps, Refusal> {
     }
 }
 
+/// The signs in a btsnoop or a pcap file that something is not in it, as [`gaps`] finds them. Of the options, the rule and the
+/// container are looked at. What the recorder dropped is never told of pcap, whose records have no such count.
+///
+/// ```
+/// use lumbryth::{gaps_with, Container, Gaps, Options};
+///
+/// // A record of zeros, and one that was stored short: the direction, the type of ACL data, and one byte more.
+/// let mut file = [&[0xD4, 0xC3, 0xB2, 0xA1], &[0; 16][..], &[201, 0, 0, 0]].concat();
+/// file.extend([0; 16]);
+/// file.extend([0, 0, 0, 0, 0, 0, 0, 0, 6, 0, 0, 0, 13, 0, 0, 0, 0, 0, 0, 1, 0x02, 0x40]);
+/// let pcap = Options::default().with_container(Container::Pcap);
+/// let found = gaps_with(&file, &pcap)?;
+/// assert_eq!((found.zeros.count, found.zeros.first), (1, Some(24)));
+/// assert_eq!((found.short.count, found.short.first), (1, Some(40)));
+/// assert_eq!((found.skipped.count, found.skipped.first), (1, Some(40)));
+/// assert_eq!((found.dropped.count, found.dropped.first), (0, None));
+///
+/// let headset = std::fs::read("../../examples/headset.pcap")?;
+/// assert_eq!(gaps_with(&headset, &pcap)?, Gaps::default());
+/// # Ok::<(), Box<dyn std::error::Error>>(())
+/// ```
+pub fn gaps_with(file: &[u8], options: &Options) -> Result<Gaps, Refusal> {
+    let mut work = vec![0; 8 * lent(file)];
+    let mut values = [0; GAPS];
+    match ffi::gaps_with(file, &mut work, &options.numbers(), &mut values) {
+        0 => Ok(found(&values)),
+        number => Err(Refusal::of(number, &values)),
+    }
+}
+
 /// The signs by their values, two for each.
 fn found(values: &[u64; GAPS]) -> Gaps {
     let gap = |i: usize| {
@@ -603,7 +725,7 @@ fn found(values: &[u64; GAPS]) -> Gaps {
     }
 }
 
-/// How a file ends inside a record, if it does, by the tail offset that was answered for it or the offset of
+/// How a btsnoop file ends inside a record, if it does, by the tail offset that was answered for it or the offset of
 /// [`Refusal::Truncated`]. [`ending`] also says whether the record can be one.
 ///
 /// ```
@@ -618,12 +740,33 @@ fn found(values: &[u64; GAPS]) -> Gaps {
 /// assert_eq!(cut(&file, 16).unwrap().missing, None);
 /// ```
 pub fn cut(file: &[u8], tail: usize) -> Option<Cut> {
+    cut_with(file, tail, &Options::default())
+}
+
+/// How a btsnoop or a pcap file ends inside a record, if it does, as [`cut`] says it. Of the options, only the container is looked
+/// at.
+///
+/// ```
+/// use lumbryth::{cut_with, Container, Options};
+///
+/// let pcap = Options::default().with_container(Container::Pcap);
+/// let mut file = [&[0xD4, 0xC3, 0xB2, 0xA1], &[0; 16][..], &[201, 0, 0, 0]].concat();
+/// assert_eq!(cut_with(&file, 24, &pcap), None);
+/// file.extend([0, 0, 0, 0, 0, 0, 0, 0, 9, 0, 0, 0]);
+/// let cut = cut_with(&file, 24, &pcap).unwrap();
+/// assert_eq!((cut.offset, cut.present, cut.missing), (24, 12, Some(13)));
+/// file.pop();
+/// assert_eq!(cut_with(&file, 24, &pcap).unwrap().missing, None);
+/// ```
+pub fn cut_with(file: &[u8], tail: usize, options: &Options) -> Option<Cut> {
     let record = file.get(tail..).filter(|record| !record.is_empty())?;
-    let missing = included(record).map(|n| (24 + u64::from(n)).saturating_sub(record.len() as u64));
+    let container = options.container;
+    let whole = |length: u32| container.record_header() as u64 + u64::from(length);
+    let missing = container.length(file, record).map(|length| whole(length).saturating_sub(record.len() as u64));
     Some(Cut { offset: tail, present: record.len(), missing })
 }
 
-/// How a trace ends. Refuses as [`records`] does.
+/// How a btsnoop file ends. Refuses as [`records`] does.
 ///
 /// ```
 /// use lumbryth::{cut, ending, Ending};
@@ -638,24 +781,39 @@ pub fn cut(file: &[u8], tail: usize) -> Option<Cut> {
 /// assert_eq!(ending(&file), Ok(Ending::Zeros { offset: 16, count: 8 }));
 /// ```
 pub fn ending(file: &[u8]) -> Result<Ending, Refusal> {
-    let records = records(file)?;
+    ending_with(file, &Options::default())
+}
+
+/// How a btsnoop or a pcap file ends. Of the options, only the container is looked at. Refuses as [`records_with`] does.
+///
+/// ```
+/// use lumbryth::{cut_with, ending_with, Container, Ending, Options};
+///
+/// let pcap = Options::default().with_container(Container::Pcap);
+/// let mut file = [&[0xA1, 0xB2, 0xC3, 0xD4], &[0; 16][..], &[0, 0, 0, 201]].concat();
+/// assert_eq!(ending_with(&file, &pcap), Ok(Ending::AtRecord));
+/// file.extend([0, 0, 0, 0, 0, 0, 0, 0, 0, 0, 0, 9, 0, 0, 0, 9]);
+/// assert_eq!(ending_with(&file, &pcap), Ok(Ending::Inside(cut_with(&file, 24, &pcap).unwrap())));
+/// file[32..36].fill(0xFF);
+/// assert_eq!(ending_with(&file, &pcap), Ok(Ending::Length { offset: 24, length: u32::MAX }));
+/// file[24..40].fill(0);
+/// assert_eq!(ending_with(&file, &pcap), Ok(Ending::Zeros { offset: 24, count: 16 }));
+/// ```
+pub fn ending_with(file: &[u8], options: &Options) -> Result<Ending, Refusal> {
+    let container = options.container;
+    let records = records_with(file, options)?;
     let zeros = file.len() - file.iter().rev().take_while(|byte| **byte == 0).count();
     let starts = records.starts.iter().chain([&records.tail]);
     let offset = starts.copied().find(|start| *start >= zeros).unwrap_or(file.len());
     // Of a record in which both lengths are there and 0; fewer zeros may be the beginning of any record.
-    if file.len() - offset >= 8 {
+    if file.len() - offset >= container.zeros() {
         return Ok(Ending::Zeros { offset, count: file.len() - offset });
     }
-    let Some(cut) = cut(file, records.tail) else {
+    let Some(cut) = cut_with(file, records.tail, options) else {
         return Ok(Ending::AtRecord);
     };
-    match included(&file[cut.offset..]) {
-        Some(length) if length > PACKET_MAX => Ok(Ending::Length { offset: cut.offset, length }),
+    match container.length(file, &file[cut.offset..]) {
+        Some(length) if length > container.packet_max() => Ok(Ending::Length { offset: cut.offset, length }),
         _ => Ok(Ending::Inside(cut)),
     }
-}
-
-/// The length that a record gives its packet, if so much of it is there.
-fn included(record: &[u8]) -> Option<u32> {
-    record.get(4..8).map(|b| u32::from_be_bytes([b[0], b[1], b[2], b[3]]))
 }

@@ -77,12 +77,16 @@ pub enum Refusal {
         /// Where its first wrong item starts.
         offset: usize,
     },
+    /// 21: of a file that is asked for as pcap, in the place of 3: under 24 bytes, or none of the four magic numbers first.
+    NotPcap,
+    /// 22: of a pcap file, in the place of 4: a link type other than 201. All 4 bytes of the field count.
+    LinkType(u32),
     /// A number that this crate does not know: the library that is linked is not the one that it was written for.
     Unknown(u32),
 }
 
 impl Refusal {
-    /// The refusal's number, 1 to 20 if it is known.
+    /// The refusal's number, 1 to 22 if it is known.
     pub fn number(self) -> u32 {
         match self {
             Refusal::FileLong => 1,
@@ -103,6 +107,8 @@ impl Refusal {
             Refusal::PayloadLong => 18,
             Refusal::SpansIll { .. } => 19,
             Refusal::NamesIll { .. } => 20,
+            Refusal::NotPcap => 21,
+            Refusal::LinkType(_) => 22,
             Refusal::Unknown(number) => number,
         }
     }
@@ -128,6 +134,8 @@ impl Refusal {
             18 => Refusal::PayloadLong,
             19 => Refusal::SpansIll { offset: values[0] as usize },
             20 => Refusal::NamesIll { offset: values[0] as usize },
+            21 => Refusal::NotPcap,
+            22 => Refusal::LinkType(values[0] as u32),
             other => Refusal::Unknown(other),
         }
     }
@@ -170,6 +178,12 @@ impl fmt::Display for Refusal {
             Refusal::NamesIll { offset } => {
                 write!(f, "the list of names is longer than {LIST_MAX} bytes, or wrong at byte {offset}")
             }
+            Refusal::NotPcap => {
+                write!(f, "this is not a pcap file: its first 24 bytes are not a pcap header")
+            }
+            Refusal::LinkType(n) => {
+                write!(f, "the trace has link type {n}, and only 201, Bluetooth HCI H4 with direction, can be read")
+            }
             Refusal::Unknown(number) => {
                 write!(f, "the linked library refused with {number}, which this program does not know")
             }
@@ -188,7 +202,7 @@ mod tests {
         for number in 0..300 {
             let refusal = Refusal::of(number, &[1, 2, 3, 4, 5]);
             assert_eq!(refusal.number(), number);
-            let known = matches!(number, 1..=7 | 10..=20);
+            let known = matches!(number, 1..=7 | 10..=22);
             assert_eq!(refusal == Refusal::Unknown(number), !known, "{number}");
             assert!(!refusal.to_string().is_empty());
         }

@@ -1,9 +1,16 @@
-//! The calls by document 01's examples: each refusal with its number, values and words, and what is empty, long or full.
+//! The calls by document 01's examples: each refusal with its number, values and words, and what is empty, long or full. Then the
+//! same of pcap files.
+
+#[allow(dead_code)]
+#[path = "../../../examples/trace/mod.rs"]
+mod trace;
 
 use lumbryth::{
-    capture_order, fixture_name, gaps, import, import_stretches, is_command_name, pack, plan, records, unpack,
-    Direction, Fixture, Frame, FrameType, Gap, Gaps, Records, Refusal, Span, TailRule,
+    capture_order, cut, cut_with, ending, ending_with, fixture_name, gaps, gaps_with, import, import_stretches,
+    import_stretches_with, import_with, is_command_name, pack, plan, records, records_with, unpack, Container,
+    Direction, Ending, Fixture, Frame, FrameType, Gap, Gaps, Options, Records, Refusal, Span, TailRule,
 };
+use trace::pcap::{twin, Form, FORMS, PLAIN};
 
 /// Document 01's worked example.
 const EXAMPLE: [u8; 62] = [
@@ -368,4 +375,288 @@ fn gaps_of_the_examples() {
     let cut: &[u8] = include_bytes!("../../../examples/cut.btsnoop");
     assert_eq!(gaps(cut, TailRule::Tolerant), Ok(Gaps::default()));
     assert!(matches!(gaps(cut, TailRule::Strict), Err(Refusal::Truncated { .. })));
+}
+
+fn strict() -> Options {
+    Options::default().with_container(Container::Pcap)
+}
+
+fn tolerant() -> Options {
+    strict().with_tail(TailRule::Tolerant)
+}
+
+/// A number in a pcap file.
+fn number(form: Form, n: u32) -> [u8; 4] {
+    if form.big {
+        n.to_be_bytes()
+    } else {
+        n.to_le_bytes()
+    }
+}
+
+/// Document 01's worked example in pcap: a header, a record of 16 bytes, a direction, and the packet.
+#[test]
+fn the_example_in_pcap() {
+    for form in FORMS {
+        let file = twin(&EXAMPLE, form);
+        assert_eq!((file.len(), &file[40..44], &file[44..]), (66, &[0, 0, 0, 1][..], &EXAMPLE[40..]));
+        let longer = [&file[..], &[0]].concat();
+        for (file, options) in [(&file, strict()), (&file, tolerant()), (&longer, tolerant())] {
+            for options in [options, options.with_channel(9)] {
+                let imported = import_with(file, &options).unwrap();
+                let span = Span::new(Direction::Rx, 0, EXAMPLE[52..61].to_vec());
+                assert_eq!((imported.dlci, imported.frames, imported.unfinished, imported.tail), (18, 1, 0, 66));
+                assert_eq!(imported.spans, [span]);
+                assert_eq!(import_stretches_with(file, &options), Ok((imported, Vec::new())));
+            }
+        }
+        refused(import_with(&file, &strict().with_channel(8)), Refusal::NoStream, 6, &[]);
+    }
+}
+
+/// Each refusal of a pcap file, by each call that takes one.
+#[test]
+fn pcap_refused() {
+    let each = |file: &[u8], options: &Options, refusal: Refusal, number: u32, said: &[&str]| {
+        refused(import_with(file, options), refusal, number, said);
+        refused(import_stretches_with(file, options), refusal, number, said);
+        if !matches!(refusal, Refusal::NoStream) {
+            refused(gaps_with(file, options), refusal, number, said);
+        }
+        if !matches!(refusal, Refusal::NoStream | Refusal::Truncated { .. }) {
+            refused(records_with(file, options), refusal, number, said);
+            refused(ending_with(file, options), refusal, number, said);
+        }
+    };
+    for form in FORMS {
+        let file = twin(&EXAMPLE, form);
+        for options in [strict(), tolerant()] {
+            each(&vec![0; 1_048_577], &options, Refusal::FileLong, 1, &["1048576"]);
+            for n in 0..24 {
+                each(&file[..n], &options, Refusal::NotPcap, 21, &["pcap"]);
+            }
+            for magic in [[0xA1, 0xB2, 0xCD, 0x34], [0x0A, 0x0D, 0x0D, 0x0A], [0xA1, 0xB2, 0xC3, 0xA1], [0; 4]] {
+                let mut other = file.clone();
+                other[..4].copy_from_slice(&magic);
+                each(&other, &options, Refusal::NotPcap, 21, &[]);
+            }
+            // All 4 bytes count, and come as the file has them.
+            for n in [0, 187, 202, 0x1_00C9, 0x1000_00C9, 0xC900_0000, u32::MAX] {
+                let mut other = file.clone();
+                other[20..24].copy_from_slice(&number(form, n));
+                each(&other, &options, Refusal::LinkType(n), 22, &[&format!("link type {n},"), "201"]);
+            }
+            each(&file[..24], &options, Refusal::NoStream, 6, &[]);
+        }
+        for n in 25..66 {
+            each(&file[..n], &strict(), Refusal::Truncated { offset: 24 }, 5, &["byte 24"]);
+            each(&file[..n], &tolerant(), Refusal::NoStream, 6, &[]);
+        }
+        // A captured length that no sum may wrap.
+        let mut other = file.clone();
+        other[32..36].fill(0xFF);
+        each(&other, &strict(), Refusal::Truncated { offset: 24 }, 5, &[]);
+    }
+}
+
+/// Nothing is guessed: each container's file asked for as the other.
+#[test]
+fn the_container_is_the_callers() {
+    let pcap = twin(&EXAMPLE, PLAIN);
+    for tail in [TailRule::Strict, TailRule::Tolerant] {
+        refused(import(&pcap, None, tail), Refusal::NotBtsnoop, 3, &[]);
+        refused(import_stretches(&pcap, None, tail), Refusal::NotBtsnoop, 3, &[]);
+        refused(gaps(&pcap, tail), Refusal::NotBtsnoop, 3, &[]);
+        let options = Options::default().with_tail(tail);
+        refused(import_with(&pcap, &options), Refusal::NotBtsnoop, 3, &[]);
+        refused(import_with(&EXAMPLE, &options.with_container(Container::Pcap)), Refusal::NotPcap, 21, &[]);
+        refused(gaps_with(&EXAMPLE, &options.with_container(Container::Pcap)), Refusal::NotPcap, 21, &[]);
+    }
+    refused(records(&pcap), Refusal::NotBtsnoop, 3, &[]);
+    refused(ending(&pcap), Refusal::NotBtsnoop, 3, &[]);
+    refused(records_with(&EXAMPLE, &strict()), Refusal::NotPcap, 21, &[]);
+    refused(ending_with(&EXAMPLE, &strict()), Refusal::NotPcap, 21, &[]);
+    assert_eq!((Options::default().container, Container::default()), (Container::Btsnoop, Container::Btsnoop));
+}
+
+/// By the default options the calls that take them answer as those without.
+#[test]
+fn btsnoop_with_options() {
+    let traces: [&[u8]; 4] = [
+        include_bytes!("../../../examples/headset.btsnoop"),
+        include_bytes!("../../../examples/cut.btsnoop"),
+        include_bytes!("../../../examples/two-adapters.btsnoop"),
+        &EXAMPLE,
+    ];
+    for trace in traces {
+        for n in (0..trace.len()).step_by(7).chain([trace.len()]) {
+            let file = &trace[..n];
+            for tail in [TailRule::Strict, TailRule::Tolerant] {
+                let options = Options::default().with_tail(tail);
+                assert_eq!(import_with(file, &options), import(file, None, tail));
+                assert_eq!(import_stretches_with(file, &options), import_stretches(file, None, tail));
+                assert_eq!(
+                    import_stretches_with(file, &options.with_channel(9)),
+                    import_stretches(file, Some(9), tail)
+                );
+                assert_eq!(gaps_with(file, &options), gaps(file, tail));
+                assert_eq!(records_with(file, &options), records(file));
+                assert_eq!(ending_with(file, &options), ending(file));
+                assert_eq!(cut_with(file, 16, &options), cut(file, 16));
+            }
+        }
+    }
+}
+
+#[test]
+fn the_records_of_pcap() {
+    let found = |starts: &[usize], tail| Ok((starts.to_vec(), tail));
+    let records = |file: &[u8]| records_with(file, &strict()).map(|Records { starts, tail, .. }| (starts, tail));
+    for form in FORMS {
+        let file = twin(&EXAMPLE, form);
+        assert_eq!(records(&file), found(&[24], 66));
+        assert_eq!(records_with(&file, &strict()), records_with(&file, &tolerant().with_channel(3)));
+        for n in 24..66 {
+            assert_eq!(records(&file[..n]), found(&[], 24), "{n} bytes");
+        }
+        // Packets of any length, and of 0 bytes, which are the shortest records.
+        let lengths = [0, 3, 0, 500, 1, 70_000];
+        let mut file = form.header(201);
+        let mut starts = Vec::new();
+        for length in lengths {
+            starts.push(file.len());
+            file.extend(form.record(5, 0, &vec![7; length]));
+        }
+        assert_eq!(records(&file), found(&starts, file.len()));
+        assert_eq!(records(&file[..file.len() - 1]), found(&starts[..5], starts[5]));
+        // As many as there can be, and 8 bytes that are none.
+        let full = [&form.header(201)[..], &[0; 16 * 65_534 + 8]].concat();
+        assert_eq!(full.len(), 1_048_576);
+        let starts: Vec<usize> = (0..65_534).map(|i| 24 + 16 * i).collect();
+        assert_eq!(records(&full), found(&starts, 1_048_568));
+        refused(import_with(&full, &tolerant()), Refusal::NoStream, 6, &[]);
+        let zeros = gaps_with(&full, &tolerant()).unwrap().zeros;
+        assert_eq!((zeros.count, zeros.first), (65_534, Some(24)));
+    }
+}
+
+/// The same packets give the same answer, but for where the reading stopped.
+#[test]
+fn the_examples_in_pcap() {
+    let [headset, cut_short]: [&[u8]; 2] =
+        [include_bytes!("../../../examples/headset.btsnoop"), include_bytes!("../../../examples/cut.btsnoop")];
+    assert_eq!(twin(headset, PLAIN), include_bytes!("../../../examples/headset.pcap"));
+    let shipped: &[u8] = include_bytes!("../../../examples/cut.pcap");
+    for form in FORMS {
+        let whole = twin(headset, form);
+        let cut_there = if form == PLAIN { shipped.to_vec() } else { whole[..shipped.len()].to_vec() };
+        for (file, other, open) in [(whole, headset, 0), (cut_there, cut_short, 1)] {
+            let (mut imported, stretches) = import_stretches_with(&file, &tolerant()).unwrap();
+            assert_eq!(import_with(&file, &tolerant()), Ok(imported.clone()));
+            let (expected, told) = import_stretches(other, None, TailRule::Tolerant).unwrap();
+            imported.tail = expected.tail;
+            assert_eq!((&imported, &stretches, stretches.len()), (&expected, &told, open));
+            assert_eq!(gaps_with(&file, &tolerant()), Ok(Gaps::default()));
+        }
+    }
+    refused(import_with(shipped, &strict()), Refusal::Truncated { offset: 2253 }, 5, &["byte 2253"]);
+    let there = cut_with(shipped, 2253, &strict()).unwrap();
+    assert_eq!((there.offset, there.present, there.missing), (2253, 26, Some(13)));
+    assert_eq!(ending_with(shipped, &strict()), Ok(Ending::Inside(there)));
+}
+
+/// Every beginning of a file: at a record's end, or inside a record, with what is missing as far as that can be told.
+#[test]
+fn how_pcap_ends() {
+    let headset: &[u8] = include_bytes!("../../../examples/headset.btsnoop");
+    for form in FORMS {
+        let file = twin(headset, form);
+        let starts = records_with(&file, &strict()).unwrap().starts;
+        let ends: Vec<usize> = starts.iter().copied().chain([file.len()]).collect();
+        for n in 24..=file.len() {
+            let at = ends.iter().rposition(|&end| end <= n).unwrap();
+            let ending = ending_with(&file[..n], &strict()).unwrap();
+            if ends[at] == n {
+                assert_eq!(ending, Ending::AtRecord, "{n} bytes");
+                assert_eq!(cut_with(&file[..n], n, &strict()), None);
+                continue;
+            }
+            let Ending::Inside(cut) = ending else { panic!("{n} bytes: {ending:?}") };
+            let missing = (n - ends[at] >= 12).then_some((ends[at + 1] - n) as u64);
+            assert_eq!((cut.offset, cut.present, cut.missing), (ends[at], n - ends[at], missing), "{n} bytes");
+            assert_eq!(cut_with(&file[..n], ends[at], &strict()), Some(cut));
+        }
+        // A length that no packet has; the longest that one has, with its direction, is a cut.
+        for (length, damaged) in [(65_544, false), (65_545, true), (u32::MAX, true)] {
+            let mut other = file.clone();
+            other[starts[9] + 8..starts[9] + 12].copy_from_slice(&number(form, length));
+            let ending = ending_with(&other, &strict()).unwrap();
+            assert_eq!(ending == Ending::Length { offset: starts[9], length }, damaged);
+            assert_eq!(matches!(ending, Ending::Inside(_)), !damaged);
+        }
+        // Zeros: of a record with both its lengths; fewer may begin any record.
+        for count in 1..70 {
+            let other = [&file[..], &vec![0; count]].concat();
+            let zeros = Ending::Zeros { offset: file.len(), count };
+            assert_eq!(ending_with(&other, &strict()) == Ok(zeros), count >= 16, "{count} zeros");
+        }
+    }
+}
+
+/// The signs of a pcap file, in the order of the fields.
+#[track_caller]
+fn pcap_signs(file: &[u8]) -> [(u64, usize); 7] {
+    let found = gaps_with(file, &strict()).unwrap();
+    assert_eq!(gaps_with(file, &tolerant().with_channel(3)), Ok(found.clone()));
+    let Gaps { short, dropped, skipped, zeros, stray, given_up, open, .. } = found;
+    [short, dropped, skipped, zeros, stray, given_up, open].map(|gap| told(&gap))
+}
+
+/// Each sign once, but for what the recorder dropped: the first record, of 29 bytes, has none, so the one that shows it starts at
+/// byte 53.
+#[test]
+fn each_gap_once_in_pcap() {
+    let whole: &[u8] = &[0, 0, 0, 1, 2, 0x40, 0x20, 4, 0, 0, 0, 0x41, 0];
+    let begun: &[u8] = &[0, 0, 0, 1, 2, 0x40, 0x20, 1, 0, 0];
+    let ended: &[u8] = &[0, 0, 0, 1, 2, 0x40, 0x10, 3, 0, 0, 0x41, 0];
+    let sent: &[u8] = &[0, 0, 0, 0, 2, 0x40, 0x20, 1, 0, 0];
+    let sent_rest: &[u8] = &[0, 0, 0, 0, 2, 0x40, 0x10, 3, 0, 0, 0x41, 0];
+    let lacking: &[u8] = &[0, 0, 0, 1, 2, 0x40, 0x20, 4, 0, 0, 0];
+    let none = [(0, 0); 7];
+    let only = |sign: usize, count, at| {
+        let mut signs = none;
+        signs[sign] = (count, at);
+        signs
+    };
+    for form in FORMS {
+        // Packets with their lengths, behind the first record.
+        let recorded = |packets: &[(u32, &[u8])]| {
+            let packets = [&[(13, whole)], packets].concat();
+            let records = packets.iter().flat_map(|(n, packet)| form.record(7, *n, packet));
+            form.header(201).into_iter().chain(records).collect::<Vec<u8>>()
+        };
+        assert_eq!(pcap_signs(&form.header(201)), none);
+        assert_eq!(pcap_signs(&recorded(&[])), none);
+        assert_eq!(pcap_signs(&recorded(&[(10, begun), (12, ended)])), none);
+        // The original length over the captured one, also by its highest byte alone; one under it is none.
+        assert_eq!(pcap_signs(&recorded(&[(14, whole), (12, whole)])), only(0, 1, 53));
+        assert_eq!(pcap_signs(&recorded(&[(0x0100_0000, whole), (0, whole)])), only(0, 1, 53));
+        assert_eq!(pcap_signs(&recorded(&[(11, lacking)])), only(2, 1, 53));
+        assert_eq!(pcap_signs(&recorded(&[(5, &lacking[..5])])), only(2, 1, 53));
+        let zeros = [&recorded(&[])[..], &[0; 16]].concat();
+        assert_eq!(pcap_signs(&zeros), only(3, 1, 53));
+        assert_eq!(pcap_signs(&recorded(&[(12, ended)])), only(4, 1, 53));
+        assert_eq!(pcap_signs(&recorded(&[(10, begun), (13, whole)])), only(5, 1, 53 + 26));
+        assert_eq!(pcap_signs(&recorded(&[(10, begun), (10, sent), (12, sent_rest)])), only(6, 1, 53));
+        // Another direction, another type, or neither: no ACL data.
+        let others: [(u32, &[u8]); 6] = [
+            (6, &[0, 0, 0, 2, 2, 0x40]),
+            (6, &[1, 0, 0, 0, 2, 0x40]),
+            (5, &[0, 0, 0, 1, 3]),
+            (4, &[0, 0, 0, 1]),
+            (3, &[0, 0, 0]),
+            (0, &[]),
+        ];
+        assert_eq!(pcap_signs(&recorded(&others)), none);
+    }
 }

@@ -11,17 +11,21 @@
 mod channels;
 mod packets;
 mod pdus;
+mod records;
 mod rfcomm;
 mod signals;
+mod trace;
 
 pub use channels::{Channel, Handle, Standing, Ways};
-pub use packets::{adapter_at, Link};
+pub use packets::Link;
+pub use records::{Kind, Record};
 pub use rfcomm::{Dlci, Refused, Share};
+pub use trace::Trace;
 
 use std::collections::BTreeSet;
 
 use channels::Channels;
-use lumbryth::{records, Refusal};
+use lumbryth::Refusal;
 use packets::Held;
 use pdus::Joining;
 use rfcomm::Lines;
@@ -60,20 +64,20 @@ impl Seen {
 }
 
 /// The adapters of a trace that have a packet with data, recorded whole; none if the trace is refused.
-pub fn adapters(file: &[u8]) -> BTreeSet<u16> {
-    let Ok(found) = records(file) else { return BTreeSet::new() };
+pub fn adapters(trace: Trace) -> BTreeSet<u16> {
+    let Ok(found) = trace.records() else { return BTreeSet::new() };
     let adapter = |held| match held {
         Held::Packet(packet) => Some(packet.link.adapter),
         Held::Short | Held::Other => None,
     };
-    packets::each(file, &found.starts).filter_map(adapter).collect()
+    packets::each(trace, &found.starts).filter_map(adapter).collect()
 }
 
-/// Looks inside a trace, up to where it ends if that is inside a record. Refuses as [`records`] does.
-pub fn look(file: &[u8]) -> Result<Seen, Refusal> {
-    let found = records(file)?;
+/// Looks inside a trace, up to where it ends if that is inside a record. Refuses as [`Trace::records`] does.
+pub fn look(trace: Trace) -> Result<Seen, Refusal> {
+    let found = trace.records()?;
     let (mut channels, mut joining, mut skipped) = (Channels::default(), Joining::default(), 0);
-    for held in packets::each(file, &found.starts) {
+    for held in packets::each(trace, &found.starts) {
         match held {
             Held::Packet(packet) => {
                 channels.packet(&packet);
@@ -86,7 +90,7 @@ pub fn look(file: &[u8]) -> Result<Seen, Refusal> {
         }
     }
     let (mut lines, mut joining) = (Lines::default(), Joining::default());
-    for held in packets::each(file, &found.starts) {
+    for held in packets::each(trace, &found.starts) {
         if let Held::Packet(packet) = held {
             if let Some(pdu) = joining.join(&packet) {
                 lines.pdu(&pdu, channels.is_tried(&pdu));

@@ -43,6 +43,11 @@ impl Rng {
         file
     }
 
+    /// A file cut somewhere, from so many bytes on.
+    pub fn cut<'a>(&mut self, file: &'a [u8], least: usize) -> &'a [u8] {
+        &file[..self.within(least, file.len())]
+    }
+
     fn pick<T: Copy>(&mut self, from: &[T]) -> T {
         from[self.within(0, from.len() - 1)]
     }
