@@ -14,7 +14,9 @@ use Rattle.items.specs.Walks.{stepAt}
 use Rattle.items.proofs.Walks.{end-past}
 use Rattle.items.specs.declared.Step.{Step}
 use Rattle.items.specs.declared.Step.the-variants.{Whole, Passes, End}
-use Rattle.btsnoop.specs.Records.{btsnoop}
+use Rattle.container.specs.Container as container
+use Rattle.trace.specs.Formats.{containerOf}
+use Rattle.trace.specs.declared.Container.{Container}
 use Rattle.outcome.specs.Import.{Found, found, missing, Options, fits, workSuffices, outcome, imported}
 use Rattle.outcome.specs.Import as import
 use Rattle.fixtures.specs.Plan.{plans, planOf}
@@ -91,20 +93,20 @@ unfolding import.given
 found-last (found d′ ss u′ t′) d n u t k w e = cc
 found-last (missing m vs) d n u t k w e = not-given e
 
-imported-last : (f : List ℕ) (work : ℕ) (o : Options) (d n u t k : ℕ) (w : List ℕ) → imported btsnoop f work o ≡ gives (d ∷ n ∷ u ∷ t ∷ k ∷ []) w → k ≡ length w
+imported-last : (C : container.Container) (f : List ℕ) (work : ℕ) (o : Options) (d n u t k : ℕ) (w : List ℕ) → imported C f work o ≡ gives (d ∷ n ∷ u ∷ t ∷ k ∷ []) w → k ≡ length w
 unfolding imported
-imported-last f work o d n u t k w e =
+imported-last C f work o d n u t k w e =
     splitB (fits f)
     (λ a. splitB (workSuffices f work)
-    (λ b. found-last (outcome btsnoop f o) d n u t k w (rw (a, b) at e))
+    (λ b. found-last (outcome C f o) d n u t k w (rw (a, b) at e))
     (λ b. not-given (rw (a, b) at e)))
     (λ a. not-given (rw a at e))
 
-pub import-lies : (f work : List ℕ) (o : Options) (out : List ℕ) (r : Imported) (work′ out′ : List ℕ) → Imports f work o out r work′ out′ → Lies r out′
-import-lies f work o out r work′ out′ i = record {
+pub import-lies : (b : Container) (f work : List ℕ) (o : Options) (out : List ℕ) (r : Imported) (work′ out′ : List ℕ) → Imports b f work o out r work′ out′ → Lies r out′
+import-lies b f work o out r work′ out′ i = record {
   within = λ d n u t k e.
-      (let g = accepts (imported btsnoop f (length work) o) out (d ∷ n ∷ u ∷ t ∷ k ∷ []) out′ (rw e at (i .meets)) in
-      let q = imported-last f (length work) o d n u t k (g .bytes) (g .gift) in
+      (let g = accepts (imported (containerOf b) f (length work) o) out (d ∷ n ∷ u ∷ t ∷ k ∷ []) out′ (rw e at (i .meets)) in
+      let q = imported-last (containerOf b) f (length work) o d n u t k (g .bytes) (g .gift) in
       omega (arith, g .room));
 }
 

@@ -12,6 +12,8 @@ use libc::STDIN_FILENO;
 use libc::STDOUT_FILENO;
 use opening::Tail;
 use streams::Channel;
+use trace::Container;
+use trace::Refusal;
 
 // ---- text
 
@@ -80,27 +82,37 @@ fn print_spans(spans: &[u8], dlci: usize, frames: usize, unfinished: usize) {
     }
 }
 
-// Import of a trace, strictly and on any channel. 65,536 bytes of work are more than the 8 times 4,096 that it asks.
+// Import of a btsnoop file, strictly and on any channel. 65,536 bytes of work are more than the 8 times 4,096 that it asks.
 fn import_any(file: &[u8], spans: &mut [u8]) -> Imported
     ensures { λ r. ⌜ Lies r (now (spans .exit)) ⌝ }
 {
     let mut work = io::large_buffer();
     let options = Options {
+        container: Container::Btsnoop,
         channel: Channel::Any,
         tail: Tail::Strict,
     };
     import(file, &mut work, spans, options)
 }
 
+// Why the trace is not read.
+fn print_unread(x: Refusal) {
+    match x {
+        Refusal::FileLong => refuse(1),
+        Refusal::WorkShort => refuse(2),
+        Refusal::NotBtsnoop => refuse(3),
+        Refusal::Datalink(n) => refuse_with(4, n as usize),
+        Refusal::NotPcap => refuse(21),
+        Refusal::LinkType(n) => refuse_with(22, n as usize),
+        Refusal::Truncated(offset) => refuse_with(5, offset),
+    }
+}
+
 // Why import gives no spans.
 fn print_refusal(a: Imported) {
     match a {
         Imported::Spans(_, _, _, _, _) => {}
-        Imported::FileLong => refuse(1),
-        Imported::WorkShort => refuse(2),
-        Imported::NotBtsnoop => refuse(3),
-        Imported::Datalink(n) => refuse_with(4, n as usize),
-        Imported::Truncated(offset) => refuse_with(5, offset),
+        Imported::Refused(x) => print_unread(x),
         Imported::NoStream => refuse(6),
         Imported::OutShort(needed) => refuse_with(7, needed),
     }
