@@ -1,5 +1,5 @@
 pub mod Claims
 pub mod Same
 pub mod Examples
-pub mod Recorded
 pub mod Spelled
+pub mod Sizes

@@ -55,6 +55,12 @@ asPcap big nano R = record { d = R .d; header = pcapHead big nano; records = map
 abbrev pub little : Recording pcap
 little = asPcap false false busy
 
+abbrev pub big : Recording pcap
+big = asPcap true false busy
+
+abbrev pub littleNanos : Recording pcap
+littleNanos = asPcap false true busy
+
 abbrev pub bigNanos : Recording pcap
 bigNanos = asPcap true true busy
 
@@ -66,9 +72,17 @@ little-tested : testedBy source little ≡ passed-all
 unfolding rules every once ends headerTest wholeTest smallTest dlciTest dynamicTest channelTest channelsTest informationTest sizesTest beginningsTest settledIn settledTest aloneIn aloneTest handlesTest dataTest markTest fragmentsTest leftFrom recordsLeft sent dataOf dataLeft pdusIn markedPdus withMarks judgedIn isDataOf toData afterData adds carriesOn file isPcap isBig isLittle isNano number linkOf isLink eqK recordSize be32 be64 le16 le32 packetsIn packets packetOf directedPacket milliseconds timeOf fragment h4Packet pdus run after of joined isComplete stillOpen pduOf completed commandSize isCommand commands chop chopFrom body signalOf signalsIn pduSignals signals any names named asksFor admits admittedAfter admitted isTried asksRfcomm asksSession isSabm isUih shortLength infoLength infoStart creditOf frameOf uihKind frameKind kindBy triedBy judgedFrom judgedBy rxOf packed bodyOf summedOf headOf checksumOf within
 little-tested = refl
 
-big-tested : testedBy source bigNanos ≡ passed-all
+bigNanos-tested : testedBy source bigNanos ≡ passed-all
+unfolding rules every once ends headerTest wholeTest smallTest dlciTest dynamicTest channelTest channelsTest informationTest sizesTest beginningsTest settledIn settledTest aloneIn aloneTest handlesTest dataTest markTest fragmentsTest leftFrom recordsLeft sent dataOf dataLeft pdusIn markedPdus withMarks judgedIn isDataOf toData afterData adds carriesOn file isPcap isBig isLittle isNano number linkOf isLink eqK recordSize be32 be64 le16 le32 packetsIn packets packetOf directedPacket milliseconds timeOf fragment h4Packet pdus run after of joined isComplete stillOpen pduOf completed commandSize isCommand commands chop chopFrom body signalOf signalsIn pduSignals signals any names named asksFor admits admittedAfter admitted isTried asksRfcomm asksSession isSabm isUih shortLength infoLength infoStart creditOf frameOf uihKind frameKind kindBy triedBy judgedFrom judgedBy rxOf packed bodyOf summedOf headOf checksumOf within
+bigNanos-tested = refl
+
+big-tested : testedBy source big ≡ passed-all
 unfolding rules every once ends headerTest wholeTest smallTest dlciTest dynamicTest channelTest channelsTest informationTest sizesTest beginningsTest settledIn settledTest aloneIn aloneTest handlesTest dataTest markTest fragmentsTest leftFrom recordsLeft sent dataOf dataLeft pdusIn markedPdus withMarks judgedIn isDataOf toData afterData adds carriesOn file isPcap isBig isLittle isNano number linkOf isLink eqK recordSize be32 be64 le16 le32 packetsIn packets packetOf directedPacket milliseconds timeOf fragment h4Packet pdus run after of joined isComplete stillOpen pduOf completed commandSize isCommand commands chop chopFrom body signalOf signalsIn pduSignals signals any names named asksFor admits admittedAfter admitted isTried asksRfcomm asksSession isSabm isUih shortLength infoLength infoStart creditOf frameOf uihKind frameKind kindBy triedBy judgedFrom judgedBy rxOf packed bodyOf summedOf headOf checksumOf within
 big-tested = refl
+
+littleNanos-tested : testedBy source littleNanos ≡ passed-all
+unfolding rules every once ends headerTest wholeTest smallTest dlciTest dynamicTest channelTest channelsTest informationTest sizesTest beginningsTest settledIn settledTest aloneIn aloneTest handlesTest dataTest markTest fragmentsTest leftFrom recordsLeft sent dataOf dataLeft pdusIn markedPdus withMarks judgedIn isDataOf toData afterData adds carriesOn file isPcap isBig isLittle isNano number linkOf isLink eqK recordSize be32 be64 le16 le32 packetsIn packets packetOf directedPacket milliseconds timeOf fragment h4Packet pdus run after of joined isComplete stillOpen pduOf completed commandSize isCommand commands chop chopFrom body signalOf signalsIn pduSignals signals any names named asksFor admits admittedAfter admitted isTried asksRfcomm asksSession isSabm isUih shortLength infoLength infoStart creditOf frameOf uihKind frameKind kindBy triedBy judgedFrom judgedBy rxOf packed bodyOf summedOf headOf checksumOf within
+littleNanos-tested = refl
 
 reused-tested : testedBy core littleReused ≡ passed-all
 unfolding openTest holds holdsAfter events eventsAfter eventsOf bothHold latest coreSignals pduCoreSignals coreSignalsIn coreSignalOf rules every once ends headerTest wholeTest smallTest dlciTest dynamicTest channelTest channelsTest informationTest sizesTest beginningsTest settledIn settledTest aloneIn aloneTest handlesTest dataTest markTest fragmentsTest leftFrom recordsLeft sent dataOf dataLeft pdusIn markedPdus withMarks judgedIn isDataOf toData afterData adds carriesOn file isPcap isBig isLittle isNano number linkOf isLink eqK recordSize be32 be64 le16 le32 packetsIn packets packetOf directedPacket milliseconds timeOf fragment h4Packet pdus run after of joined isComplete stillOpen pduOf completed commandSize isCommand commands chop chopFrom body signalOf signalsIn pduSignals signals any names named asksFor admits admittedAfter admitted isTried asksRfcomm asksSession isSabm isUih shortLength infoLength infoStart creditOf frameOf uihKind frameKind kindBy triedBy judgedFrom judgedBy rxOf packed bodyOf summedOf headOf checksumOf within
@@ -76,10 +90,16 @@ reused-tested = refl
 
 -- so the claim for pcap is not empty
 pub little-honest : Honest source little
-little-honest = honest lawful source packedChecked (λ l t. unended) little (little-tested)
+little-honest = honest lawful source packedChecked (λ l t. unended) little little-tested
+
+pub big-honest : Honest source big
+big-honest = honest lawful source packedChecked (λ l t. unended) big big-tested
+
+pub littleNanos-honest : Honest source littleNanos
+littleNanos-honest = honest lawful source packedChecked (λ l t. unended) littleNanos littleNanos-tested
 
 pub bigNanos-honest : Honest source bigNanos
-bigNanos-honest = honest lawful source packedChecked (λ l t. unended) bigNanos (big-tested)
+bigNanos-honest = honest lawful source packedChecked (λ l t. unended) bigNanos bigNanos-tested
 
 pub littleReused-honest : Honest core littleReused
 littleReused-honest = honest lawful core packedChecked (λ l t. unended) littleReused reused-tested
@@ -101,3 +121,22 @@ pub all-cuts :
     (foundBy source little 23 ≡ missing 21 []) × (leftAt little 23 ≡ missing 6 [])
 unfolding cut file tailLeft ofHandle closedIn framesLeft midFrame endsMid midIn midLeft leftFrom recordsLeft sent dataOf dataLeft outcome isPcap isBig isLittle isNano number linkOf isLink endsWell read tailOffset records recordsIn chop chopFrom isWhole recordSize be32 be64 le16 le32 eqK filePieces packetsIn packets packetOf directedPacket milliseconds timeOf fragment h4Packet pdus run after of joined isComplete stillOpen pduOf completed commandSize isCommand commands body signalOf signalsIn pduSignals signals any names named asksFor admits admittedAfter admitted isTried asksRfcomm asksSession isSabm isUih shortLength infoLength infoStart creditOf frameOf uihKind frameKind kindBy triedBy judgedFrom judgedBy counted pieceOf brought pieces seek spansN restN spansOf restOf capped spans unfinished onDlci count nub mem onChannel first hasFrame chosen listed unpacksOf unpackOf judgedFrame isGiven within checksumOf packed bodyOf summedOf headOf rxOf
 all-cuts = (refl, refl, refl, refl)
+
+-- the same frames in each byte order and resolution, and the same counts
+abbrev few : List ℕ
+few = 575 ∷ 357 ∷ 24 ∷ []
+
+abbrev fewer : List Found
+fewer = found 18 (four ++ (span 0 10 w₀ ∷ [])) 1 539 ∷ found 18 (span 1 7 w₃ ∷ span 1 7 w₂ ∷ []) 0 313 ∷ missing 6 [] ∷ []
+
+pub big-cuts : (map (foundBy source big) few ≡ fewer) × (map (leftAt big) few ≡ fewer)
+unfolding cut file tailLeft ofHandle closedIn framesLeft midFrame endsMid midIn midLeft leftFrom recordsLeft sent dataOf dataLeft outcome isPcap isBig isLittle isNano number linkOf isLink endsWell read tailOffset records recordsIn chop chopFrom isWhole recordSize be32 be64 le16 le32 eqK filePieces packetsIn packets packetOf directedPacket milliseconds timeOf fragment h4Packet pdus run after of joined isComplete stillOpen pduOf completed commandSize isCommand commands body signalOf signalsIn pduSignals signals any names named asksFor admits admittedAfter admitted isTried asksRfcomm asksSession isSabm isUih shortLength infoLength infoStart creditOf frameOf uihKind frameKind kindBy triedBy judgedFrom judgedBy counted pieceOf brought pieces seek spansN restN spansOf restOf capped spans unfinished onDlci count nub mem onChannel first hasFrame chosen listed unpacksOf unpackOf judgedFrame isGiven within checksumOf packed bodyOf summedOf headOf rxOf
+big-cuts = (refl, refl)
+
+pub littleNanos-cuts : (map (foundBy source littleNanos) few ≡ fewer) × (map (leftAt littleNanos) few ≡ fewer)
+unfolding cut file tailLeft ofHandle closedIn framesLeft midFrame endsMid midIn midLeft leftFrom recordsLeft sent dataOf dataLeft outcome isPcap isBig isLittle isNano number linkOf isLink endsWell read tailOffset records recordsIn chop chopFrom isWhole recordSize be32 be64 le16 le32 eqK filePieces packetsIn packets packetOf directedPacket milliseconds timeOf fragment h4Packet pdus run after of joined isComplete stillOpen pduOf completed commandSize isCommand commands body signalOf signalsIn pduSignals signals any names named asksFor admits admittedAfter admitted isTried asksRfcomm asksSession isSabm isUih shortLength infoLength infoStart creditOf frameOf uihKind frameKind kindBy triedBy judgedFrom judgedBy counted pieceOf brought pieces seek spansN restN spansOf restOf capped spans unfinished onDlci count nub mem onChannel first hasFrame chosen listed unpacksOf unpackOf judgedFrame isGiven within checksumOf packed bodyOf summedOf headOf rxOf
+littleNanos-cuts = (refl, refl)
+
+pub bigNanos-cuts : (map (foundBy source bigNanos) few ≡ fewer) × (map (leftAt bigNanos) few ≡ fewer)
+unfolding cut file tailLeft ofHandle closedIn framesLeft midFrame endsMid midIn midLeft leftFrom recordsLeft sent dataOf dataLeft outcome isPcap isBig isLittle isNano number linkOf isLink endsWell read tailOffset records recordsIn chop chopFrom isWhole recordSize be32 be64 le16 le32 eqK filePieces packetsIn packets packetOf directedPacket milliseconds timeOf fragment h4Packet pdus run after of joined isComplete stillOpen pduOf completed commandSize isCommand commands body signalOf signalsIn pduSignals signals any names named asksFor admits admittedAfter admitted isTried asksRfcomm asksSession isSabm isUih shortLength infoLength infoStart creditOf frameOf uihKind frameKind kindBy triedBy judgedFrom judgedBy counted pieceOf brought pieces seek spansN restN spansOf restOf capped spans unfinished onDlci count nub mem onChannel first hasFrame chosen listed unpacksOf unpackOf judgedFrame isGiven within checksumOf packed bodyOf summedOf headOf rxOf
+bigNanos-cuts = (refl, refl)

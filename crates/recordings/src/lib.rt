@@ -1,0 +1,1 @@
+// Honest pcap recordings, computed: proofs only.
