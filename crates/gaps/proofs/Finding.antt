@@ -1,22 +1,19 @@
 -- From the walks to the call: the signs found, each refusal, and what is told.
 use Prim.Native.Nat.{ℕ}
-use mathlib.Core.Path.{_≡_, refl, sym, ap, _∙_}
-use mathlib.Core.Bool.{false, _&&_}
+use mathlib.Core.Path.{_≡_, refl, sym, _∙_}
 use mathlib.Core.List.{List, [], _++_}
-use native.Mathlib.Omega.{arith}
 use lib.ListN.{length}
 use Rattle.laws.proofs.Choice.{no-way}
-use Rattle.laws.specs.Answers.{Answer, accepted, refused}
+use Rattle.laws.specs.Answers.{accepted}
 use Rattle.trace.specs.Formats.{containerOf, formatOf}
 use Rattle.trace.specs.Headers.{toldRefusal}
 use Rattle.trace.specs.declared.Container.{Container}
 use Rattle.trace.specs.declared.Format.{Format}
 use Rattle.trace.specs.declared.Refusal.{Refusal}
 use Rattle.trace.specs.declared.Refusal.the-variants.{FileLong, WorkShort, NotBtsnoop, Datalink, NotPcap, LinkType, Truncated}
-use Rattle.packets.specs.Adding.{ReadTo}
 use Rattle.packets.specs.PacketTable.{Read}
 use Rattle.packets.specs.declared.Packets.{Packets}
-use Rattle.outcome.specs.Import.{Tail, fits, workSuffices}
+use Rattle.outcome.specs.Import.{Tail}
 use Rattle.opening.specs.Opening.{opened, Opens}
 use Rattle.opening.proofs.AsImport.{opened-sized}
 use Rattle.opening.specs.declared.Opened.{Opened}
@@ -24,7 +21,7 @@ use Rattle.opening.specs.declared.Opened.the-variants.{Read as Opens-to, Refuse
 use Rattle.signs.specs.Places.{packetsAt}
 use Rattle.signs.specs.Partial.{leftOpen}
 use Rattle.signs.specs.Gaps.{recordGaps, packetGaps, gaps}
-use Rattle.signs.specs.Counting.{gapOf, Counted}
+use Rattle.signs.specs.Counting.{Counted}
 use Rattle.signs.specs.Following.{Followed}
 use Rattle.signs.proofs.Counting.{counted-gap}
 use Rattle.signs.proofs.PlaceOrder.{places-many}
@@ -33,10 +30,10 @@ use Rattle.recorded.specs.Looking.{recordedOf, Readable}
 use Rattle.recorded.specs.declared.Recorded.{Recorded}
 use Rattle.following.specs.Passing.{FollowedTo}
 use Rattle.following.specs.declared.Partial.{Partial}
-use Rattle.telling.specs.Telling.{numberOf, valuesOf, stored, Told, Shows, Tells}
+use Rattle.telling.specs.Telling.{numberOf, valuesOf, stored, Shows, Tells}
 use Rattle.telling.proofs.TellLaws.{told-as}
 use Rattle.telling.specs.declared.Shown.{Shown}
-use Rattle.gaps.specs.Calls.{orValues, gapsOf, signsOf, toldGaps, Finds, GapsCalls}
+use Rattle.gaps.specs.Calls.{orValues, gapsOf, signsOf, Finds, GapsCalls}
 use Rattle.gaps.specs.declared.Signs.{Signs}
 use Rattle.gaps.specs.declared.Gaps.{Gaps}
 use Rattle.gaps.specs.declared.Gaps.the-variants.{Found, Refused}

@@ -86,11 +86,13 @@ module _ (f : List ℕ) (at end : ℕ) (pre : pcap-reading.RecordPre f at end) w
 
   pub directed-short : end - at < 20 → DirectedIs f at end false
   unfolding isAcl
-  directed-short h = record { is = λ e. sym (
-      let l : length (between f at end) ≤ 20 = omega (arith, part-length) in
-      let n : drop 20 (between f at end) ≡ [] = drop-of-length-le (between f at end) l in
-      let z : eqb (getD (drop 20 (between f at end)) 0 0) 2 ≡ false = rw n in
-      rw z (and-false (eqb (be32 (drop 16 (between f at end)) 0) 0 || eqb (be32 (drop 16 (between f at end)) 0) 1))) }
+  directed-short h = record {
+    is = λ e. sym (
+        let l : length (between f at end) ≤ 20 = omega (arith, part-length) in
+        let n : drop 20 (between f at end) ≡ [] = drop-of-length-le (between f at end) l in
+        let z : eqb (getD (drop 20 (between f at end)) 0 0) 2 ≡ false = rw n in
+        rw z (and-false (eqb (be32 (drop 16 (between f at end)) 0) 0 || eqb (be32 (drop 16 (between f at end)) 0) 1)));
+  }
 
   module _ (h : 20 ≤ end - at) (way : ℕ) (w : way ≡ be32 f (at + 16)) where
     way-part : be32 (drop 16 (between f at end)) 0 ≡ way
@@ -98,9 +100,11 @@ module _ (f : List ℕ) (at end : ℕ) (pre : pcap-reading.RecordPre f at end) w
 
     pub directed-acl : way < 2 → (t : Bool) → t ≡ eqb (getD (between f (at + 20) end) 0 0) 2 → DirectedIs f at end t
     unfolding isAcl
-    directed-acl g t q = record { is = λ e. rw (way-part, drop-part f at (end - at) 20 (omega arith), type-part) (split≤ 1 way
-        (λ l. let z : way ≡ 1 = omega arith in rw (ne-eqb way 0 (λ y. absurd (omega arith)), eq-eqb way 1 z) q)
-        (λ l. let z : way ≡ 0 = omega arith in rw (eq-eqb way 0 z) q)) }
+    directed-acl g t q = record {
+      is = λ e. rw (way-part, drop-part f at (end - at) 20 (omega arith), type-part) (split≤ 1 way
+          (λ l. let z : way ≡ 1 = omega arith in rw (ne-eqb way 0 (λ y. absurd (omega arith)), eq-eqb way 1 z) q)
+          (λ l. let z : way ≡ 0 = omega arith in rw (eq-eqb way 0 z) q));
+    }
 
     pub directed-other : 2 ≤ way → DirectedIs f at end false
     unfolding isAcl

@@ -8,7 +8,6 @@ use Rattle.container.specs.Packets.{Packet}
 use Rattle.trace.specs.Formats.{packetsBy}
 use Rattle.trace.specs.declared.Format.{Format}
 use Rattle.packets.specs.PacketTable.{packetAt, packetsFrom, Tabled}
-use Rattle.fragments.specs.Links.{Seats}
 use Rattle.l2cap.specs.Pdus.{packetKey}
 use Rattle.l2cap.specs.Steps.{rowAt, RowPre, openIn}
 use Rattle.l2cap.specs.declared.Open.{Open}
