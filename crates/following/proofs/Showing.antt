@@ -8,8 +8,9 @@ use lib.Dec.{eqb}
 use borrow.Author.Tests.{eq-eqb, ne-eqb}
 use Rattle.laws.proofs.Choice.{no-way}
 use Rattle.words.specs.Words.{word}
-use Rattle.btsnoop.specs.Packets.{packetOf}
-use Rattle.btsnoop.specs.Reading.{between}
+use Rattle.acl.specs.Reading.{between}
+use Rattle.trace.specs.Formats.{packetBy}
+use Rattle.trace.specs.declared.Format.{Format}
 use Rattle.l2cap.specs.Steps.{rowAt, openIn, Ran}
 use Rattle.l2cap.specs.declared.Open.{Open}
 use Rattle.l2cap.specs.declared.Open.the-variants.{Closed, From}
@@ -72,12 +73,12 @@ turn-done f w q at s g ge u t ran = record { count = refl; stepped = ran-one f q
 
 -- ---- one record
 
-module _ (f w : List ℕ) (q at e datalink : ℕ) (s : Pass) (b : Bool) (be : b ≡ isNone (packetOf datalink (between f at e))) where
-  pub record-skip : b ≡ true → RecordTurned f w q at e datalink s w s
+module _ (g : Format) (f w : List ℕ) (q at e : ℕ) (s : Pass) (b : Bool) (be : b ≡ isNone (packetBy g (between f at e))) where
+  pub record-skip : b ≡ true → RecordTurned g f w q at e s w s
   record-skip h = record { skips = λ z. (refl, refl); turned = λ z. no-way (sym be ∙ h) z }
 
-  pub record-turn : b ≡ false → RecordTurn f w q at e datalink s → Turn f w q s
+  pub record-turn : b ≡ false → RecordTurn g f w q at e s → Turn f w q s
   record-turn h p = p .turn (sym be ∙ h)
 
-  pub record-done : b ≡ false → (u : List ℕ) (r : Pass) → Turned f w q at s u r → RecordTurned f w q at e datalink s u r
+  pub record-done : b ≡ false → (u : List ℕ) (r : Pass) → Turned f w q at s u r → RecordTurned g f w q at e s u r
   record-done h u r d = record { skips = λ z. no-way z (sym be ∙ h); turned = λ z. d }

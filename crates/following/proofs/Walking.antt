@@ -1,5 +1,5 @@
 -- The walk over the records, from the first to the end of the whole ones.
-use Prim.Native.Nat.{ℕ, suc, _+_, _-_, _*_, _/_, _<_}
+use Prim.Native.Nat.{ℕ, suc, _+_, _-_, _*_, _/_, _<_, _≤_}
 use mathlib.Core.Path.{_≡_, refl, sym, ap, _∙_}
 use mathlib.Core.Bool.{true, false}
 use mathlib.Core.List.{List, [], _∷_}
@@ -9,16 +9,14 @@ use lib.ListN.{length}
 use Rattle.laws.proofs.Choice.{split≤, no-way}
 use Rattle.laws.specs.Keys.{Key}
 use Rattle.laws.specs.Keyed.{after}
-use Rattle.laws.specs.Numbers.{be32}
 use Rattle.words.specs.Words.{word}
-use Rattle.container.specs.Container.{packetsIn}
 use Rattle.container.specs.Packets.{Packet}
-use Rattle.btsnoop.specs.Header.{datalink}
-use Rattle.btsnoop.specs.Records.{btsnoop}
-use Rattle.btsnoop.specs.Packets.{packetOf}
-use Rattle.btsnoop.specs.Reading.{between}
+use Rattle.acl.specs.Reading.{between}
+use Rattle.trace.specs.Formats.{fileHead, packetBy, packetsBy}
+use Rattle.trace.proofs.Formats.{head-least}
 use Rattle.trace.specs.Reader.{stepOf}
 use Rattle.trace.specs.Walk.{RecordAt}
+use Rattle.trace.specs.declared.Format.{Format}
 use Rattle.packets.specs.PacketTable.{packetAt, packetsFrom, Read}
 use Rattle.packets.proofs.PacketFrames.{packets-next, packets-front}
 use Rattle.trace.specs.declared.Step.{Step}
@@ -45,42 +43,47 @@ use Rattle.following.proofs.Following.{Following, way-at, turn-pre, tur
 -- ---- before the first packet
 
 -- the packets of the whole records from a place on
-unfoldable pub coming : List ℕ → ℕ → List (Placed Packet)
-coming f at = placedPackets (packetOf (datalink f)) (restAt f at)
+unfoldable pub coming : Format → List ℕ → ℕ → List (Placed Packet)
+coming g f at = placedPackets (packetBy g) (restAt g f at)
 
-coming-start : (f : List ℕ) → coming f 16 ≡ packetsAt btsnoop f
+coming-start : (g : Format) (f : List ℕ) → coming g f (fileHead g) ≡ packetsAt g f
 unfolding coming
-coming-start f = packets-start f
+coming-start g f = packets-start g f
 
-module _ (f w : List ℕ) (count : ℕ) (pre : Read f w count) (q : ℕ) (e : q ≡ length f / 4) where
+module _ (g : Format) (f w : List ℕ) (count : ℕ) (pre : Read g f w count) (q : ℕ) (e : q ≡ length f / 4) where
   module _ (v : List ℕ) (n : ℕ) (l : LinkedTo w q count v n) where
     begun : Fresh f v q n count
     begun = link-fresh f w count (pre .tabled) q e v n l
 
-    list-start : packetsFrom f v 0 count ≡ packetsIn btsnoop f
-    unfolding packetsIn
+    list-start : packetsFrom f v 0 count ≡ packetsBy g f
     list-start = packets-front (4 * (3 * q)) f v w 0 count (omega (arith, pre .tabled .total, e)) (l .front) ∙ pre .list
 
-    none-begun : (k : ℕ) → begunIn f v (3 * q) n (packetsAt btsnoop f) 0 k ≡ none
+    none-begun : (k : ℕ) → begunIn f v (3 * q) n (packetsAt g f) 0 k ≡ none
     unfolding begunIn mapOf heldOf begunAt
     none-begun k = rw (run-closed f v q n count begun k)
 
-    first-follows : Following f v q count v (firstPass q n) (packetsAt btsnoop f)
+    first-follows : Following g f v q count v (firstPass q n) (packetsAt g f)
     unfolding atEnd
     first-follows = record {
       going = going-start f v q n count begun;
       list = list-start;
-      packets = let z : count - 0 ≡ count = omega arith in rw z (file-packets btsnoop f ∙ sym list-start);
+      packets = let z : count - 0 ≡ count = omega arith in rw z (file-packets g f ∙ sym list-start);
       places = λ j. let z : 0 + j ≡ j = omega arith in rw z;
       states = nothing;
       agree = λ p h. sym (none-begun (numberOf p));
-      stray = met-start strayOut (packetsAt btsnoop f);
-      given = met-start givenUpOut (packetsAt btsnoop f);
+      stray = met-start strayOut (packetsAt g f);
+      given = met-start givenUpOut (packetsAt g f);
       ends = refl;
     }
 
-    pub follow-start : (s : Pass) → s ≡ firstPass q n → Following f v q count v s (coming f 16)
-    follow-start s z = rw (z, coming-start f) first-follows
+    pub follow-start : (s : Pass) → s ≡ firstPass q n → (at : ℕ) → (at ≡ fileHead g) × (at ≤ 24) → Following g f v q count v s (coming g f at)
+    follow-start s z at h = rw (z, h .0, coming-start g f) first-follows
+
+-- work keeps its length
+pub follow-size :
+    (g : Format) (f w₀ : List ℕ) (q count : ℕ) (w : List ℕ) (s : Pass) (rest : List (Placed Packet)) → Following g f w₀ q count w s rest →
+    (u : List ℕ) (n : ℕ) → LinkedTo u q count w₀ n → length w ≡ length u
+follow-size g f w₀ q count w s rest v u n l = v .going .size ∙ l .size
 
 -- ---- a record
 
@@ -88,60 +91,55 @@ split-none : {G : Type 0} (o : Option Packet) → (o ≡ none → G) → ((p : P
 split-none none a b = a refl
 split-none (some p) a b = b p refl
 
-module _ (f : List ℕ) (at e : ℕ) (here : RecordAt f at e) where
-  coming-none : packetOf (datalink f) (between f at e) ≡ none → coming f at ≡ coming f e
+module _ (g : Format) (f : List ℕ) (at e : ℕ) (here : RecordAt g f at e) where
+  coming-none : packetBy g (between f at e) ≡ none → coming g f at ≡ coming g f e
   unfolding coming placedPacket
-  coming-none o = rest-packets f at e here (packetOf (datalink f)) ∙ rw o
+  coming-none o = rest-packets g f at e here (packetBy g) ∙ rw o
 
-  coming-some : (p : Packet) → packetOf (datalink f) (between f at e) ≡ some p → coming f at ≡ record { at = at; is = p } ∷ coming f e
+  coming-some : (p : Packet) → packetBy g (between f at e) ≡ some p → coming g f at ≡ record { at = at; is = p } ∷ coming g f e
   unfolding coming placedPacket
-  coming-some p o = rest-packets f at e here (packetOf (datalink f)) ∙ rw o
-
-link-is : (f : List ℕ) (dl : ℕ) → dl ≡ be32 f 12 → dl ≡ datalink f
-unfolding datalink
-link-is f dl e = e
+  coming-some p o = rest-packets g f at e here (packetBy g) ∙ rw o
 
 module _
-    (f w₀ : List ℕ) (q count : ℕ) (w : List ℕ) (s : Pass) (at : ℕ) (v : Following f w₀ q count w s (coming f at))
-    (x : Step) (h : x ≡ stepOf f at) where
+    (g : Format) (f w₀ : List ℕ) (q count : ℕ) (w : List ℕ) (s : Pass) (at : ℕ) (v : Following g f w₀ q count w s (coming g f at))
+    (x : Step) (h : x ≡ stepOf g f at) where
   pub follow-less : (e : ℕ) → x ≡ Record e → length f - e < length f - at
-  follow-less e z = let r : RecordAt f at e = found-record f at x h e z in omega (arith, r .least, r .most)
+  follow-less e z = let r : RecordAt g f at e = found-record g f at x h e z in omega (arith, head-least g, r .least, r .most)
 
-  module _ (e : ℕ) (z : x ≡ Record e) (dl : ℕ) (de : dl ≡ be32 f 12) where
-    here : RecordAt f at e
-    here = found-record f at x h e z
+  module _ (e : ℕ) (z : x ≡ Record e) where
+    here : RecordAt g f at e
+    here = found-record g f at x h e z
 
-    pub follow-pre : RecordTurn f w q at e dl s
+    pub follow-pre : RecordTurn g f w q at e s
     unfolding isNone
     follow-pre = record {
       here = record { least = here .least; most = here .most; small = v .going .run .tabled .small };
-      turn = rw (link-is f dl de) (split-none (packetOf (datalink f) (between f at e))
+      turn = split-none (packetBy g (between f at e))
           (λ o m. no-way (rw o) m)
-          (λ p o m. turn-pre f w₀ q count w s (record { at = at; is = p }) (coming f e) (rw (coming-some f at e here p o) at v)));
+          (λ p o m. turn-pre g f w₀ q count w s (record { at = at; is = p }) (coming g f e) (rw (coming-some g f at e here p o) at v));
     }
 
-    pub follow-again : (u : List ℕ) (r : Pass) → RecordTurned f w q at e dl s u r → Following f w₀ q count u r (coming f e)
+    pub follow-again : (u : List ℕ) (r : Pass) → RecordTurned g f w q at e s u r → Following g f w₀ q count u r (coming g f e)
     unfolding isNone
-    follow-again u r d₀ =
-        let d : RecordTurned f w q at e (datalink f) s u r = (rw (link-is f dl de) at d₀) in
-        split-none (packetOf (datalink f) (between f at e))
+    follow-again u r d =
+        split-none (packetBy g (between f at e))
         (λ o.
-        let m : isNone (packetOf (datalink f) (between f at e)) ≡ true = rw o in
-        rw (d .skips m .0, d .skips m .1) (rw (coming-none f at e here o) at v))
+        let m : isNone (packetBy g (between f at e)) ≡ true = rw o in
+        rw (d .skips m .0, d .skips m .1) (rw (coming-none g f at e here o) at v))
         (λ p o.
-        let m : isNone (packetOf (datalink f) (between f at e)) ≡ false = rw o in
-        turn-next f w₀ q count w s (record { at = at; is = p }) (coming f e) (rw (coming-some f at e here p o) at v) u r (d .turned m))
+        let m : isNone (packetBy g (between f at e)) ≡ false = rw o in
+        turn-next g f w₀ q count w s (record { at = at; is = p }) (coming g f e) (rw (coming-some g f at e here p o) at v) u r (d .turned m))
 
 -- ---- the end
 
-module _ (f w₀ : List ℕ) (q count : ℕ) (w : List ℕ) (s : Pass) (v : Following f w₀ q count w s []) where
+module _ (g : Format) (f w₀ : List ℕ) (q count : ℕ) (w : List ℕ) (s : Pass) (v : Following g f w₀ q count w s []) where
   all-read : s .count ≡ count
   all-read =
       split≤ count (s .count)
       (λ h. omega (arith, v .going .run .within))
       (λ h. let z : 0 ≡ suc (length (packetsFrom f w₀ (s .count + 1) (count - (s .count + 1)))) = ap length (v .packets ∙ packets-next f w₀ (s .count) count h) in absurd (omega arith))
 
-  end-states : (k : Key) → atEnd (packetsAt btsnoop f) k ≡ v .states k
+  end-states : (k : Key) → atEnd (packetsAt g f) k ≡ v .states k
   unfolding after
   end-states k = ap (λ (m : Key → Begun). m k) (sym (v .ends))
 
@@ -149,7 +147,7 @@ module _ (f w₀ : List ℕ) (q count : ℕ) (w : List ℕ) (s : Pass) (v : Foll
     end-open : openAt w (3 * q) (s .tables .live) (word w (6 * j)) ≡ openIn w (rowAt w q j)
     end-open = going-open f w₀ q count w (s .tables) (s .count) (v .going) j h
 
-    end-begun : openPlace (packetsAt btsnoop f) (openIn w (rowAt w q j)) ≡ begunPlace (atEnd (packetsAt btsnoop f) (packetKey (packetAt f w j)))
+    end-begun : openPlace (packetsAt g f) (openIn w (rowAt w q j)) ≡ begunPlace (atEnd (packetsAt g f) (packetKey (packetAt f w j)))
     unfolding begunIn mapOf
     end-begun =
         rw (
@@ -157,12 +155,12 @@ module _ (f w₀ : List ℕ) (q count : ℕ) (w : List ℕ) (s : Pass) (v : Foll
           end-states (packetKey (packetAt f w j)),
           v .agree (packetAt f w j) (way-at f w j),
           number-at f w j,
-        ) (begun-place f w (packetsAt btsnoop f) (word w (6 * j)) (s .count) (openAt w (3 * q) (s .tables .live) (word w (6 * j))))
+        ) (begun-place f w (packetsAt g f) (word w (6 * j)) (s .count) (openAt w (3 * q) (s .tables .live) (word w (6 * j))))
 
-    end-known : (a g : ℕ) → openIn w (rowAt w q j) ≡ From a g → a < count
-    end-known a g e = omega (arith, v .going .run .ready .sound .sound (word w (6 * j)) a g (end-open ∙ e) .0, all-read)
+    end-known : (a n : ℕ) → openIn w (rowAt w q j) ≡ From a n → a < count
+    end-known a n e = omega (arith, v .going .run .ready .sound .sound (word w (6 * j)) a n (end-open ∙ e) .0, all-read)
 
-  end-followed : Followed f w count
+  end-followed : Followed g f w count
   end-followed = record {
     small = v .going .run .tabled .small;
     tabled = v .going .run .tabled;
@@ -170,26 +168,26 @@ module _ (f w₀ : List ℕ) (q count : ℕ) (w : List ℕ) (s : Pass) (v : Foll
     rows = rw (← v .going .run .ready .quarter) (going-row f w₀ q count w (s .tables) (s .count) (v .going));
     room = rw (← v .going .run .ready .quarter) (going-room f w₀ q count w (s .tables) (s .count) (v .going));
     opened = rw (← v .going .run .ready .quarter) end-begun;
-    known = rw (← v .going .run .ready .quarter) (λ j a g h e. end-known j h a g e);
+    known = rw (← v .going .run .ready .quarter) (λ j a n h e. end-known j h a n e);
   }
 
-  ended : FollowedTo f count w (s .signs)
+  ended : FollowedTo g f count w (s .signs)
   unfolding strays givenUp
   ended = record {
-    stray = counted-gap (s .signs .stray) (strays (packetsAt btsnoop f)) (met-end strayOut (packetsAt btsnoop f) (v .states) (s .count) (s .signs .stray) (v .stray));
-    given = counted-gap (s .signs .«given_up») (givenUp (packetsAt btsnoop f)) (met-end givenUpOut (packetsAt btsnoop f) (v .states) (s .count) (s .signs .«given_up») (v .given));
+    stray = counted-gap (s .signs .stray) (strays (packetsAt g f)) (met-end strayOut (packetsAt g f) (v .states) (s .count) (s .signs .stray) (v .stray));
+    given = counted-gap (s .signs .«given_up») (givenUp (packetsAt g f)) (met-end givenUpOut (packetsAt g f) (v .states) (s .count) (s .signs .«given_up») (v .given));
     followed = end-followed;
   }
 
-coming-nil : (f : List ℕ) (at : ℕ) → restAt f at ≡ [] → coming f at ≡ []
+coming-nil : (g : Format) (f : List ℕ) (at : ℕ) → restAt g f at ≡ [] → coming g f at ≡ []
 unfolding coming placedPackets
-coming-nil f at e = rw e
+coming-nil g f at e = rw e
 
 module _
-    (f w₀ : List ℕ) (q count : ℕ) (w : List ℕ) (s : Pass) (at : ℕ) (v : Following f w₀ q count w s (coming f at))
-    (x : Step) (h : x ≡ stepOf f at) where
-  pub follow-cut : (p : ℕ) → x ≡ Cut p → FollowedTo f count w (s .signs)
-  follow-cut p z = ended f w₀ q count w s (rw (coming-nil f at (found-cut f at x h p z)) at v)
+    (g : Format) (f w₀ : List ℕ) (q count : ℕ) (w : List ℕ) (s : Pass) (at : ℕ) (v : Following g f w₀ q count w s (coming g f at))
+    (x : Step) (h : x ≡ stepOf g f at) where
+  pub follow-cut : (p : ℕ) → x ≡ Cut p → FollowedTo g f count w (s .signs)
+  follow-cut p z = ended g f w₀ q count w s (rw (coming-nil g f at (found-cut g f at x h p z)) at v)
 
-  pub follow-end : x ≡ End → FollowedTo f count w (s .signs)
-  follow-end z = ended f w₀ q count w s (rw (coming-nil f at (found-end f at x h z)) at v)
+  pub follow-end : x ≡ End → FollowedTo g f count w (s .signs)
+  follow-end z = ended g f w₀ q count w s (rw (coming-nil g f at (found-end g f at x h z)) at v)

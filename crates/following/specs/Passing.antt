@@ -5,9 +5,10 @@ use mathlib.Core.Bool.{true, false}
 use mathlib.Core.List.{List}
 use lib.Dec.{eqb}
 use Rattle.words.specs.Words.{word}
-use Rattle.btsnoop.specs.Packets.{packetOf}
-use Rattle.btsnoop.specs.Reading.{between, RecordPre}
-use Rattle.btsnoop.specs.Records.{btsnoop}
+use Rattle.acl.specs.Reading.{between}
+use Rattle.trace.specs.Formats.{packetBy}
+use Rattle.trace.specs.Walk.{RecordPre}
+use Rattle.trace.specs.declared.Format.{Format}
 use Rattle.l2cap.specs.Steps.{rowAt, openIn, Step, Stepped}
 use Rattle.signs.specs.Places.{packetsAt}
 use Rattle.signs.specs.Recorded.{isNone}
@@ -34,13 +35,13 @@ pub record Turned (f w : List ℕ) (q at : ℕ) (s : Pass) (u : List ℕ) (r : P
 
 -- ---- one record
 
-pub record RecordTurn (f w : List ℕ) (q at end datalink : ℕ) (s : Pass) : Type 0 where
-  pub here : RecordPre f at end
-  pub turn : isNone (packetOf datalink (between f at end)) ≡ false → Turn f w q s
+pub record RecordTurn (g : Format) (f w : List ℕ) (q at end : ℕ) (s : Pass) : Type 0 where
+  pub here : RecordPre g f at end
+  pub turn : isNone (packetBy g (between f at end)) ≡ false → Turn f w q s
 
-pub record RecordTurned (f w : List ℕ) (q at end datalink : ℕ) (s : Pass) (u : List ℕ) (r : Pass) : Type 0 where
-  pub skips : isNone (packetOf datalink (between f at end)) ≡ true → (u ≡ w) × (r ≡ s)
-  pub turned : isNone (packetOf datalink (between f at end)) ≡ false → Turned f w q at s u r
+pub record RecordTurned (g : Format) (f w : List ℕ) (q at end : ℕ) (s : Pass) (u : List ℕ) (r : Pass) : Type 0 where
+  pub skips : isNone (packetBy g (between f at end)) ≡ true → (u ≡ w) × (r ≡ s)
+  pub turned : isNone (packetBy g (between f at end)) ≡ false → Turned f w q at s u r
 
 -- ---- the file
 
@@ -53,7 +54,7 @@ firstPass q n = record {
 }
 
 -- the signs of its packets are counted, and work says what is open at the end
-pub record FollowedTo (f : List ℕ) (count : ℕ) (u : List ℕ) (r : Partial) : Type 0 where
-  pub stray : gapOf (r .stray) ≡ tallied (strays (packetsAt btsnoop f))
-  pub given : gapOf (r .«given_up») ≡ tallied (givenUp (packetsAt btsnoop f))
-  pub followed : Followed f u count
+pub record FollowedTo (g : Format) (f : List ℕ) (count : ℕ) (u : List ℕ) (r : Partial) : Type 0 where
+  pub stray : gapOf (r .stray) ≡ tallied (strays (packetsAt g f))
+  pub given : gapOf (r .«given_up») ≡ tallied (givenUp (packetsAt g f))
+  pub followed : Followed g f u count

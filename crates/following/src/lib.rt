@@ -7,8 +7,6 @@ ghost use Rattle.packets.specs.PacketTable.{Read};
 ghost use Rattle.l2cap.specs.Steps.{rowAt, openIn};
 ghost use Rattle.following.specs.Showing.{shownBy, Show};
 ghost use Rattle.following.specs.Passing.{firstPass, Turn, Turned, RecordTurn, RecordTurned, FollowedTo};
-use btsnoop::Step;
-use btsnoop::read_at;
 use fragments::link_packets;
 use l2cap::Open;
 use l2cap::Tables;
@@ -18,7 +16,10 @@ use l2cap::run;
 use signs::Gap;
 use signs::lacks_packet;
 use signs::note;
-use words::get_be32;
+use trace::Format;
+use trace::Step;
+use trace::file_head;
+use trace::read_at;
 use words::get32;
 
 // Continuations with nothing open, and starts that give up a partial PDU.
@@ -89,13 +90,13 @@ fn follow_record(
     q: usize,
     at: usize,
     end: usize,
-    datalink: u32,
+    format: Format,
     s: Pass,
 ) -> Pass
-    requires { ⌜ RecordTurn (now file) (now w) q at end datalink s ⌝ }
-    ensures { λ r. ⌜ RecordTurned (now (file .entry)) (now (w .entry)) q at end datalink s (now (w .exit)) r ⌝ }
+    requires { ⌜ RecordTurn format (now file) (now w) q at end s ⌝ }
+    ensures { λ r. ⌜ RecordTurned format (now (file .entry)) (now (w .entry)) q at end s (now (w .exit)) r ⌝ }
 {
-    if lacks_packet(file, at, end, datalink) {
+    if lacks_packet(file, at, end, format) {
         return s;
     }
     follow_packet(file, w, q, at, s)
@@ -124,20 +125,19 @@ fn first_pass(q: usize, rows: usize) -> Pass
 }
 
 // The signs of all packets, whose table stands at the start of work. Work then has the rows of what is open.
-pub fn follow_packets(file: &[u8], w: &mut [u8], count: usize) -> Partial
-    requires { ⌜ Read (now file) (now w) count ⌝ }
-    ensures { λ r. ⌜ FollowedTo (now (file .entry)) count (now (w .exit)) r ⌝ }
+pub fn follow_packets(file: &[u8], w: &mut [u8], format: Format, count: usize) -> Partial
+    requires { ⌜ Read format (now file) (now w) count ⌝ }
+    ensures { λ r. ⌜ FollowedTo format (now (file .entry)) count (now (w .exit)) r ⌝ }
 {
     let q = file.len() / 4;
     let rows = link_packets(w, q, count);
     let mut s = first_pass(q, rows);
-    let mut at = 16;
-    let datalink = get_be32(file, 12);
+    let mut at = file_head(format);
     loop {
-        let x = read_at(file, at);
+        let x = read_at(file, at, format);
         match x {
             Step::Record(end) => {
-                s = follow_record(file, w, q, at, end, datalink, s);
+                s = follow_record(file, w, q, at, end, format, s);
                 at = end;
             }
             Step::Cut(_) => {

@@ -3,23 +3,28 @@ ghost use mathlib.Core.Path.{_≡_};
 ghost use Rattle.packets.specs.PacketTable.{Read};
 ghost use Rattle.opening.specs.Opening.{tailOf};
 ghost use Rattle.signs.specs.Gaps.{gaps};
+ghost use Rattle.trace.specs.declared.Container.the-variants.{Btsnoop};
 ghost use Rattle.telling.specs.Telling.{stored};
-ghost use Rattle.imports.specs.Numbers.{tailNumber};
+ghost use Rattle.options.specs.Numbers.{tailNumber, tailIn, containerIn};
 ghost use Rattle.gaps.specs.Calls.{signsOf, Finds, GapsCalls};
 use following::Partial;
 use following::follow_packets;
-use imports::tail_of;
 use leftover::left_open;
 use opening::Opened;
 use opening::Tail;
 use opening::open_trace;
+use options::container_in;
+use options::tail_in;
+use options::tail_of;
 use recorded::Recorded;
 use recorded::record_signs;
 use signs::Gap;
-use telling::alone;
+use telling::shown_refusal;
 use telling::store;
 use telling::tell;
-use telling::with_one;
+use trace::Container;
+use trace::Format;
+use trace::Refusal;
 
 // What records show, what packets show, and what is open at the end.
 pub struct Signs {
@@ -31,21 +36,17 @@ pub struct Signs {
 // The signs of a trace, or a refusal.
 pub enum Gaps {
     Found(Signs),
-    FileLong,
-    WorkShort,
-    NotBtsnoop,
-    Datalink(u32),
-    Truncated(usize),
+    Refused(Refusal),
 }
 
 // The signs of a trace whose packets stand in work.
-fn find_signs(file: &[u8], work: &mut [u8], count: usize) -> Signs
-    requires { ⌜ Read (now file) (now work) count ⌝ }
-    ensures { λ r. ⌜ signsOf r ≡ gaps (now (file .entry)) ⌝ }
+fn find_signs(file: &[u8], work: &mut [u8], format: Format, count: usize) -> Signs
+    requires { ⌜ Read format (now file) (now work) count ⌝ }
+    ensures { λ r. ⌜ signsOf r ≡ gaps format (now (file .entry)) ⌝ }
 {
-    let recorded = record_signs(file);
-    let partial = follow_packets(file, work, count);
-    let left = left_open(file, work);
+    let recorded = record_signs(file, format);
+    let partial = follow_packets(file, work, format, count);
+    let left = left_open(file, work, format);
     Signs {
         recorded,
         partial,
@@ -54,17 +55,13 @@ fn find_signs(file: &[u8], work: &mut [u8], count: usize) -> Signs
 }
 
 // The signs of a trace.
-pub fn find_gaps(file: &[u8], work: &mut [u8], tail: Tail) -> Gaps
-    ensures { λ r. ⌜ Finds (now (file .entry)) (now (work .entry)) (tailOf tail) r (now (work .exit)) ⌝ }
+pub fn find_gaps(file: &[u8], work: &mut [u8], container: Container, tail: Tail) -> Gaps
+    ensures { λ r. ⌜ Finds container (now (file .entry)) (now (work .entry)) (tailOf tail) r (now (work .exit)) ⌝ }
 {
-    let x = open_trace(file, work, tail);
+    let x = open_trace(file, work, container, tail);
     match x {
-        Opened::Read(p) => Gaps::Found(find_signs(file, work, p.count)),
-        Opened::FileLong => Gaps::FileLong,
-        Opened::WorkShort => Gaps::WorkShort,
-        Opened::NotBtsnoop => Gaps::NotBtsnoop,
-        Opened::Datalink(n) => Gaps::Datalink(n),
-        Opened::Truncated(at) => Gaps::Truncated(at),
+        Opened::Read(format, p) => Gaps::Found(find_signs(file, work, format, p.count)),
+        Opened::Refused(y) => Gaps::Refused(y),
     }
 }
 
@@ -93,21 +90,39 @@ fn store_signs(s: Signs, values: &mut [u64])
     store(values, &list);
 }
 
-// Tells the signs of a trace, or a refusal: 0 is strict, any other tolerant.
-pub fn gaps_told(file: &[u8], work: &mut [u8], tolerant: u32, values: &mut [u64]) -> u32
-    ensures { λ r. ⌜ GapsCalls (now (file .entry)) (now (work .entry)) (tailNumber tolerant) (now (values .entry)) r (now (work .exit)) (now (values .exit)) ⌝ }
+// Tells the signs of a trace, or a refusal.
+fn tell_gaps(
+    file: &[u8],
+    work: &mut [u8],
+    container: Container,
+    tail: Tail,
+    values: &mut [u64],
+) -> u32
+    ensures { λ r. ⌜ GapsCalls container (now (file .entry)) (now (work .entry)) (tailOf tail) (now (values .entry)) r (now (work .exit)) (now (values .exit)) ⌝ }
 {
-    let tail = tail_of(tolerant as u64);
-    let g = find_gaps(file, work, tail);
+    let g = find_gaps(file, work, container, tail);
     match g {
         Gaps::Found(s) => {
             store_signs(s, values);
             0
         }
-        Gaps::FileLong => tell(alone(1), values),
-        Gaps::WorkShort => tell(alone(2), values),
-        Gaps::NotBtsnoop => tell(alone(3), values),
-        Gaps::Datalink(n) => tell(with_one(4, n as u64), values),
-        Gaps::Truncated(at) => tell(with_one(5, at as u64), values),
+        Gaps::Refused(x) => tell(shown_refusal(x), values),
     }
+}
+
+// Tells the signs of a btsnoop file, or a refusal: 0 is strict, any other tolerant.
+pub fn gaps_told(file: &[u8], work: &mut [u8], tolerant: u32, values: &mut [u64]) -> u32
+    ensures { λ r. ⌜ GapsCalls Btsnoop (now (file .entry)) (now (work .entry)) (tailNumber tolerant) (now (values .entry)) r (now (work .exit)) (now (values .exit)) ⌝ }
+{
+    let tail = tail_of(tolerant as u64);
+    tell_gaps(file, work, Container::Btsnoop, tail, values)
+}
+
+// Tells the signs of a trace by options in a list of numbers, or a refusal.
+pub fn gaps_with(file: &[u8], work: &mut [u8], options: &[u64], values: &mut [u64]) -> u32
+    ensures { λ r. ⌜ GapsCalls (containerIn (now (options .entry))) (now (file .entry)) (now (work .entry)) (tailIn (now (options .entry))) (now (values .entry)) r (now (work .exit)) (now (values .exit)) ⌝ }
+{
+    let container = container_in(options);
+    let tail = tail_in(options);
+    tell_gaps(file, work, container, tail, values)
 }

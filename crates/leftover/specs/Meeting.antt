@@ -5,8 +5,10 @@ use mathlib.Core.Bool.{Bool, false, cond}
 use mathlib.Core.List.{List}
 use lib.ListN.{length}
 use lib.Dec.{eqb}
-use Rattle.btsnoop.specs.Packets.{packetOf}
-use Rattle.btsnoop.specs.Reading.{between, RecordPre}
+use Rattle.acl.specs.Reading.{between}
+use Rattle.trace.specs.Formats.{packetBy}
+use Rattle.trace.specs.Walk.{RecordPre}
+use Rattle.trace.specs.declared.Format.{Format}
 use Rattle.l2cap.specs.Steps.{rowAt, RowPre, openIn}
 use Rattle.l2cap.specs.declared.Open.{Open}
 use Rattle.l2cap.specs.declared.Open.the-variants.{Closed, From}
@@ -36,7 +38,7 @@ pub record CountPre (w : List ℕ) (q i : ℕ) (g : Gap) : Type 0 where
   pub began : BeganPre w q i
   pub note : NotePre g 1
 
-pub record MeetPre (f w : List ℕ) (q datalink at end : ℕ) (m : Met) : Type 0 where
-  pub whole : RecordPre f at end
+pub record MeetPre (g : Format) (f w : List ℕ) (q at end : ℕ) (m : Met) : Type 0 where
+  pub whole : RecordPre g f at end
   pub few : m .packets ≤ 1048576
-  pub count : isNone (packetOf datalink (between f at end)) ≡ false → CountPre w q (m .packets) (m .left)
+  pub count : isNone (packetBy g (between f at end)) ≡ false → CountPre w q (m .packets) (m .left)

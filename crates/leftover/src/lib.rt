@@ -1,9 +1,8 @@
 // What is open at the end of a trace: the packets that began it, counted in one walk over the records.
 ghost use mathlib.Core.Path.{_≡_};
 ghost use lib.ListN.{length};
-ghost use Rattle.btsnoop.specs.Packets.{packetOf};
-ghost use Rattle.btsnoop.specs.Reading.{between};
-ghost use Rattle.btsnoop.specs.Records.{btsnoop};
+ghost use Rattle.acl.specs.Reading.{between};
+ghost use Rattle.trace.specs.Formats.{packetBy};
 ghost use Rattle.l2cap.specs.Steps.{openIn, rowAt};
 ghost use Rattle.signs.specs.Places.{packetsAt};
 ghost use Rattle.signs.specs.Partial.{leftOpen};
@@ -11,15 +10,16 @@ ghost use Rattle.signs.specs.Recorded.{isNone};
 ghost use Rattle.signs.specs.Counting.{Counted};
 ghost use Rattle.signs.specs.Following.{Followed};
 ghost use Rattle.leftover.specs.Meeting.{beganBy, countedAt, metAt, BeganPre, CountPre, MeetPre};
-use btsnoop::Step;
-use btsnoop::read_at;
 use l2cap::Open;
 use l2cap::look;
 use l2cap::row_of;
 use signs::Gap;
 use signs::lacks_packet;
 use signs::note;
-use words::get_be32;
+use trace::Format;
+use trace::Step;
+use trace::file_head;
+use trace::read_at;
 
 // The packets met so far, and those of them that began what is open at the end.
 struct Met {
@@ -51,14 +51,14 @@ fn count_packet(w: &[u8], q: usize, i: usize, g: Gap, at: usize) -> Gap
 }
 
 // The record from one place up to another. Only a packet takes the next number.
-fn meet(file: &[u8], w: &[u8], q: usize, datalink: u32, at: usize, end: usize, m: Met) -> Met
-    requires { ⌜ MeetPre (now file) (now w) q datalink at end m ⌝ }
-    ensures { λ r. ⌜ r ≡ metAt (now (w .entry)) q at m (isNone (packetOf datalink (between (now (file .entry)) at end))) ⌝ }
+fn meet(file: &[u8], w: &[u8], q: usize, format: Format, at: usize, end: usize, m: Met) -> Met
+    requires { ⌜ MeetPre format (now file) (now w) q at end m ⌝ }
+    ensures { λ r. ⌜ r ≡ metAt (now (w .entry)) q at m (isNone (packetBy format (between (now (file .entry)) at end))) ⌝ }
 {
     let i = m.packets;
     let left = m.left;
     let next = i + 1;
-    if lacks_packet(file, at, end, datalink) {
+    if lacks_packet(file, at, end, format) {
         return Met { packets: i, left };
     }
     Met {
@@ -68,22 +68,21 @@ fn meet(file: &[u8], w: &[u8], q: usize, datalink: u32, at: usize, end: usize, m
 }
 
 // The PDUs that are open at the end: how many, and where the record starts that holds the first packet of the first.
-pub fn left_open(file: &[u8], w: &[u8]) -> Gap
-    requires { ⌜ Followed (now file) (now w) (length (packetsAt btsnoop (now file))) ⌝ }
-    ensures { λ r. ⌜ Counted (leftOpen (packetsAt btsnoop (now (file .entry)))) r ⌝ }
+pub fn left_open(file: &[u8], w: &[u8], format: Format) -> Gap
+    requires { ⌜ Followed format (now file) (now w) (length (packetsAt format (now file))) ⌝ }
+    ensures { λ r. ⌜ Counted (leftOpen (packetsAt format (now (file .entry)))) r ⌝ }
 {
     let q = file.len() / 4;
-    let datalink = get_be32(file, 12);
     let mut m = Met {
         packets: 0,
         left: Gap { many: 0, first: 0 },
     };
-    let mut at = 16;
+    let mut at = file_head(format);
     loop {
-        let x = read_at(file, at);
+        let x = read_at(file, at, format);
         match x {
             Step::Record(end) => {
-                m = meet(file, w, q, datalink, at, end, m);
+                m = meet(file, w, q, format, at, end, m);
                 at = end;
             }
             Step::Cut(_) => {

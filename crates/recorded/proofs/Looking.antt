@@ -6,12 +6,12 @@ use mathlib.Core.List.{List, []}
 use native.Mathlib.Omega.{arith}
 use lib.ListN.{length}
 use borrow.Author.Tests.{lt-ltb, le-ltb}
-use Rattle.laws.specs.Numbers.{be32}
-use Rattle.btsnoop.specs.Header.{datalink}
+use Rattle.acl.specs.Reading.{between}
+use Rattle.trace.specs.Formats.{fileHead, recordHead}
+use Rattle.trace.proofs.Formats.{head-least}
 use Rattle.trace.specs.Reader.{stepOf}
-use Rattle.btsnoop.specs.Reading.{between}
-use Rattle.btsnoop.specs.Records.{btsnoop}
 use Rattle.trace.specs.Walk.{RecordAt}
+use Rattle.trace.specs.declared.Format.{Format}
 use Rattle.trace.specs.declared.Step.{Step}
 use Rattle.trace.specs.declared.Step.the-variants.{Record, Cut, End}
 use Rattle.signs.specs.Places.{recordsAt}
@@ -49,58 +49,56 @@ unfolding notedIf noted
 if-most true g at = omega arith
 if-most false g at = omega arith
 
-module _ (f : List ℕ) (at end link : ℕ) (s : Seen) (p : LookPre f at end s) (here : ℕ) (eh : DropsIs f at here) where
+module _ (g : Format) (f : List ℕ) (at end : ℕ) (s : Seen) (p : LookPre g f at end s) (here : ℕ) (eh : DropsIs g f at here) where
   pub look-done :
-      (a : Bool) → ShortIs f at a → (short : Gap) → short ≡ notedIf a (s .signs .short) at →
+      (a : Bool) → ShortIs g f at a → (short : Gap) → short ≡ notedIf a (s .signs .short) at →
       (dropped : Gap) → Risen (s .last) here (s .signs .dropped) at dropped →
-      (b : Bool) → b ≡ isSkipped link (between f at end) → (skipped : Gap) → skipped ≡ notedIf b (s .signs .skipped) at →
+      (b : Bool) → b ≡ isSkipped g (between f at end) → (skipped : Gap) → skipped ≡ notedIf b (s .signs .skipped) at →
       (c : Bool) → c ≡ isZeros (between f at end) → (zeros : Gap) → zeros ≡ notedIf c (s .signs .zeros) at →
-      Looks f at end link s (record { signs = record { short = short; dropped = dropped; skipped = skipped; zeros = zeros }; last = here })
+      Looks g f at end s (record { signs = record { short = short; dropped = dropped; skipped = skipped; zeros = zeros }; last = here })
   unfolding looked
   look-done a ea short es dropped ed b eb skipped ek c ec zeros ez =
-      let l : at + 24 ≤ end = p .here .least in
+      let l : at + recordHead g ≤ end = p .here .least in
+      let k : at + 16 ≤ end = omega (arith, head-least g) in
       record {
         is = rw (es, ed .is, ek, ez, ea .is end l, eb, ec, eh .is end l);
         bounded = record {
-          short = omega (arith, ap (λ (g : Gap). g .many) es, if-most a (s .signs .short) at, p .bounded .short);
+          short = omega (arith, ap (λ (x : Gap). x .many) es, if-most a (s .signs .short) at, p .bounded .short);
           dropped = omega (arith, ed .most, p .bounded .dropped);
-          skipped = omega (arith, ap (λ (g : Gap). g .many) ek, if-most b (s .signs .skipped) at, p .bounded .skipped);
-          zeros = omega (arith, ap (λ (g : Gap). g .many) ez, if-most c (s .signs .zeros) at, p .bounded .zeros);
+          skipped = omega (arith, ap (λ (x : Gap). x .many) ek, if-most b (s .signs .skipped) at, p .bounded .skipped);
+          zeros = omega (arith, ap (λ (x : Gap). x .many) ez, if-most c (s .signs .zeros) at, p .bounded .zeros);
         };
       }
 
 -- ---- all records
 
 -- the signs up to a place and the records from there on give what all of them do
-pub record Looking (f : List ℕ) (link : ℕ) (s : Seen) (at : ℕ) : Type 0 where
+pub record Looking (g : Format) (f : List ℕ) (s : Seen) (at : ℕ) : Type 0 where
   pub bounded : Bounded s at
-  pub same : lookedAll link s (restAt f at) ≡ lookedAll link unseen (recordsAt btsnoop f)
+  pub same : lookedAll g s (restAt g f at) ≡ lookedAll g unseen (recordsAt g f)
 
-pub looking-start : (f : List ℕ) (link : ℕ) → Looking f link unseen 16
-looking-start f link = record { bounded = record { short = omega arith; dropped = omega arith; skipped = omega arith; zeros = omega arith }; same = rw (rest-start f) }
+pub looking-start : (g : Format) (f : List ℕ) (at : ℕ) → (at ≡ fileHead g) × (at ≤ 24) → Looking g f unseen at
+looking-start g f at h = record { bounded = record { short = omega arith; dropped = omega arith; skipped = omega arith; zeros = omega arith }; same = rw (h .0, rest-start g f) }
 
-module _ (f : List ℕ) (link at : ℕ) (s : Seen) (l : Looking f link s at) (x : Step) (h : x ≡ stepOf f at) where
-  pub looking-pre : Readable f → (e : ℕ) → x ≡ Record e → LookPre f at e s
+module _ (g : Format) (f : List ℕ) (at : ℕ) (s : Seen) (l : Looking g f s at) (x : Step) (h : x ≡ stepOf g f at) where
+  pub looking-pre : Readable f → (e : ℕ) → x ≡ Record e → LookPre g f at e s
   looking-pre p e q =
-      let r : RecordAt f at e = found-record f at x h e q in
+      let r : RecordAt g f at e = found-record g f at x h e q in
       record { here = record { least = r .least; most = r .most; small = p .small }; bounded = l .bounded }
 
   pub looking-less : (e : ℕ) → x ≡ Record e → length f - e < length f - at
-  looking-less e q = let r : RecordAt f at e = found-record f at x h e q in omega (arith, r .least, r .most)
+  looking-less e q = let r : RecordAt g f at e = found-record g f at x h e q in omega (arith, head-least g, r .least, r .most)
 
-  pub looking-turn : (e : ℕ) → x ≡ Record e → (t : Seen) → Looks f at e link s t → Looking f link t e
+  pub looking-turn : (e : ℕ) → x ≡ Record e → (t : Seen) → Looks g f at e s t → Looking g f t e
   unfolding lookedAll
-  looking-turn e q t k = record { bounded = k .bounded; same = rw (k .is) (rw (rest-turn f at e (found-record f at x h e q)) at (l .same)) }
+  looking-turn e q t k = record { bounded = k .bounded; same = rw (k .is) (rw (rest-turn g f at e (found-record g f at x h e q)) at (l .same)) }
 
-  ended : link ≡ be32 f 12 → restAt f at ≡ [] → recordedOf (s .signs) ≡ recordGaps f
-  unfolding lookedAll datalink
-  ended d n =
-      let z : s ≡ lookedAll link unseen (recordsAt btsnoop f) = rw n at (l .same) in
-      let k : link ≡ datalink f = d in
-      rw (z, k) (all-gaps f)
+  ended : restAt g f at ≡ [] → recordedOf (s .signs) ≡ recordGaps g f
+  unfolding lookedAll
+  ended n = let z : s ≡ lookedAll g unseen (recordsAt g f) = rw n at (l .same) in rw z (all-gaps g f)
 
-  pub looking-cut : link ≡ be32 f 12 → (p : ℕ) → x ≡ Cut p → recordedOf (s .signs) ≡ recordGaps f
-  looking-cut d p q = ended d (found-cut f at x h p q)
+  pub looking-cut : (p : ℕ) → x ≡ Cut p → recordedOf (s .signs) ≡ recordGaps g f
+  looking-cut p q = ended (found-cut g f at x h p q)
 
-  pub looking-end : link ≡ be32 f 12 → x ≡ End → recordedOf (s .signs) ≡ recordGaps f
-  looking-end d q = ended d (found-end f at x h q)
+  pub looking-end : x ≡ End → recordedOf (s .signs) ≡ recordGaps g f
+  looking-end q = ended (found-end g f at x h q)

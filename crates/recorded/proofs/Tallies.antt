@@ -8,8 +8,7 @@ use lib.ListN.{length}
 use lib.Dec.{ltb}
 use borrow.Author.Tests.{eq-eqb, ne-eqb, ltb-true, ltb-false}
 use Rattle.laws.proofs.Choice.{splitB}
-use Rattle.btsnoop.specs.Header.{datalink}
-use Rattle.btsnoop.specs.Records.{btsnoop}
+use Rattle.trace.specs.declared.Format.{Format}
 use Rattle.signs.specs.Places.{Placed, whereIs, recordsAt}
 use Rattle.signs.specs.Recorded.{isShort, isZeros, isSkipped, drops, dropped, droppedAt}
 use Rattle.signs.specs.Gaps.{firstOf, recordGaps}
@@ -21,19 +20,19 @@ use Rattle.recorded.specs.declared.Seen.{Seen}
 
 -- ---- a sign that a record shows or not
 
-module _ (link : ℕ) (shows : List ℕ → Bool) (part : Seen → Gap) (step : (s : Seen) (at : ℕ) (r : List ℕ) → part (looked link s at r) ≡ notedIf (shows r) (part s) at) where
-  pub all-counted : (s : Seen) (ats : List ℕ) (rs : List (Placed (List ℕ))) → Counted ats (part s) → Counted (ats ++ whereIs shows rs) (part (lookedAll link s rs))
+module _ (g : Format) (shows : List ℕ → Bool) (part : Seen → Gap) (step : (s : Seen) (at : ℕ) (r : List ℕ) → part (looked g s at r) ≡ notedIf (shows r) (part s) at) where
+  pub all-counted : (s : Seen) (ats : List ℕ) (rs : List (Placed (List ℕ))) → Counted ats (part s) → Counted (ats ++ whereIs shows rs) (part (lookedAll g s rs))
   unfolding whereIs lookedAll notedIf
   all-counted s ats [] c = rw append-nil c
   all-counted s ats (r ∷ rs) c = splitB (shows (r .is))
       (λ q.
-      let m : part (looked link s (r .at) (r .is)) ≡ noted (part s) 1 (r .at) = step s (r .at) (r .is) ∙ rw q in
-      let z : Counted ((ats ++ (r .at ∷ [])) ++ whereIs shows rs) (part (lookedAll link (looked link s (r .at) (r .is)) rs)) =
-      all-counted (looked link s (r .at) (r .is)) (ats ++ (r .at ∷ [])) rs (rw m (counted-one (part s) ats (r .at) c)) in
+      let m : part (looked g s (r .at) (r .is)) ≡ noted (part s) 1 (r .at) = step s (r .at) (r .is) ∙ rw q in
+      let z : Counted ((ats ++ (r .at ∷ [])) ++ whereIs shows rs) (part (lookedAll g (looked g s (r .at) (r .is)) rs)) =
+      all-counted (looked g s (r .at) (r .is)) (ats ++ (r .at ∷ [])) rs (rw m (counted-one (part s) ats (r .at) c)) in
       rw q (rw append-assoc at z))
       (λ q.
-      let m : part (looked link s (r .at) (r .is)) ≡ part s = step s (r .at) (r .is) ∙ rw q in
-      rw q (all-counted (looked link s (r .at) (r .is)) ats rs (rw m c)))
+      let m : part (looked g s (r .at) (r .is)) ≡ part s = step s (r .at) (r .is) ∙ rw q in
+      rw q (all-counted (looked g s (r .at) (r .is)) ats rs (rw m c)))
 
 -- ---- the recorder's drops
 
@@ -54,39 +53,38 @@ dropped-rise n by at (x ∷ xs) g h d =
     record { many = rw (d .many); first = rw (ne-eqb (g .many) 0 z) (d .first); none = λ e. absurd (omega arith); some = λ e. absurd (omega arith) }
 
 all-dropped :
-    (link : ℕ) (s : Seen) (n : ℕ) (ats : List ℕ) (rs : List (Placed (List ℕ))) → Dropped n ats (s .signs .dropped) →
-    Dropped (n + dropped (s .last) rs) (ats ++ droppedAt (s .last) rs) (lookedAll link s rs .signs .dropped)
+    (g : Format) (s : Seen) (n : ℕ) (ats : List ℕ) (rs : List (Placed (List ℕ))) → Dropped n ats (s .signs .dropped) →
+    Dropped (n + dropped g (s .last) rs) (ats ++ droppedAt g (s .last) rs) (lookedAll g s rs .signs .dropped)
 unfolding dropped droppedAt lookedAll looked notedRise
-all-dropped link s n ats [] d = let z : n + 0 ≡ n = omega arith in rw (z, append-nil) d
-all-dropped link s n ats (r ∷ rs) d = splitB (ltb (s .last) (drops (r .is)))
+all-dropped g s n ats [] d = let z : n + 0 ≡ n = omega arith in rw (z, append-nil) d
+all-dropped g s n ats (r ∷ rs) d = splitB (ltb (s .last) (drops g (r .is)))
     (λ q.
-    let h : s .last < drops (r .is) = ltb-true (s .last) (drops (r .is)) q in
-    let m : looked link s (r .at) (r .is) .signs .dropped ≡ noted (s .signs .dropped) (drops (r .is) - s .last) (r .at) = rw q in
-    let z : Dropped (n + (drops (r .is) - s .last) + dropped (drops (r .is)) rs) ((ats ++ (r .at ∷ [])) ++ droppedAt (drops (r .is)) rs) (lookedAll link (looked link s (r .at) (r .is)) rs .signs .dropped) =
-    all-dropped link (looked link s (r .at) (r .is)) (n + (drops (r .is) - s .last)) (ats ++ (r .at ∷ [])) rs
-    (rw m (dropped-rise n (drops (r .is) - s .last) (r .at) ats (s .signs .dropped) (omega arith) d)) in
-    let k : n + (drops (r .is) - s .last) + dropped (drops (r .is)) rs ≡ n + ((drops (r .is) - s .last) + dropped (drops (r .is)) rs) = omega arith in
+    let h : s .last < drops g (r .is) = ltb-true (s .last) (drops g (r .is)) q in
+    let m : looked g s (r .at) (r .is) .signs .dropped ≡ noted (s .signs .dropped) (drops g (r .is) - s .last) (r .at) = rw q in
+    let z : Dropped (n + (drops g (r .is) - s .last) + dropped g (drops g (r .is)) rs) ((ats ++ (r .at ∷ [])) ++ droppedAt g (drops g (r .is)) rs) (lookedAll g (looked g s (r .at) (r .is)) rs .signs .dropped) =
+    all-dropped g (looked g s (r .at) (r .is)) (n + (drops g (r .is) - s .last)) (ats ++ (r .at ∷ [])) rs
+    (rw m (dropped-rise n (drops g (r .is) - s .last) (r .at) ats (s .signs .dropped) (omega arith) d)) in
+    let k : n + (drops g (r .is) - s .last) + dropped g (drops g (r .is)) rs ≡ n + ((drops g (r .is) - s .last) + dropped g (drops g (r .is)) rs) = omega arith in
     rw q (rw (append-assoc, k) at z))
     (λ q.
-    let h : drops (r .is) ≤ s .last = ltb-false (s .last) (drops (r .is)) q in
-    let m : looked link s (r .at) (r .is) .signs .dropped ≡ s .signs .dropped = rw q in
-    let z : Dropped (n + dropped (drops (r .is)) rs) (ats ++ droppedAt (drops (r .is)) rs) (lookedAll link (looked link s (r .at) (r .is)) rs .signs .dropped) =
-    all-dropped link (looked link s (r .at) (r .is)) n ats rs (rw m d) in
-    let k : (drops (r .is) - s .last) + dropped (drops (r .is)) rs ≡ dropped (drops (r .is)) rs = omega arith in
+    let h : drops g (r .is) ≤ s .last = ltb-false (s .last) (drops g (r .is)) q in
+    let m : looked g s (r .at) (r .is) .signs .dropped ≡ s .signs .dropped = rw q in
+    let z : Dropped (n + dropped g (drops g (r .is)) rs) (ats ++ droppedAt g (drops g (r .is)) rs) (lookedAll g (looked g s (r .at) (r .is)) rs .signs .dropped) =
+    all-dropped g (looked g s (r .at) (r .is)) n ats rs (rw m d) in
+    let k : (drops g (r .is) - s .last) + dropped g (drops g (r .is)) rs ≡ dropped g (drops g (r .is)) rs = omega arith in
     rw (q, k) z)
 
 -- ---- all four
 
-pub all-gaps : (f : List ℕ) → recordedOf (lookedAll (datalink f) unseen (recordsAt btsnoop f) .signs) ≡ recordGaps f
+pub all-gaps : (g : Format) (f : List ℕ) → recordedOf (lookedAll g unseen (recordsAt g f) .signs) ≡ recordGaps g f
 unfolding recordGaps looked firstOf
-all-gaps f =
-    let rs : List (Placed (List ℕ)) = recordsAt btsnoop f in
-    let e : Seen = lookedAll (datalink f) unseen rs in
-    let a : Counted (whereIs isShort rs) (e .signs .short) = all-counted (datalink f) isShort (λ s. s .signs .short) (λ s at r. refl) unseen [] rs counted-none in
-    let b : Dropped (0 + dropped 0 rs) (droppedAt 0 rs) (e .signs .dropped) =
-    all-dropped (datalink f) unseen 0 [] rs (record { many = refl; first = refl; none = λ z. refl; some = λ z. refl }) in
-    let c : Counted (whereIs (isSkipped (datalink f)) rs) (e .signs .skipped) =
-    all-counted (datalink f) (isSkipped (datalink f)) (λ s. s .signs .skipped) (λ s at r. refl) unseen [] rs counted-none in
-    let d : Counted (whereIs isZeros rs) (e .signs .zeros) = all-counted (datalink f) isZeros (λ s. s .signs .zeros) (λ s at r. refl) unseen [] rs counted-none in
-    let z : 0 + dropped 0 rs ≡ dropped 0 rs = omega arith in
+all-gaps g f =
+    let rs : List (Placed (List ℕ)) = recordsAt g f in
+    let e : Seen = lookedAll g unseen rs in
+    let a : Counted (whereIs (isShort g) rs) (e .signs .short) = all-counted g (isShort g) (λ s. s .signs .short) (λ s at r. refl) unseen [] rs counted-none in
+    let b : Dropped (0 + dropped g 0 rs) (droppedAt g 0 rs) (e .signs .dropped) =
+    all-dropped g unseen 0 [] rs (record { many = refl; first = refl; none = λ z. refl; some = λ z. refl }) in
+    let c : Counted (whereIs (isSkipped g) rs) (e .signs .skipped) = all-counted g (isSkipped g) (λ s. s .signs .skipped) (λ s at r. refl) unseen [] rs counted-none in
+    let d : Counted (whereIs isZeros rs) (e .signs .zeros) = all-counted g isZeros (λ s. s .signs .zeros) (λ s at r. refl) unseen [] rs counted-none in
+    let z : 0 + dropped g 0 rs ≡ dropped g 0 rs = omega arith in
     rw (a .many, a .first, b .many, b .first, c .many, c .first, d .many, d .first, z)

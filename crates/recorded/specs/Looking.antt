@@ -5,7 +5,10 @@ use mathlib.Core.Bool.{Bool, cond}
 use mathlib.Core.List.{List, [], _∷_, _++_}
 use lib.ListN.{length}
 use lib.Dec.{ltb}
-use Rattle.btsnoop.specs.Reading.{between, RecordPre}
+use Rattle.acl.specs.Reading.{between}
+use Rattle.trace.specs.Formats.{recordHead}
+use Rattle.trace.specs.Walk.{RecordPre}
+use Rattle.trace.specs.declared.Format.{Format}
 use Rattle.signs.specs.Places.{Placed}
 use Rattle.signs.specs.Recorded.{isShort, isZeros, isSkipped, drops}
 use Rattle.signs.specs.Counting.{gapOf, noted}
@@ -17,20 +20,19 @@ use Rattle.recorded.specs.declared.Seen.{Seen}
 abbrev pub recordedOf : Recorded → List ℕ
 recordedOf r = gapOf (r .short) ++ (gapOf (r .dropped) ++ (gapOf (r .skipped) ++ gapOf (r .zeros)))
 
--- a file with a header, not over the size that is read
+-- a file not over the size that is read
 pub record Readable (f : List ℕ) : Type 0 where
-  pub some : 16 ≤ length f
   pub small : length f ≤ 1048576
 
 -- ---- one record
 
 -- whether it is stored short, wherever it ends
-pub record ShortIs (f : List ℕ) (at : ℕ) (r : Bool) : Type 0 where
-  pub is : (end : ℕ) → at + 24 ≤ end → r ≡ isShort (between f at end)
+pub record ShortIs (g : Format) (f : List ℕ) (at : ℕ) (r : Bool) : Type 0 where
+  pub is : (end : ℕ) → at + recordHead g ≤ end → r ≡ isShort g (between f at end)
 
 -- the recorder's count in it, wherever it ends
-pub record DropsIs (f : List ℕ) (at r : ℕ) : Type 0 where
-  pub is : (end : ℕ) → at + 24 ≤ end → r ≡ drops (between f at end)
+pub record DropsIs (g : Format) (f : List ℕ) (at r : ℕ) : Type 0 where
+  pub is : (end : ℕ) → at + recordHead g ≤ end → r ≡ drops g (between f at end)
 
 -- one more if the sign shows
 unfoldable pub notedIf : Bool → Gap → ℕ → Gap
@@ -41,15 +43,15 @@ unfoldable pub notedRise : ℕ → ℕ → Gap → ℕ → Gap
 notedRise before here g at = cond (ltb before here) (noted g (here - before) at) g
 
 -- the signs with those of one record more
-unfoldable pub looked : ℕ → Seen → ℕ → List ℕ → Seen
-looked datalink s at r = record {
+unfoldable pub looked : Format → Seen → ℕ → List ℕ → Seen
+looked g s at r = record {
   signs = record {
-    short = notedIf (isShort r) (s .signs .short) at;
-    dropped = notedRise (s .last) (drops r) (s .signs .dropped) at;
-    skipped = notedIf (isSkipped datalink r) (s .signs .skipped) at;
+    short = notedIf (isShort g r) (s .signs .short) at;
+    dropped = notedRise (s .last) (drops g r) (s .signs .dropped) at;
+    skipped = notedIf (isSkipped g r) (s .signs .skipped) at;
     zeros = notedIf (isZeros r) (s .signs .zeros) at;
   };
-  last = drops r;
+  last = drops g r;
 }
 
 -- ---- the records from a place on
@@ -61,9 +63,9 @@ noGap = record { many = 0; first = 0 }
 abbrev pub unseen : Seen
 unseen = record { signs = record { short = noGap; dropped = noGap; skipped = noGap; zeros = noGap }; last = 0 }
 
-unfoldable pub lookedAll : ℕ → Seen → List (Placed (List ℕ)) → Seen
-lookedAll datalink s [] = s
-lookedAll datalink s (r ∷ rs) = lookedAll datalink (looked datalink s (r .at) (r .is)) rs
+unfoldable pub lookedAll : Format → Seen → List (Placed (List ℕ)) → Seen
+lookedAll g s [] = s
+lookedAll g s (r ∷ rs) = lookedAll g (looked g s (r .at) (r .is)) rs
 
 -- ---- how large the numbers are
 
@@ -75,17 +77,17 @@ pub record Risen (before here : ℕ) (g : Gap) (at : ℕ) (r : Gap) : Type 0 whe
   pub is : r ≡ notedRise before here g at
   pub most : r .many ≤ g .many + 4294967295
 
--- before a place: a record has 24 bytes at least
+-- before a place: a record has 16 bytes at least
 pub record Bounded (s : Seen) (at : ℕ) : Type 0 where
-  pub short : 24 * s .signs .short .many ≤ at
-  pub dropped : 24 * s .signs .dropped .many ≤ 4294967295 * at
-  pub skipped : 24 * s .signs .skipped .many ≤ at
-  pub zeros : 24 * s .signs .zeros .many ≤ at
+  pub short : 16 * s .signs .short .many ≤ at
+  pub dropped : 16 * s .signs .dropped .many ≤ 4294967295 * at
+  pub skipped : 16 * s .signs .skipped .many ≤ at
+  pub zeros : 16 * s .signs .zeros .many ≤ at
 
-pub record LookPre (f : List ℕ) (at end : ℕ) (s : Seen) : Type 0 where
-  pub here : RecordPre f at end
+pub record LookPre (g : Format) (f : List ℕ) (at end : ℕ) (s : Seen) : Type 0 where
+  pub here : RecordPre g f at end
   pub bounded : Bounded s at
 
-pub record Looks (f : List ℕ) (at end datalink : ℕ) (s r : Seen) : Type 0 where
-  pub is : r ≡ looked datalink s at (between f at end)
+pub record Looks (g : Format) (f : List ℕ) (at end : ℕ) (s r : Seen) : Type 0 where
+  pub is : r ≡ looked g s at (between f at end)
   pub bounded : Bounded r end

@@ -1,17 +1,22 @@
-// What the whole records of a btsnoop file show of what is not in it, in one pass.
+// What the whole records of a trace show of what is not in it, in one pass.
 ghost use mathlib.Core.Path.{_≡_};
 ghost use Prim.Native.Nat.{_+_, _≤_};
 ghost use lib.ListN.{length};
-ghost use Rattle.btsnoop.specs.Reading.{between, RecordPre};
+ghost use Rattle.acl.specs.Reading.{between};
+ghost use Rattle.trace.specs.Formats.{recordHead};
+ghost use Rattle.trace.specs.Walk.{RecordPre};
 ghost use Rattle.signs.specs.Recorded.{isSkipped, isZeros};
 ghost use Rattle.signs.specs.Gaps.{recordGaps};
 ghost use Rattle.recorded.specs.Looking.{recordedOf, Readable, ShortIs, DropsIs, notedIf, GapPre, Risen, LookPre, Looks};
-use btsnoop::Step;
-use btsnoop::read_at;
+use pcap::get_number;
 use signs::Gap;
 use signs::is_acl;
 use signs::lacks_packet;
 use signs::note;
+use trace::Format;
+use trace::Step;
+use trace::file_head;
+use trace::read_at;
 use words::get_be32;
 
 // The signs: records stored short, the recorder's drops, ACL packets skipped because data is not there, records of zeros.
@@ -29,35 +34,41 @@ struct Seen {
 }
 
 // Whether the record at a place is stored short.
-fn is_short(file: &[u8], at: usize) -> bool
-    requires { ⌜ at + 24 ≤ length (now file) ⌝ }
-    ensures { λ r. ⌜ ShortIs (now (file .entry)) at r ⌝ }
+fn is_short(file: &[u8], at: usize, format: Format) -> bool
+    requires { ⌜ at + recordHead format ≤ length (now file) ⌝ }
+    ensures { λ r. ⌜ ShortIs format (now (file .entry)) at r ⌝ }
 {
-    get_be32(file, at + 4) < get_be32(file, at)
+    match format {
+        Format::Btsnoop(_) => get_be32(file, at + 4) < get_be32(file, at),
+        Format::Pcap(e) => get_number(file, at + 8, e.big) < get_number(file, at + 12, e.big),
+    }
 }
 
-// The packets that the recorder dropped up to the record at a place.
-fn drops_of(file: &[u8], at: usize) -> u32
-    requires { ⌜ at + 24 ≤ length (now file) ⌝ }
-    ensures { λ r. ⌜ DropsIs (now (file .entry)) at r ⌝ }
+// The packets that the recorder dropped up to the record at a place. A pcap file does not say.
+fn drops_of(file: &[u8], at: usize, format: Format) -> u32
+    requires { ⌜ at + recordHead format ≤ length (now file) ⌝ }
+    ensures { λ r. ⌜ DropsIs format (now (file .entry)) at r ⌝ }
 {
-    get_be32(file, at + 12)
+    match format {
+        Format::Btsnoop(_) => get_be32(file, at + 12),
+        Format::Pcap(_) => 0,
+    }
 }
 
 // Whether it is ACL data and holds no packet that import takes.
-fn is_skipped(file: &[u8], at: usize, end: usize, datalink: u32) -> bool
-    requires { ⌜ RecordPre (now file) at end ⌝ }
-    ensures { λ r. ⌜ r ≡ isSkipped datalink (between (now (file .entry)) at end) ⌝ }
+fn is_skipped(file: &[u8], at: usize, end: usize, format: Format) -> bool
+    requires { ⌜ RecordPre format (now file) at end ⌝ }
+    ensures { λ r. ⌜ r ≡ isSkipped format (between (now (file .entry)) at end) ⌝ }
 {
-    if is_acl(file, at, end, datalink) {
-        return lacks_packet(file, at, end, datalink);
+    if is_acl(file, at, end, format) {
+        return lacks_packet(file, at, end, format);
     }
     false
 }
 
 // Whether it is zeros only.
 fn is_zeros(file: &[u8], at: usize, end: usize) -> bool
-    requires { ⌜ RecordPre (now file) at end ⌝ }
+    requires { ⌜ (at ≤ end) × (end ≤ length (now file)) ⌝ }
     ensures { λ r. ⌜ r ≡ isZeros (between (now (file .entry)) at end) ⌝ }
 {
     let b = &file[at..end];
@@ -95,26 +106,25 @@ fn note_rise(before: u32, here: u32, g: Gap, at: usize) -> Gap
 }
 
 // The signs with those of the record from one place up to another.
-fn look_at(file: &[u8], at: usize, end: usize, datalink: u32, s: Seen) -> Seen
-    requires { ⌜ LookPre (now file) at end s ⌝ }
-    ensures { λ r. ⌜ Looks (now (file .entry)) at end datalink s r ⌝ }
+fn look_at(file: &[u8], at: usize, end: usize, format: Format, s: Seen) -> Seen
+    requires { ⌜ LookPre format (now file) at end s ⌝ }
+    ensures { λ r. ⌜ Looks format (now (file .entry)) at end s r ⌝ }
 {
-    let here = drops_of(file, at);
+    let here = drops_of(file, at, format);
     let signs = Recorded {
-        short: note_if(is_short(file, at), s.signs.short, at),
+        short: note_if(is_short(file, at, format), s.signs.short, at),
         dropped: note_rise(s.last, here, s.signs.dropped, at),
-        skipped: note_if(is_skipped(file, at, end, datalink), s.signs.skipped, at),
+        skipped: note_if(is_skipped(file, at, end, format), s.signs.skipped, at),
         zeros: note_if(is_zeros(file, at, end), s.signs.zeros, at),
     };
     Seen { signs, last: here }
 }
 
 // What the file's whole records show: stored short, the recorder's drops, ACL packets skipped, records of zeros.
-pub fn record_signs(file: &[u8]) -> Recorded
+pub fn record_signs(file: &[u8], format: Format) -> Recorded
     requires { ⌜ Readable (now file) ⌝ }
-    ensures { λ r. ⌜ recordedOf r ≡ recordGaps (now (file .entry)) ⌝ }
+    ensures { λ r. ⌜ recordedOf r ≡ recordGaps format (now (file .entry)) ⌝ }
 {
-    let datalink = get_be32(file, 12);
     let none = Gap { many: 0, first: 0 };
     let mut s = Seen {
         signs: Recorded {
@@ -125,12 +135,12 @@ pub fn record_signs(file: &[u8]) -> Recorded
         },
         last: 0,
     };
-    let mut at = 16;
+    let mut at = file_head(format);
     loop {
-        let x = read_at(file, at);
+        let x = read_at(file, at, format);
         match x {
             Step::Record(end) => {
-                s = look_at(file, at, end, datalink, s);
+                s = look_at(file, at, end, format, s);
                 at = end;
             }
             Step::Cut(_) => {

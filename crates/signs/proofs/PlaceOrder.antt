@@ -9,14 +9,11 @@ use lib.ListN.{length, length-map}
 use lib.Dec.{eqb}
 use borrow.Author.Tests.{eq-eqb, ne-eqb}
 use Rattle.laws.proofs.Choice.{split≡, split≤}
-use Rattle.container.specs.Container as container
-use Rattle.container.specs.Container.{packetsIn}
 use Rattle.container.specs.Packets.{Packet}
-use Rattle.btsnoop.specs.Header.{datalink}
-use Rattle.btsnoop.specs.Packets.{packetOf}
+use Rattle.trace.specs.Formats.{fileHead, packetBy, recordsBy, packetsBy}
+use Rattle.trace.proofs.Formats.{packet-room}
+use Rattle.trace.specs.declared.Format.{Format}
 use Rattle.packets.specs.PacketTable.{packetAt, packetsFrom}
-use Rattle.btsnoop.specs.Records.{btsnoop}
-use Rattle.btsnoop.proofs.Laws.{packet-room}
 use Rattle.signs.specs.Places.{Placed, placed, placedPacket, placedPackets, recordsAt, packetsAt}
 use Rattle.signs.specs.Following.{placeAt}
 use Rattle.signs.proofs.Places.{file-packets}
@@ -46,27 +43,27 @@ table-here f w (b ∷ before) a rest i (suc m) e =
     let z : i + suc (length before) ≡ suc i + length before = omega arith in
     rw z (table-here f w before a rest (suc i) m cc)
 
-module _ (f w : List ℕ) (count : ℕ) (l : packetsFrom f w 0 count ≡ packetsIn btsnoop f) where
-  pub places-many : length (packetsAt btsnoop f) ≡ count
+module _ (g : Format) (f w : List ℕ) (count : ℕ) (l : packetsFrom f w 0 count ≡ packetsBy g f) where
+  pub places-many : length (packetsAt g f) ≡ count
   places-many =
-      sym (length-map (packetsAt btsnoop f) (λ (p : Placed Packet). p .is))
-      ∙ ap length (file-packets btsnoop f ∙ sym l) ∙ table-long f w 0 count
+      sym (length-map (packetsAt g f) (λ (p : Placed Packet). p .is))
+      ∙ ap length (file-packets g f ∙ sym l) ∙ table-long f w 0 count
 
-  pub table-has : (before : List (Placed Packet)) (a : Placed Packet) (rest : List (Placed Packet)) → packetsAt btsnoop f ≡ before ++ (a ∷ rest) → packetAt f w (length before) ≡ a .is
+  pub table-has : (before : List (Placed Packet)) (a : Placed Packet) (rest : List (Placed Packet)) → packetsAt g f ≡ before ++ (a ∷ rest) → packetAt f w (length before) ≡ a .is
   table-has before a rest e =
       let z : 0 + length before ≡ length before = omega arith in
-      rw z at (table-here f w before a rest 0 count (ap (λ (ps : List (Placed Packet)). map (λ (p : Placed Packet). p .is) ps) (sym e) ∙ file-packets btsnoop f ∙ sym l))
+      rw z at (table-here f w before a rest 0 count (ap (λ (ps : List (Placed Packet)). map (λ (p : Placed Packet). p .is) ps) (sym e) ∙ file-packets g f ∙ sym l))
 
 -- ---- places rise: a record with a packet has bytes, and the next record starts behind them
 
-module _ (datalink : ℕ) where
+module _ (g : Format) where
   abbrev from : ℕ → List (List ℕ) → List (Placed Packet)
-  from at rs = placedPackets (packetOf datalink) (placed at rs)
+  from at rs = placedPackets (packetBy g) (placed at rs)
 
   place-least : (at : ℕ) (rs : List (List ℕ)) (i : ℕ) → i < length (from at rs) → at ≤ placeAt (from at rs) i
   unfolding placed placedPackets placedPacket placeAt
   place-least at [] i h = absurd (omega arith)
-  place-least at (r ∷ rs) i h = go (place-least (at + length r) rs) (packetOf datalink r) i h where
+  place-least at (r ∷ rs) i h = go (place-least (at + length r) rs) (packetBy g r) i h where
     go :
         ((j : ℕ) → j < length (from (at + length r) rs) → at + length r ≤ placeAt (from (at + length r) rs) j) →
         (o : Option Packet) (j : ℕ) → j < length (placedPacket at o ++ from (at + length r) rs) → at ≤ placeAt (placedPacket at o ++ from (at + length r) rs) j
@@ -77,26 +74,26 @@ module _ (datalink : ℕ) where
   place-later : (at : ℕ) (rs : List (List ℕ)) (i j : ℕ) → i < j → j < length (from at rs) → placeAt (from at rs) i < placeAt (from at rs) j
   unfolding placed placedPackets placedPacket placeAt
   place-later at [] i j l h = absurd (omega arith)
-  place-later at (r ∷ rs) i j l h = go (place-later (at + length r) rs) (packetOf datalink r) refl i j l h where
+  place-later at (r ∷ rs) i j l h = go (place-later (at + length r) rs) (packetBy g r) refl i j l h where
     go :
         ((i j : ℕ) → i < j → j < length (from (at + length r) rs) → placeAt (from (at + length r) rs) i < placeAt (from (at + length r) rs) j) →
-        (o : Option Packet) → packetOf datalink r ≡ o → (i j : ℕ) → i < j → j < length (placedPacket at o ++ from (at + length r) rs) →
+        (o : Option Packet) → packetBy g r ≡ o → (i j : ℕ) → i < j → j < length (placedPacket at o ++ from (at + length r) rs) →
         placeAt (placedPacket at o ++ from (at + length r) rs) i < placeAt (placedPacket at o ++ from (at + length r) rs) j
     go k none e i j l h = k i j l h
     go k (some p) e i zero l h = absurd (omega arith)
-    go k (some p) e zero (suc j) l h = omega (arith, packet-room datalink r p e, place-least (at + length r) rs j (omega arith))
+    go k (some p) e zero (suc j) l h = omega (arith, packet-room g r p e, place-least (at + length r) rs j (omega arith))
     go k (some p) e (suc i) (suc j) l h = k i j (omega arith) (omega arith)
 
-pub places-rise : (f : List ℕ) (i j : ℕ) → i < j → j < length (packetsAt btsnoop f) → placeAt (packetsAt btsnoop f) i < placeAt (packetsAt btsnoop f) j
+pub places-rise : (g : Format) (f : List ℕ) (i j : ℕ) → i < j → j < length (packetsAt g f) → placeAt (packetsAt g f) i < placeAt (packetsAt g f) j
 unfolding packetsAt recordsAt
-places-rise f i j l h = place-later (datalink f) 16 (container.records btsnoop f) i j l h
+places-rise g f i j l h = place-later g (fileHead g) (recordsBy g f) i j l h
 
 -- so a place tells the packet
-pub places-tell : (f : List ℕ) (i j : ℕ) → i < length (packetsAt btsnoop f) → j < length (packetsAt btsnoop f) → eqb (placeAt (packetsAt btsnoop f) i) (placeAt (packetsAt btsnoop f) j) ≡ eqb i j
-places-tell f i j h g =
+pub places-tell : (g : Format) (f : List ℕ) (i j : ℕ) → i < length (packetsAt g f) → j < length (packetsAt g f) → eqb (placeAt (packetsAt g f) i) (placeAt (packetsAt g f) j) ≡ eqb i j
+places-tell g f i j h k =
     split≡ i j
-    (λ e. rw e (eq-eqb (placeAt (packetsAt btsnoop f) j) (placeAt (packetsAt btsnoop f) j) refl ∙ sym (eq-eqb j j refl)))
+    (λ e. rw e (eq-eqb (placeAt (packetsAt g f) j) (placeAt (packetsAt g f) j) refl ∙ sym (eq-eqb j j refl)))
     (λ e.
-    let d : placeAt (packetsAt btsnoop f) i ≢ placeAt (packetsAt btsnoop f) j =
-    λ q. split≤ i j (λ l. e (split≤ j i (λ b. omega arith) (λ b. absurd (omega (arith, places-rise f i j b g))))) (λ l. absurd (omega (arith, places-rise f j i l h))) in
-    ne-eqb (placeAt (packetsAt btsnoop f) i) (placeAt (packetsAt btsnoop f) j) d ∙ sym (ne-eqb i j e))
+    let d : placeAt (packetsAt g f) i ≢ placeAt (packetsAt g f) j =
+    λ q. split≤ i j (λ l. e (split≤ j i (λ b. omega arith) (λ b. absurd (omega (arith, places-rise g f i j b k))))) (λ l. absurd (omega (arith, places-rise g f j i l h))) in
+    ne-eqb (placeAt (packetsAt g f) i) (placeAt (packetsAt g f) j) d ∙ sym (ne-eqb i j e))

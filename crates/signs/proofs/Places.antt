@@ -1,72 +1,69 @@
--- Walking the records of a btsnoop file with their places.
-use Prim.Native.Nat.{ℕ, _+_, _-_, _<_, _≤_}
+-- Walking the records of a file with their places.
+use Prim.Native.Nat.{ℕ, _+_, _-_}
 use mathlib.Core.Path.{_≡_, refl, sym, ap, _∙_}
 use mathlib.Core.Bool.{false}
 use mathlib.Core.List.{List, [], _∷_, _++_, map}
 use mathlib.Core.Option.{Option, none, some}
 use native.Mathlib.Omega.{arith}
-use lib.ListN.{length, take, drop, length-drop}
+use lib.ListN.{length, drop, length-drop}
 use lib.Seq.{length-take-le}
-use Rattle.container.specs.Container.{Container, packetsIn}
-use Rattle.container.specs.Container as container
 use Rattle.container.specs.Packets.{Packet, orNone, packets}
-use Rattle.btsnoop.specs.Header.{datalink}
-use Rattle.btsnoop.specs.Records.{btsnoop, recordsIn}
-use Rattle.btsnoop.specs.Packets.{packetOf}
-use Rattle.btsnoop.specs.Reading.{between}
+use Rattle.acl.specs.Reading.{between}
+use Rattle.trace.specs.Formats.{fileHead, packetBy, recordsFrom, recordsBy, packetsBy}
 use Rattle.trace.specs.Reader.{stepOf, isRecord}
 use Rattle.trace.specs.Walk.{RecordAt}
 use Rattle.trace.proofs.ReaderLaws.{record-told, none-told}
+use Rattle.trace.specs.declared.Format.{Format}
 use Rattle.trace.specs.declared.Step.{Step}
 use Rattle.trace.specs.declared.Step.the-variants.{Record, Cut, End}
 use Rattle.signs.specs.Places.{Placed, placed, placedPacket, placedPackets, recordsAt, packetsAt}
-use Rattle.signs.specs.Recorded.{isNone}
 
--- the records still to come from a place on
-abbrev pub restAt : List ℕ → ℕ → List (Placed (List ℕ))
-restAt f at = placed at (recordsIn (drop at f))
+module _ (g : Format) (f : List ℕ) where
+  -- the records still to come from a place on
+  abbrev pub restAt : ℕ → List (Placed (List ℕ))
+  restAt at = placed at (recordsFrom g f at)
 
-pub rest-start : (f : List ℕ) → restAt f 16 ≡ recordsAt btsnoop f
-unfolding recordsAt container.records
-rest-start f = refl
+  pub rest-start : restAt (fileHead g) ≡ recordsAt g f
+  unfolding recordsAt
+  rest-start = refl
 
--- the packets among all records, by the reader of a packet
-pub packets-start : (f : List ℕ) → placedPackets (packetOf (datalink f)) (restAt f 16) ≡ packetsAt btsnoop f
-unfolding packetsAt recordsAt container.records
-packets-start f = refl
+  -- the packets among all records
+  pub packets-start : placedPackets (packetBy g) (restAt (fileHead g)) ≡ packetsAt g f
+  unfolding packetsAt recordsAt
+  packets-start = refl
 
-module _ (f : List ℕ) (at : ℕ) where
-  module _ (e : ℕ) (r : RecordAt f at e) where
-    pub record-length : at + length (between f at e) ≡ e
-    record-length =
-        let k : length (between f at e) ≡ e - at = length-take-le (e - at) (drop at f) (simp length-drop (omega (arith, r .most))) in
-        omega (arith, r .least)
+  module _ (at : ℕ) where
+    module _ (e : ℕ) (r : RecordAt g f at e) where
+      pub record-length : at + length (between f at e) ≡ e
+      record-length =
+          let k : length (between f at e) ≡ e - at = length-take-le (e - at) (drop at f) (simp length-drop (omega (arith, r .most))) in
+          omega (arith, r .least)
 
-    pub rest-turn : restAt f at ≡ record { at = at; is = between f at e } ∷ restAt f e
+      pub rest-turn : restAt at ≡ record { at = at; is = between f at e } ∷ restAt e
+      unfolding placed
+      rest-turn = rw (r .list, record-length)
+
+      -- the packets still to come: that of the record, if it holds one, and those after it
+      pub rest-packets :
+          (read : List ℕ → Option Packet) →
+          placedPackets read (restAt at) ≡ placedPacket at (read (between f at e)) ++ placedPackets read (restAt e)
+      unfolding placedPackets
+      rest-packets read = rw rest-turn
+
+    pub rest-none : recordsFrom g f at ≡ [] → restAt at ≡ []
     unfolding placed
-    rest-turn = rw (r .list, record-length)
+    rest-none e = rw e
 
-    -- the packets still to come: that of the record, if it holds one, and those after it
-    pub rest-packets :
-        (read : List ℕ → Option Packet) →
-        placedPackets read (restAt f at) ≡ placedPacket at (read (between f at e)) ++ placedPackets read (restAt f e)
-    unfolding placedPackets
-    rest-packets read = rw rest-turn
+    -- what a reader finds there
+    module _ (x : Step) (h : x ≡ stepOf g f at) where
+      pub found-record : (e : ℕ) → x ≡ Record e → RecordAt g f at e
+      found-record e q = record-told g f at e (sym q ∙ h)
 
-  pub rest-none : recordsIn (drop at f) ≡ [] → restAt f at ≡ []
-  unfolding placed
-  rest-none e = rw e
+      pub found-cut : (p : ℕ) → x ≡ Cut p → restAt at ≡ []
+      found-cut p q = rest-none (none-told g f at (rw h at (let z : isRecord x ≡ false = rw q in z)))
 
-  -- what a reader finds there
-  module _ (x : Step) (h : x ≡ stepOf f at) where
-    pub found-record : (e : ℕ) → x ≡ Record e → RecordAt f at e
-    found-record e q = record-told f at e (sym q ∙ h)
-
-    pub found-cut : (p : ℕ) → x ≡ Cut p → restAt f at ≡ []
-    found-cut p q = rest-none (none-told f at (rw h at (let z : isRecord x ≡ false = rw q in z)))
-
-    pub found-end : x ≡ End → restAt f at ≡ []
-    found-end q = rest-none (none-told f at (rw h at (let z : isRecord x ≡ false = rw q in z)))
+      pub found-end : x ≡ End → restAt at ≡ []
+      found-end q = rest-none (none-told g f at (rw h at (let z : isRecord x ≡ false = rw q in z)))
 
 -- ---- without their places they are the records and packets of import
 
@@ -85,6 +82,6 @@ packets-are read (r ∷ rs) = go (packets-are read rs) (read (r .is)) where
   go e none = e
   go e (some p) = ap (λ t. p ∷ t) e
 
-pub file-packets : (C : Container) (f : List ℕ) → map (λ (a : Placed Packet). a .is) (packetsAt C f) ≡ packetsIn C f
-unfolding packetsAt recordsAt packetsIn
-file-packets C f = packets-are (C .packet f) (placed (C .head) (container.records C f)) ∙ rw (placed-are (C .head) (container.records C f))
+pub file-packets : (g : Format) (f : List ℕ) → map (λ (a : Placed Packet). a .is) (packetsAt g f) ≡ packetsBy g f
+unfolding packetsAt recordsAt
+file-packets g f = packets-are (packetBy g) (placed (fileHead g) (recordsBy g f)) ∙ rw (placed-are (fileHead g) (recordsBy g f))

@@ -4,8 +4,9 @@ use mathlib.Core.Bool.{Bool, cond}
 use mathlib.Core.List.{List, [], _∷_, _++_}
 use mathlib.Core.Option.{Option, none, some}
 use lib.ListN.{length}
-use Rattle.container.specs.Container.{Container, records}
 use Rattle.container.specs.Packets.{Packet}
+use Rattle.trace.specs.Formats.{fileHead, packetBy, recordsBy}
+use Rattle.trace.specs.declared.Format.{Format}
 
 pub record Placed (A : Type 0) : Type 0 where
   pub at : ℕ
@@ -31,11 +32,10 @@ unfoldable pub whereIs : (List ℕ → Bool) → List (Placed (List ℕ)) → Li
 whereIs t [] = []
 whereIs t (r ∷ rs) = cond (t (r .is)) (r .at ∷ whereIs t rs) (whereIs t rs)
 
-module _ (C : Container) where
-  -- the whole records of a file
-  unfoldable pub recordsAt : List ℕ → List (Placed (List ℕ))
-  recordsAt f = placed (C .head) (records C f)
+-- the whole records of a file, by what its header says
+unfoldable pub recordsAt : Format → List ℕ → List (Placed (List ℕ))
+recordsAt g f = placed (fileHead g) (recordsBy g f)
 
-  -- the ACL packets that they hold
-  unfoldable pub packetsAt : List ℕ → List (Placed Packet)
-  packetsAt f = placedPackets (C .packet f) (recordsAt f)
+-- the ACL packets that they hold
+unfoldable pub packetsAt : Format → List ℕ → List (Placed Packet)
+packetsAt g f = placedPackets (packetBy g) (recordsAt g f)

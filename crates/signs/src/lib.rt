@@ -4,11 +4,16 @@ ghost use mathlib.Core.Bool.{_||_};
 ghost use Prim.Native.Nat.{_%_, _≤_};
 ghost use lib.Dec.{eqb};
 ghost use lib.ListN.{length, getD};
-ghost use Rattle.btsnoop.specs.Packets.{packetOf};
-ghost use Rattle.btsnoop.specs.Reading.{between, RecordPre};
+ghost use Rattle.acl.specs.Reading.{between};
+ghost use Rattle.btsnoop.specs.Reading as btsnoop;
+ghost use Rattle.pcap.specs.Reading as pcap;
+ghost use Rattle.trace.specs.Formats.{packetBy};
+ghost use Rattle.trace.specs.Walk.{RecordPre};
+ghost use Rattle.trace.specs.declared.Format.the-variants.{Btsnoop as ByDatalink};
 ghost use Rattle.signs.specs.Counting.{noted, NotePre};
 ghost use Rattle.signs.specs.Recorded.{isAcl, isNone};
-ghost use Rattle.signs.specs.Reading.{lacksData, beforePacket};
+ghost use Rattle.signs.specs.Reading.{DirectedIs, lacksData, beforePacket};
+use trace::Format;
 use words::Field;
 use words::field16;
 use words::get_be32;
@@ -59,10 +64,10 @@ fn is_h4_acl(file: &[u8], lo: usize, end: usize) -> bool
     false
 }
 
-// Whether the record from one place up to another is ACL data by its flags.
-pub fn is_acl(file: &[u8], at: usize, end: usize, datalink: u32) -> bool
-    requires { ⌜ RecordPre (now file) at end ⌝ }
-    ensures { λ r. ⌜ r ≡ isAcl datalink (between (now (file .entry)) at end) ⌝ }
+// Whether the record of a btsnoop file from one place up to another is ACL data by its flags.
+fn is_flagged_acl(file: &[u8], at: usize, end: usize, datalink: u32) -> bool
+    requires { ⌜ btsnoop.RecordPre (now file) at end ⌝ }
+    ensures { λ r. ⌜ r ≡ isAcl (ByDatalink datalink) (between (now (file .entry)) at end) ⌝ }
 {
     let flags = get_be32(file, at + 8);
     if datalink == 2001 {
@@ -75,6 +80,32 @@ pub fn is_acl(file: &[u8], at: usize, end: usize, datalink: u32) -> bool
         return is_h4_acl(file, at + 24, end);
     }
     true
+}
+
+// Whether the record of a pcap file from one place up to another is ACL data by its direction and the byte after it.
+fn is_directed_acl(file: &[u8], at: usize, end: usize) -> bool
+    requires { ⌜ pcap.RecordPre (now file) at end ⌝ }
+    ensures { λ r. ⌜ DirectedIs (now (file .entry)) at end r ⌝ }
+{
+    if end - at < 20 {
+        return false;
+    }
+    let way = get_be32(file, at + 16);
+    if way < 2 {
+        return is_h4_acl(file, at + 20, end);
+    }
+    false
+}
+
+// Whether the record from one place up to another is ACL data.
+pub fn is_acl(file: &[u8], at: usize, end: usize, format: Format) -> bool
+    requires { ⌜ RecordPre format (now file) at end ⌝ }
+    ensures { λ r. ⌜ r ≡ isAcl format (between (now (file .entry)) at end) ⌝ }
+{
+    match format {
+        Format::Btsnoop(datalink) => is_flagged_acl(file, at, end, datalink),
+        Format::Pcap(_) => is_directed_acl(file, at, end),
+    }
 }
 
 // Whether a field of an ACL packet, or its data, is not all there between two places.
@@ -90,22 +121,27 @@ fn lacks_data(file: &[u8], lo: usize, end: usize) -> bool
 }
 
 // How many bytes of a record of ACL data stand before its packet.
-fn before_packet(datalink: u32) -> usize
-    ensures { λ r. ⌜ r ≡ beforePacket datalink ⌝ }
+fn before_packet(format: Format) -> usize
+    ensures { λ r. ⌜ r ≡ beforePacket format ⌝ }
 {
-    if datalink == 1002 {
-        return 25;
+    match format {
+        Format::Btsnoop(datalink) => {
+            if datalink == 1002 {
+                return 25;
+            }
+            24
+        }
+        Format::Pcap(_) => 21,
     }
-    24
 }
 
 // Whether the record from one place up to another holds no ACL packet that import takes. It does not read the packet.
-pub fn lacks_packet(file: &[u8], at: usize, end: usize, datalink: u32) -> bool
-    requires { ⌜ RecordPre (now file) at end ⌝ }
-    ensures { λ r. ⌜ r ≡ isNone (packetOf datalink (between (now (file .entry)) at end)) ⌝ }
+pub fn lacks_packet(file: &[u8], at: usize, end: usize, format: Format) -> bool
+    requires { ⌜ RecordPre format (now file) at end ⌝ }
+    ensures { λ r. ⌜ r ≡ isNone (packetBy format (between (now (file .entry)) at end)) ⌝ }
 {
-    if is_acl(file, at, end, datalink) {
-        return lacks_data(file, at + before_packet(datalink), end);
+    if is_acl(file, at, end, format) {
+        return lacks_data(file, at + before_packet(format), end);
     }
     true
 }

@@ -1,38 +1,37 @@
+use Rattle.following.proofs.Walking.{coming, follow-start, follow-pre, follow-less, follow-again, follow-cut, follow-end, follow-size}
 use Prim.Native.Nat.{_-_}
-use mathlib.Core.Path.{_∙_}
 use lib.ListN.{length}
 use Rattle.l2cap.proofs.Running.{link-room}
 use Rattle.following.proofs.Following.{Following}
-use Rattle.following.proofs.Walking.{coming, follow-start, follow-pre, follow-less, follow-again, follow-cut, follow-end}
 use borrow.Author.Needs.{needs}
 use native.Mathlib.Omega.{arith}
 use Rattle.following.proofs.follow_packets.Statement.{statement}
 use Rattle.following.proofs.follow_packets.Tie as tie
 use Rattle.following.proofs.follow_packets.Reads as reads
 use Rattle.following.proofs.follow_packets.Lts as lts
-use Rattle.trace.proofs.read_at.Reads as read-at-reads
 use Rattle.following.proofs.first_pass.Reads as first-pass-reads
 use Rattle.following.proofs.follow_record.Reads as follow-record-reads
 use Rattle.fragments.proofs.link_packets.Reads as link-packets-reads
-use Rattle.words.proofs.get_be32.Reads as get-be32-reads
+use Rattle.trace.proofs.file_head.Reads as file-head-reads
+use Rattle.trace.proofs.read_at.Reads as read-at-reads
 
 abbrev Inv-loop : tie.InvT-loop
-Inv-loop file w₀ count q rows s₀ at₀ datalink w s at = Following file w₀ q count w s (coming file at)
+Inv-loop file w₀ format count q rows s₀ at₀ w s at = Following format file w₀ q count w s (coming format file at)
 
 abbrev μ-loop : tie.MeasureT-loop
-μ-loop file w₀ count q rows s₀ at₀ datalink w s at = length file - at
+μ-loop file w₀ format count q rows s₀ at₀ w s at = length file - at
 
--- src/lib.rt:132:9
+-- src/lib.rt:133:9
 link-packets-requires : tie.Need-link-packets-requires Inv-loop μ-loop
 link-packets-requires c κs = search link-room
 
--- src/lib.rt:133:9
+-- src/lib.rt:134:9
 first-pass-requires : tie.Need-first-pass-requires Inv-loop μ-loop
 first-pass-requires c κs = search needs
 
 -- src/lib.rt:135:9
-get-be32-requires : tie.Need-get-be32-requires Inv-loop μ-loop
-get-be32-requires c κs = search needs
+file-head-requires : tie.Need-file-head-requires Inv-loop μ-loop
+file-head-requires c κs = search needs
 
 -- src/lib.rt:136:5
 loop-holds : tie.Need-loop-holds Inv-loop μ-loop
@@ -64,7 +63,7 @@ enum-told c = search needs
 
 -- src/lib.rt:145:17
 same-length : tie.Need-same-length Inv-loop μ-loop
-same-length c = c .before .before .before .before .loop .inv .going .size ∙ c .before .before .before .before .before .before .before .before .before .link-packets .ensures .size
+same-length c = search follow-size
 
 -- src/lib.rt:145:17
 returns : tie.Need-returns Inv-loop μ-loop
@@ -76,7 +75,7 @@ enum-told-2 c = search needs
 
 -- src/lib.rt:149:17
 same-length-2 : tie.Need-same-length-2 Inv-loop μ-loop
-same-length-2 c = c .before .before .before .before .loop .inv .going .size ∙ c .before .before .before .before .before .before .before .before .before .link-packets .ensures .size
+same-length-2 c = search follow-size
 
 -- src/lib.rt:149:17
 returns-2 : tie.Need-returns-2 Inv-loop μ-loop
@@ -90,7 +89,7 @@ follow-packets-spec =
     μ-loop
     link-packets-requires
     first-pass-requires
-    get-be32-requires
+    file-head-requires
     loop-holds
     read-at-requires
     enum-known-x

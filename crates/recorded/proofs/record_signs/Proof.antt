@@ -7,57 +7,57 @@ use Rattle.recorded.proofs.record_signs.Statement.{statement}
 use Rattle.recorded.proofs.record_signs.Tie as tie
 use Rattle.recorded.proofs.record_signs.Reads as reads
 use Rattle.recorded.proofs.record_signs.Lts as lts
-use Rattle.trace.proofs.read_at.Reads as read-at-reads
 use Rattle.recorded.proofs.look_at.Reads as look-at-reads
-use Rattle.words.proofs.get_be32.Reads as get-be32-reads
+use Rattle.trace.proofs.file_head.Reads as file-head-reads
+use Rattle.trace.proofs.read_at.Reads as read-at-reads
 
 abbrev Inv-loop : tie.InvT-loop
-Inv-loop file datalink s₀ at₀ s at = Looking file datalink s at
+Inv-loop file format s₀ at₀ s at = Looking format file s at
 
 abbrev μ-loop : tie.MeasureT-loop
-μ-loop file datalink s₀ at₀ s at = length file - at
+μ-loop file format s₀ at₀ s at = length file - at
 
--- src/lib.rt:156:9
-get-be32-requires : tie.Need-get-be32-requires Inv-loop μ-loop
-get-be32-requires c κs = search needs
+-- src/lib.rt:138:9
+file-head-requires : tie.Need-file-head-requires Inv-loop μ-loop
+file-head-requires c κs = search needs
 
--- src/lib.rt:168:5
+-- src/lib.rt:139:5
 loop-holds : tie.Need-loop-holds Inv-loop μ-loop
 loop-holds c = search looking-start
 
--- src/lib.rt:169:13
+-- src/lib.rt:140:13
 read-at-requires : tie.Need-read-at-requires Inv-loop μ-loop
 read-at-requires c κs = search needs
 
--- src/lib.rt:171:26
+-- src/lib.rt:142:26
 enum-known-x : tie.Need-enum-known-x Inv-loop μ-loop
 enum-known-x c = search needs
 
--- src/lib.rt:172:17
+-- src/lib.rt:143:17
 look-at-requires : tie.Need-look-at-requires Inv-loop μ-loop
 look-at-requires c κs = search looking-pre
 
--- src/lib.rt:168:5
+-- src/lib.rt:139:5
 loop-less : tie.Need-loop-less Inv-loop μ-loop
 loop-less c = search looking-less
 
--- src/lib.rt:168:5
+-- src/lib.rt:139:5
 loop-again : tie.Need-loop-again Inv-loop μ-loop
 loop-again c = search looking-turn
 
--- src/lib.rt:176:17
+-- src/lib.rt:147:17
 enum-told : tie.Need-enum-told Inv-loop μ-loop
 enum-told c = search needs
 
--- src/lib.rt:176:17
+-- src/lib.rt:147:17
 returns : tie.Need-returns Inv-loop μ-loop
 returns c = search looking-cut
 
--- src/lib.rt:179:17
+-- src/lib.rt:150:17
 enum-told-2 : tie.Need-enum-told-2 Inv-loop μ-loop
 enum-told-2 c = search needs
 
--- src/lib.rt:179:17
+-- src/lib.rt:150:17
 returns-2 : tie.Need-returns-2 Inv-loop μ-loop
 returns-2 c = search looking-end
 
@@ -67,7 +67,7 @@ record-signs-spec =
     (tie.spec
     Inv-loop
     μ-loop
-    get-be32-requires
+    file-head-requires
     loop-holds
     read-at-requires
     enum-known-x

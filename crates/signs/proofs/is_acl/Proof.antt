@@ -1,60 +1,44 @@
-use Rattle.signs.proofs.Acl.{acl-monitor, acl-not, acl-h4, acl-plain}
+use Rattle.signs.proofs.Acl.{flagged-pre, directed-pre, acl-flagged, acl-directed}
 use native.Mathlib.Omega.{arith}
 use borrow.Author.Needs.{needs}
 use Rattle.signs.proofs.is_acl.Statement.{statement}
 use Rattle.signs.proofs.is_acl.Tie as tie
 use Rattle.signs.proofs.is_acl.Reads as reads
 use Rattle.signs.proofs.is_acl.Lts as lts
-use Rattle.signs.proofs.is_h4_acl.Reads as is-h4-acl-reads
-use Rattle.signs.proofs.is_monitor_acl.Reads as is-monitor-acl-reads
-use Rattle.words.proofs.get_be32.Reads as get-be32-reads
+use Rattle.signs.proofs.is_directed_acl.Reads as is-directed-acl-reads
+use Rattle.signs.proofs.is_flagged_acl.Reads as is-flagged-acl-reads
 
--- src/lib.rt:75:32
-add-get-be32 : tie.Need-add-get-be32
-add-get-be32 c = search needs
+-- src/lib.rt:106:25
+enum-known-format : tie.Need-enum-known-format
+enum-known-format c = search needs
 
--- src/lib.rt:75:9
-get-be32-requires : tie.Need-get-be32-requires
-get-be32-requires c κs = search needs
+-- src/lib.rt:106:38
+is-flagged-acl-requires : tie.Need-is-flagged-acl-requires
+is-flagged-acl-requires c κs = search flagged-pre
 
--- src/lib.rt:77:9
-is-monitor-acl-requires : tie.Need-is-monitor-acl-requires
-is-monitor-acl-requires c κs = search needs
+-- src/lib.rt:107:28
+enum-told : tie.Need-enum-told
+enum-told c = search needs
 
--- src/lib.rt:77:9
+-- src/lib.rt:107:28
+is-directed-acl-requires : tie.Need-is-directed-acl-requires
+is-directed-acl-requires c κs = search directed-pre
+
+-- src/lib.rt:101:1
 returns : tie.Need-returns
-returns c = search acl-monitor
+returns c = search acl-flagged
 
--- src/lib.rt:80:9
+-- src/lib.rt:101:1
 returns-2 : tie.Need-returns-2
-returns-2 c = search acl-not
-
--- src/lib.rt:83:32
-add-is-h4-acl : tie.Need-add-is-h4-acl
-add-is-h4-acl c = search needs
-
--- src/lib.rt:83:9
-is-h4-acl-requires : tie.Need-is-h4-acl-requires
-is-h4-acl-requires c κs = search needs
-
--- src/lib.rt:83:9
-returns-3 : tie.Need-returns-3
-returns-3 c = search acl-h4
-
--- src/lib.rt:71:1
-returns-4 : tie.Need-returns-4
-returns-4 c = search acl-plain
+returns-2 c = search acl-directed
 
 pub is-acl-spec : {M : Type 1} → statement M
 is-acl-spec =
     tie.close
     (tie.spec
-    add-get-be32
-    get-be32-requires
-    is-monitor-acl-requires
+    enum-known-format
+    is-flagged-acl-requires
+    enum-told
+    is-directed-acl-requires
     returns
-    returns-2
-    add-is-h4-acl
-    is-h4-acl-requires
-    returns-3
-    returns-4)
+    returns-2)
