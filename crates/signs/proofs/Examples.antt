@@ -58,7 +58,7 @@ seen big r = isShort (format big) r ∷ isAcl (format big) r ∷ isSkipped (form
 pub records-computed :
     -- a packet that the recorder snapped
     (seen true (recordOf true 10 13 (toward 1 snapped)) ≡ true ∷ true ∷ true ∷ false ∷ []) × (seen false (recordOf false 10 13 (toward 0 snapped)) ≡ true ∷ true ∷ true ∷ false ∷ []) ×
-    -- a record's head with 256 of 255 bytes; in the other byte order these are 65,536 of 4,278,190,080
+    -- a head with 256 bytes captured of 255; in the other byte order these are 65,536 of 4,278,190,080
     (isShort (format true) unequal ≡ false) × (isShort (format false) unequal ≡ true) ×
     -- whole, in a record with a byte more than the packet needs; equal lengths
     (seen true (recordOf true 11 11 (toward 1 (0x40 ∷ 0x20 ∷ 1 ∷ 0 ∷ 0xA1 ∷ 0xFF ∷ []))) ≡ false ∷ true ∷ false ∷ false ∷ []) ×

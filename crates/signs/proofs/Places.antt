@@ -7,12 +7,15 @@ use mathlib.Core.Option.{Option, none, some}
 use native.Mathlib.Omega.{arith}
 use lib.ListN.{length, drop, length-drop}
 use lib.Seq.{length-take-le}
+use Rattle.container.specs.Container as container
 use Rattle.container.specs.Packets.{Packet, orNone, packets}
 use Rattle.acl.specs.Reading.{between}
-use Rattle.trace.specs.Formats.{fileHead, packetBy, recordsFrom, recordsBy, packetsBy}
+use Rattle.trace.specs.Formats.{containerOf, formatOf, fileHead, packetBy, recordsFrom, recordsBy, packetsBy}
+use Rattle.trace.proofs.Formats.{records-of, packets-of}
 use Rattle.trace.specs.Reader.{stepOf, isRecord}
 use Rattle.trace.specs.Walk.{RecordAt}
 use Rattle.trace.proofs.ReaderLaws.{record-told, none-told}
+use Rattle.trace.specs.declared.Container.{Container}
 use Rattle.trace.specs.declared.Format.{Format}
 use Rattle.trace.specs.declared.Step.{Step}
 use Rattle.trace.specs.declared.Step.the-variants.{Record, Cut, End}
@@ -85,3 +88,12 @@ packets-are read (r ∷ rs) = go (packets-are read rs) (read (r .is)) where
 pub file-packets : (g : Format) (f : List ℕ) → map (λ (a : Placed Packet). a .is) (packetsAt g f) ≡ packetsBy g f
 unfolding packetsAt recordsAt
 file-packets g f = packets-are (packetBy g) (placed (fileHead g) (recordsBy g f)) ∙ rw (placed-are (fileHead g) (recordsBy g f))
+
+-- of a file of a container
+module _ (b : Container) (f : List ℕ) where
+  pub import-records : map (λ (r : Placed (List ℕ)). r .is) (recordsAt (formatOf b f) f) ≡ container.records (containerOf b) f
+  unfolding recordsAt
+  import-records = placed-are (fileHead (formatOf b f)) (recordsBy (formatOf b f) f) ∙ records-of b f
+
+  pub import-packets : map (λ (a : Placed Packet). a .is) (packetsAt (formatOf b f) f) ≡ container.packetsIn (containerOf b) f
+  import-packets = file-packets (formatOf b f) f ∙ packets-of b f
