@@ -47,6 +47,7 @@ use Rattle.stretches.proofs.fill as fill
 use Rattle.stretches.proofs.fill.Symbol as fill-def
 use Rattle.stretches.proofs.fill.Symbol.{name as #stretches·fill}
 use Rattle.stretches.proofs.fill.Met as fill-thm
+use Rattle.trace.specs.declared.Container.the-variants.{Btsnoop}
 use Rattle.imports.specs.Numbers.{optionsNumber}
 use Rattle.places.specs.Places.{ToldIn}
 use Rattle.places.specs.declared.Told.{Told}
@@ -153,7 +154,7 @@ module _ {M : Type 1} (𝓤 : URA M) (H : Heap 𝓤) (A : Atoms 𝓤) (W : Given
   Lasts = Unit {0} × (List ℕ × (List ℕ × (Unit {0} × (Unit {0} × (List ℕ × (Unit {0} × Unit {0}))))))
 
   abbrev Said : Told → Lasts → Type 0
-  Said r zs = ToldIn (f .now) w places (xo .now) (optionsNumber ch tol) (xv .now) (r .number) (r .listed) (zs .1 .0) (zs .1 .1 .0) (zs .1 .1 .1 .1 .1 .0)
+  Said r zs = ToldIn Btsnoop (f .now) w places (xo .now) (optionsNumber ch tol) (xv .now) (r .number) (r .listed) (zs .1 .0) (zs .1 .1 .0) (zs .1 .1 .1 .1 .1 .0)
 
   number-fits : (r : Told) (u : Val) → Is Q r (u ∷ []) → r .number < 2 ^ 32
   number-fits r u is = LL.owed S.the-type S′.the-laws r _ is .0 .1
@@ -184,7 +185,7 @@ module _ {M : Type 1} (𝓤 : URA M) (H : Heap 𝓤) (A : Atoms 𝓤) (W : Given
   exits r zs ts fits e e′ samew sames sameo samev =
       qed W (‵ (flft κf qf) ∷ ‵ (flft κw qw) ∷ ‵ (flft κt qs) ∷ ‵ (flft κo qo) ∷ ‵ (flft κv qv) ∷ ‵ Own ∷ ‵ (finally u8 γ (zs .1 .0)) ∷ ‵ (finally R (xs .name) ts) ∷ ‵ (finally u8 (xo .name) (zs .1 .1 .0)) ∷ ‵ (finally u64 (xv .name) (zs .1 .1 .1 .1 .1 .0)) ∷ []) ∵
       suffices ! _ (ends-at 𝓤 H A entry.ended stayed (entry.clauses 𝓤 H A mem run) W ((κs, (qf, (qw, (qs, (qo, (qv, tt))))), tt, a, at), tt) (vint w32 (r .number)) (r .number) (tt, (zs .1 .0, (ts, (zs .1 .1 .0, (tt, (tt, (zs .1 .1 .1 .1 .1 .0, tt))))))) (tt, (samew, (sames, (sameo, (tt, (tt, (samev, tt)))))))) $
-      says ! (stretch-calls (f .now) w (xs .now) (xo .now) (optionsNumber ch tol) (xv .now) (r .number) (r .listed) (zs .1 .0) (zs .1 .1 .0) (zs .1 .1 .1 .1 .1 .0) e ts e′) $
+      says ! (stretch-calls Btsnoop (f .now) w (xs .now) (xo .now) (optionsNumber ch tol) (xv .now) (r .number) (r .listed) (zs .1 .0) (zs .1 .1 .0) (zs .1 .1 .1 .1 .1 .0) e ts e′) $
       nothing ! $ move ! (5 ∷ 0 ∷ []) $ join ! $ move ! (4 ∷ 0 ∷ []) $ join ! $ move ! (3 ∷ 0 ∷ []) $ join ! $ move ! (2 ∷ 0 ∷ []) $ join ! $ move ! (1 ∷ 0 ∷ []) $ join ! $ frame ! $
       -- [file; work's end; stretches'; out's; values']
       nothing ! $ move ! (5 ∷ 0 ∷ []) $ fjoin ! $ owned ! u32 (Is u32) (uint-makes 𝓤 H A W w32) tol _ (refl, tol-fits) $ fjoin ! $ owned ! u32 (Is u32) (uint-makes 𝓤 H A W w32) ch _ (refl, ch-fits) $ fjoin ! $
