@@ -3,8 +3,10 @@
 mod adapters;
 mod answer;
 mod bench;
+mod boxes;
 mod codec;
 mod deep;
+mod editcap;
 mod expected;
 mod gaps;
 mod hard;
@@ -12,12 +14,14 @@ mod honest;
 mod import;
 mod items;
 mod lacking;
+mod misfiled;
 mod misprint;
 mod misread;
 mod mistaken;
 mod model;
 mod names;
 mod order;
+mod pcap;
 mod plan;
 mod planted;
 mod proved;
@@ -45,9 +49,10 @@ usage: compare GROUP [--seed N] [--size N] [--against proved|model]
        compare sample GROUP FILE
        compare stats import|honest|bench [--seed N] [--size N]
 
-GROUP is codec, names, plan, order, import, tolerant, gaps or vectors. --size is the
-number of random cases; what is exhaustive stays whole. `all` runs every group that
-this build links. There is no sample of gaps, and neither sample nor bench of vectors.
+GROUP is codec, names, plan, order, import, tolerant, gaps, pcap or vectors. --size is
+the number of random cases; what is exhaustive stays whole. `all` runs every group that
+this build links. There is no sample of gaps and pcap, and neither sample nor bench of
+vectors.
 PROGRAM is the built traceprint.
 
 `bench` times the rows of a group, `bench growth` how the times of import grow,
@@ -121,7 +126,7 @@ fn cases(counts: &[u64]) -> String {
 
 pub type Group = fn(&dyn Subject, &Options) -> Checked;
 
-const GROUPS: [(&str, Group); 8] = [
+const GROUPS: [(&str, Group); 9] = [
     ("codec", codec::run),
     ("names", names::run),
     ("plan", plan::run),
@@ -129,6 +134,7 @@ const GROUPS: [(&str, Group); 8] = [
     ("import", import::run),
     ("tolerant", tolerant::run),
     ("gaps", signs::run),
+    ("pcap", boxes::run),
     ("vectors", vectors::run),
 ];
 

@@ -1,12 +1,13 @@
 //! Wrong answers planted on purpose: each must be reported, or the comparison could
 //! not fail.
 
-use crate::answer::{chosen, Answer, Stretch, Subject, NO_CHANNEL};
+use crate::answer::{chosen, Answer, Container, Stretch, Subject, NO_CHANNEL};
 use crate::expected::LONGEST_FILE;
+use crate::misfiled::{self, Misfiled};
 use crate::misread::{self, Misread};
 use crate::mistaken::{self, RANDOM};
 use crate::model::{self, Reading, RIGHT};
-use crate::{import, signs, tolerant, Group, Options};
+use crate::{boxes, import, signs, tolerant, Group, Options};
 
 /// The model with some of its calls replaced.
 #[derive(Clone, Copy)]
@@ -34,6 +35,8 @@ struct Planted {
     /// Changes work in the call with options, whatever the answer.
     spoils_with: bool,
     gaps: Misread,
+    /// The calls that take a container.
+    boxed: Misfiled,
 }
 
 fn read(file: &[u8], work: usize, channel: u32, tolerant: bool, reading: Reading) -> Answer {
@@ -60,13 +63,11 @@ const NONE: Planted = Planted {
             model::fill(places, open);
         }
     },
-    import_with: |reading, file, work, options| {
-        let (channel, tolerant) = chosen(options);
-        read(file, work, channel, tolerant, reading)
-    },
+    import_with: |reading, file, work, options| model::import_with(file, work, options, reading),
     store_with: model::store,
     spoils_with: false,
     gaps: misread::NONE,
+    boxed: misfiled::NONE,
 };
 
 fn by_options(file: &[u8], work: usize, (channel, tolerant): (u32, bool)) -> Answer {
@@ -146,8 +147,8 @@ impl Subject for Planted {
     ) -> u32 {
         let answer = (self.import_in)(self, file, work.len(), stretches.len(), channel, tolerant != 0);
         let number = (self.store)(&answer, out, values);
-        let open = if number == 0 { model::open(file, answer.values[0], self.reading) } else { Vec::new() };
-        (self.fill)(number, stretches, &open);
+        let open = || model::open(Container::Btsnoop, file, answer.values[0], self.reading);
+        (self.fill)(number, stretches, &if number == 0 { open() } else { Vec::new() });
         number
     }
 
@@ -155,7 +156,28 @@ impl Subject for Planted {
         if self.spoils_with && !work.is_empty() {
             work[work.len() / 2] ^= 0xFF;
         }
+        let options = &(self.boxed.options)(file, options)[..];
         (self.store_with)(&(self.import_with)(self.reading, file, work.len(), options), out, values)
+    }
+
+    fn import_stretches_with(
+        &self,
+        file: &[u8],
+        work: &mut [u8],
+        stretches: &mut [Stretch],
+        out: &mut [u8],
+        options: &[u64],
+        values: &mut [u64],
+    ) -> u32 {
+        self.boxed.import_stretches(self.reading, file, work, stretches, out, options, values)
+    }
+
+    fn records_with(&self, file: &[u8], starts: &mut [u64], options: &[u64], values: &mut [u64]) -> u32 {
+        self.boxed.records(file, starts, options, values)
+    }
+
+    fn gaps_with(&self, file: &[u8], work: &mut [u8], options: &[u64], values: &mut [u64]) -> u32 {
+        self.boxed.gaps(file, work, options, values)
     }
 
     fn gaps(&self, file: &[u8], work: &mut [u8], tolerant: u32, values: &mut [u64]) -> u32 {
@@ -181,7 +203,7 @@ const FIXED: &str = "import, fixed traces";
 const FRAGMENTS: &str = "import, every three fragments of two PDUs";
 const CID_1: &str = "import, every four PDUs on CID 1";
 const STRICT: &str = "tolerant, switched to strict";
-const PARTS: [(&str, Group); 15] = [
+const PARTS: [(&str, Group); 25] = [
     (RANDOM, import::run_random),
     (FIXED, import::run_fixed),
     (FRAGMENTS, import::run_excess),
@@ -197,6 +219,16 @@ const PARTS: [(&str, Group); 15] = [
     (misread::FOUR, signs::run_fragments),
     (misread::LONG, signs::run_long),
     (misread::LAW, signs::run_law),
+    (misfiled::BY_HAND, boxes::run_by_hand),
+    (misfiled::RANDOM, boxes::run_random),
+    (misfiled::DAMAGED, boxes::run_damaged),
+    (misfiled::HONEST, boxes::run_honest),
+    (misfiled::SHORT, boxes::run_short),
+    (misfiled::MOST, boxes::run_most),
+    (misfiled::LOSSES, boxes::run_losses),
+    (misfiled::TWINS, boxes::run_twins),
+    (misfiled::LAW, boxes::run_law),
+    (misfiled::OTHERS, boxes::run_others),
 ];
 
 const EXCESS: Planted = Planted { reading: Reading { excess_dropped: false, ..RIGHT }, ..NONE };
@@ -821,7 +853,7 @@ fn faults_of_options() -> Vec<(&'static str, &'static str, Planted)> {
         (
             "tolerant",
             "options: of more than there are, none counts",
-            Planted { import_with: |_, f, w, o| by_options(f, w, chosen(if o.len() > 2 { &[] } else { o })), ..NONE },
+            Planted { import_with: |_, f, w, o| by_options(f, w, chosen(if o.len() > 3 { &[] } else { o })), ..NONE },
         ),
         (
             "tolerant",
@@ -947,6 +979,10 @@ fn all() -> Vec<(&'static str, String, Planted)> {
     all.extend(mistaken.map(|(group, label, reading)| (group, label, Planted { reading, ..NONE })));
     let misread = misread::faults().into_iter();
     all.extend(misread.map(|(group, label, gaps)| (group, label, Planted { gaps, ..NONE })));
+    let importers = misfiled::importers().into_iter();
+    all.extend(importers.map(|(group, label, reading)| (group, label, Planted { reading, ..NONE })));
+    let misfiled = misfiled::faults().into_iter();
+    all.extend(misfiled.map(|(group, label, boxed)| (group, label, Planted { boxed, ..NONE })));
     all
 }
 

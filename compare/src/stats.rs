@@ -2,7 +2,7 @@
 
 use std::collections::BTreeMap;
 
-use crate::answer::Answer;
+use crate::answer::{Answer, Container};
 use crate::expected;
 use crate::mistaken;
 use crate::model::{self, Reading, RIGHT};
@@ -57,8 +57,7 @@ impl Stats {
         if ![0, 6].contains(&answer.number) {
             return;
         }
-        let datalink = u64::from(u32::from_be_bytes(file[12..16].try_into().unwrap()));
-        let pdus = model::pdus(datalink, &model::records(&file[16..]).0, RIGHT);
+        let pdus = model::pdus(&model::packets(Container::Btsnoop, file, RIGHT).0, RIGHT);
         let pieces = model::pieces(&pdus, RIGHT);
         let (admitted, named) = model::channels(&pdus, RIGHT);
         self.admitted += u64::from(!admitted.is_empty());
