@@ -93,6 +93,10 @@ pub trait Subject {
     fn has_stretches(&self) -> bool {
         true
     }
+    /// Whether the calls that take a container are linked.
+    fn has_boxes(&self) -> bool {
+        true
+    }
 }
 
 /// What a file is asked for as.

@@ -548,7 +548,8 @@ fn large(boxes: &mut Boxes, rng: &mut Rng) -> Checked {
         boxes.file(&trace.file, channel)?;
         boxes.file(&vec![0; length], NO_CHANNEL)?;
     }
-    boxes.file(&[&Trace::pcap(FORMS[0]).file[..], &vec![0; LONGEST_FILE]].concat(), NO_CHANNEL)
+    // Of zeros alone behind the header, one byte too long.
+    boxes.file(&[&Trace::pcap(FORMS[0]).file[..], &vec![0; LONGEST_FILE + 1 - HEAD]].concat(), NO_CHANNEL)
 }
 
 // ---- random files

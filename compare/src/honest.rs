@@ -339,7 +339,7 @@ impl Maker<'_> {
         }
     }
 
-    /// A packet of a link, with data, in a pcap file and of a direction that is neither of the two.
+    /// A packet of a link, with data, in a pcap file and of a direction that is neither of the two, or of another type.
     fn undirected(&mut self, links: &[Link]) {
         let rng = &mut *self.rng;
         let Link { pair: (_, handle), cids, .. } = links[rng.below(links.len())];
@@ -347,7 +347,11 @@ impl Maker<'_> {
         let pdu = trace::l2cap(cids[rng.below(2)], &trace::uih(self.dlci, &wire, None, false));
         let packet = trace::acl_packet(handle, rng.pick(&[0, 1, 2]), &pdu);
         let stamp = trace::stamp(rng);
-        self.trace.record(rng.pick(&trace::OTHERS), stamp, &[&[2], &packet[..]].concat());
+        let (direction, kind) = match rng.percent(60) {
+            true => (rng.pick(&trace::OTHERS), 2),
+            false => (rng.below(2) as u32, trace::other_type(rng)),
+        };
+        self.trace.record(direction, stamp, &[&[kind], &packet[..]].concat());
     }
 
     /// A record of another adapter on a link's handle and CID, where no link is: what it does there is free, but for

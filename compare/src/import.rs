@@ -150,6 +150,10 @@ impl<'a> Import<'a> {
         checked
     }
 
+    pub fn container(&self) -> Container {
+        self.container
+    }
+
     /// Whether the rule is tolerant.
     pub fn tolerant(&self) -> bool {
         self.rule == Rule::Tolerant

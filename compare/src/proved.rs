@@ -322,4 +322,8 @@ impl Subject for Proved {
     fn has_stretches(&self) -> bool {
         has("stretches")
     }
+
+    fn has_boxes(&self) -> bool {
+        has("pcap")
+    }
 }

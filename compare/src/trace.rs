@@ -53,6 +53,9 @@ impl Trace {
                     let other = rng.mixed(16, &[0, 1, 2, 4, 0x7F, 0xFF], 50);
                     trace.file[4..20].copy_from_slice(&other);
                 }
+                if let (Some(form), true) = (trace.form, rng.percent(30)) {
+                    trace.file[16..20].copy_from_slice(&form.bytes(rng.pick(&[0, 1, 25, 40])));
+                }
                 trace
             }
         }
@@ -577,6 +580,12 @@ fn emit(
     let key = keys[rng.below(keys.len())];
     let Some((direction, packet)) = queues.get_mut(&key).and_then(VecDeque::pop_front) else { return false };
     *now = if rng.percent(5) { stamp(rng) } else { now.wrapping_add(rng.below(3000) as u64) };
+    if trace.form.is_some() && rng.percent(5) {
+        // The same with another direction or type.
+        let (other, kind) =
+            if rng.percent(60) { (rng.pick(&OTHERS), 2) } else { (rng.below(2) as u32, other_type(rng)) };
+        trace.record(other, *now, &[&[kind], &packet[..]].concat());
+    }
     let extra = if rng.percent(20) { rng.next() as u32 } else { 0 };
     trace.on(key.0 .0).acl(direction, *now, extra, &packet);
     true
@@ -604,6 +613,11 @@ pub fn noise(rng: &mut Rng, trace: &mut Trace) {
 /// Directions that are neither of the two.
 pub const OTHERS: [u32; 9] = [2, 3, 0xFF, 0x100, 0x101, 0x1_0000, 0x0100_0000, 0x8000_0000, u32::MAX];
 
+/// An H4 type other than ACL data's.
+pub fn other_type(rng: &mut Rng) -> u8 {
+    rng.pick(&[0, 1, 3, 4, 5, 0x12, 0x82])
+}
+
 /// A record of a pcap file that is no ACL packet: of another direction, of another type, or too short for either.
 fn undirected(rng: &mut Rng, trace: &mut Trace, stamp: u64, mut packet: Vec<u8>) {
     match rng.below(3) {
@@ -614,7 +628,7 @@ fn undirected(rng: &mut Rng, trace: &mut Trace, stamp: u64, mut packet: Vec<u8>)
         }
         _ => {
             if let Some(kind) = packet.first_mut() {
-                *kind = rng.pick(&[0, 1, 3, 4, 5, 0x82]);
+                *kind = other_type(rng);
             }
             trace.record(rng.below(2) as u32, stamp, &packet);
         }
