@@ -483,23 +483,24 @@ fn least(trace: &mut Trace, way: u32, flag: u16, data: &[u8]) {
     trace.row(packet.len() as u32, way % 2, 0, EPOCH + 1000 * u64::from(way), &packet);
 }
 
-/// As many rows of each table as a file can ask for: records, packets with PDUs that stay open, completed PDUs, SABMs, empty
-/// UIHs, pieces, buffers, and commands that name channels.
+/// As many rows of each table as a file can ask for, each with the size of its records.
 const LEAST: [(&str, usize, Least); 9] = [
-    ("records", 16, |trace, i| trace.captured(0, EPOCH + u64::from(i), &[])),
-    ("records of zeros", 16, |trace, _| trace.zeros()),
-    ("open PDUs", 25, |trace, i| least(trace, i, 2, &[])),
-    ("completed PDUs", 29, |trace, i| least(trace, i, 2, &l2cap(0x41, &[]))),
-    ("SABMs", 31, |trace, i| least(trace, i, 2, &l2cap(0x41, &[18 << 2 | 3, 0x2F]))),
-    ("empty UIHs", 33, |trace, i| least(trace, i, 2, &l2cap(0x41, &trace::uih(18, &[], None, false)))),
-    ("pieces", 34, |trace, i| {
+    ("most records", 16, |trace, i| trace.captured(0, EPOCH + u64::from(i), &[])),
+    ("most records of zeros", 16, |trace, _| trace.zeros()),
+    ("most packets, PDUs that stay open", 25, |trace, i| least(trace, i, 2, &[])),
+    ("most PDUs", 29, |trace, i| least(trace, i, 2, &l2cap(0x41, &[]))),
+    ("most SABMs", 31, |trace, i| least(trace, i, 2, &l2cap(0x41, &[18 << 2 | 3, 0x2F]))),
+    ("most empty UIHs", 33, |trace, i| least(trace, i, 2, &l2cap(0x41, &trace::uih(18, &[], None, false)))),
+    ("most pieces", 34, |trace, i| {
         least(trace, 1, 2, &l2cap(0x41, &trace::uih(18, &[ack(0)[i as usize % 9]], None, false)))
     }),
-    ("buffers", 34, |trace, i| {
-        let cid = 0x40 + (i / 8192) as u16;
+    ("most buffers", 34, |trace, i| {
+        let cid = 0x50 + (i / 8192) as u16;
         least(trace, i, 2, &l2cap(cid, &trace::uih(18, &[0x3E], None, false)));
     }),
-    ("commands", 37, |trace, i| least(trace, i % 2, 2, &l2cap(1, &trace::request(3, 0x40 + (i % 60_000) as u16)))),
+    ("commands, one in each PDU", 37, |trace, i| {
+        least(trace, i % 2, 2, &l2cap(1, &trace::request(3, 0x40 + (i % 60_000) as u16)))
+    }),
 ];
 
 /// A file of so many bytes, full of such records; what is left over is a record that is skipped, or the beginning of one.
@@ -523,6 +524,15 @@ fn full(form: Form, length: usize, (_, size, record): (&str, usize, Least)) -> V
         rest => trace.captured(0, EPOCH, &vec![0xFF; rest - ROW]),
     }
     trace.file
+}
+
+/// The files of at most so many bytes that have the most rows of one table, for the bench: whole ones.
+pub fn fullest(length: usize) -> impl Iterator<Item = (&'static str, Vec<u8>)> {
+    LEAST.into_iter().map(move |kind| {
+        let mut file = full(FORMS[0], length, kind);
+        file.truncate(pcap::read(&file, pcap::RIGHT).1);
+        (kind.0, file)
+    })
 }
 
 /// Files of every short length, and of the longest, that have the most rows of one table.

@@ -37,7 +37,7 @@ mod vectors;
 
 use std::process::ExitCode;
 
-use answer::{Checked, Difference, Lender, Subject, NUMBERS};
+use answer::{Checked, Container, Difference, Lender, Subject, NUMBERS};
 
 const USAGE: &str = "\
 usage: compare GROUP [--seed N] [--size N] [--against proved|model]
@@ -47,7 +47,7 @@ usage: compare GROUP [--seed N] [--size N] [--against proved|model]
        compare bench GROUP|growth|adapters [--only TEXT] [--kib N,N,..] [--judge] [--against proved|model]
        compare once LABEL KIB [--times N] [--against proved|model]
        compare sample GROUP FILE
-       compare stats import|honest|bench [--seed N] [--size N]
+       compare stats import|pcap|honest|bench [--seed N] [--size N]
 
 GROUP is codec, names, plan, order, import, tolerant, gaps, pcap or vectors. --size is
 the number of random cases; what is exhaustive stays whole. `all` runs every group that
@@ -57,10 +57,12 @@ PROGRAM is the built traceprint.
 
 `bench` times the rows of a group, `bench growth` how the times of import grow,
 `bench gaps` how long the signs take as a part of import, `bench adapters` one handle
-on many adapters against as many links that are spread over handles.
+on many adapters against as many links that are spread over handles, `bench pcap` the
+same packets in pcap and in btsnoop.
 --only takes the rows whose label has TEXT, --kib the sizes of the files of import
 (16 to 1024), and --judge says at the end which rows are over their limit. `once`
-imports the trace of a row --times times and does nothing else.";
+imports the trace of a row --times times and does nothing else; as pcap, if LABEL
+begins with that word.";
 
 /// What the command line says besides the command.
 pub struct Options {
@@ -242,13 +244,14 @@ fn run() -> Result<bool, String> {
             let calls: &[&str] = match group {
                 "growth" => &["import"],
                 "adapters" => &["import", "gaps"],
+                "pcap" => &["import", "pcap"],
                 _ => &[group],
             };
             calls.iter().try_for_each(|call| need(call))?;
             bench::run(group, subject, &options).map(verdict).ok_or_else(|| USAGE.into())
         }
         ["once", label, kib] => {
-            need("import")?;
+            need(if label.starts_with("pcap ") { "pcap" } else { "import" })?;
             bench::once(label, size(kib)?, subject, &options).map(|()| true)
         }
         ["sample", group, path] => {
@@ -257,8 +260,8 @@ fn run() -> Result<bool, String> {
             println!("sample: {group}: {cases} cases, {} bytes", bytes.len());
             Ok(true)
         }
-        ["stats", "import"] => {
-            stats::import(&options);
+        ["stats", group @ ("import" | "pcap")] => {
+            stats::import(&options, if group == "pcap" { Container::Pcap } else { Container::Btsnoop });
             Ok(true)
         }
         ["stats", "honest"] => Ok(verdict(tolerant::check_makers(&options))),
