@@ -781,6 +781,10 @@ pub fn run_most(subject: &dyn Subject, _: &Options) -> Checked {
     most(&mut Boxes::new(subject, Container::Pcap), 300)
 }
 
+pub fn run_long(subject: &dyn Subject, options: &Options) -> Checked {
+    large(&mut Boxes::new(subject, Container::Pcap), &mut Rng::new(options.seed))
+}
+
 pub fn run_losses(subject: &dyn Subject, options: &Options) -> Checked {
     let mut gaps = Gaps::boxed(subject, Container::Pcap);
     losses(&mut gaps, &mut Rng::new(options.seed), options.size.unwrap_or(50_000))

@@ -209,7 +209,10 @@ impl<'a> Import<'a> {
             })?;
             self.guards(enough, file, channel, by)?;
             if expected.number == 1 {
-                self.unworked(lender, file, channel, expected, enough, by)?;
+                // However much work there is.
+                for lent in [enough, 8 * file.len() - 1, self.files % 100] {
+                    self.unworked(lender, file, channel, expected, lent, by)?;
+                }
             } else if self.files.is_multiple_of(7) && !file.is_empty() {
                 self.unworked(lender, file, channel, &Answer::refused(2, &[]), 8 * file.len() - 1, by)?;
                 self.unworked(lender, file, channel, &Answer::refused(2, &[]), self.files % (8 * file.len()), by)?;
@@ -924,6 +927,10 @@ pub fn run_random(subject: &dyn Subject, options: &Options) -> Checked {
 /// One part alone.
 pub fn run_fixed(subject: &dyn Subject, _: &Options) -> Checked {
     fixed(&mut Import::new(subject, Rule::Strict))
+}
+
+pub fn run_large(subject: &dyn Subject, options: &Options) -> Checked {
+    large(&mut Import::new(subject, Rule::Strict), &mut Rng::new(options.seed))
 }
 
 pub fn run_by_hand(subject: &dyn Subject, _: &Options) -> Checked {

@@ -12,6 +12,7 @@ pub const DAMAGED: &str = "pcap, damaged traces and random bytes";
 pub const HONEST: &str = "pcap, every cut of honest recordings";
 pub const SHORT: &str = "pcap, short files and headers";
 pub const MOST: &str = "pcap, files full of the smallest records";
+pub const LONG: &str = "pcap, long files";
 pub const LOSSES: &str = "pcap, signs";
 pub const TWINS: &str = "pcap, the same signs as in the twin";
 pub const LAW: &str = "pcap, the law of starts";
@@ -130,8 +131,11 @@ impl Misfiled {
 /// A wrong importer with its label and the parts that have to report it.
 type Importer = (&'static [&'static str], &'static str, Reading);
 
-const ALL: &[&str] = &[BY_HAND, RANDOM, HONEST];
+/// What every part shows; what the vectors do not; what is left to chance in random traces alone; and headers that only files
+/// made for them have.
 const MADE: &[&str] = &[BY_HAND, RANDOM, DAMAGED, HONEST, "vectors"];
+const ALL: &[&str] = &[BY_HAND, RANDOM, HONEST];
+const BY_HAND_RANDOM: &[&str] = &[BY_HAND, RANDOM];
 const FIXED: &[&str] = &[BY_HAND, SHORT];
 const HAND: &[&str] = &[BY_HAND];
 
@@ -172,8 +176,6 @@ fn of_directions() -> Vec<Importer> {
         (BY_HAND_RANDOM, "the direction is its first byte", reads(|_, packet| way(u64::from(*packet.first()?)))),
     ]
 }
-
-const BY_HAND_RANDOM: &[&str] = &[BY_HAND, RANDOM];
 
 /// Of a file's header.
 fn of_headers() -> Vec<Importer> {
@@ -445,8 +447,11 @@ const GUESSED: Asks = |file, options| with_container(options, u64::from((RIGHT.f
 /// A wrong call with its label and the part that has to report it.
 type Fault = (&'static str, String, Misfiled);
 
+/// Plants a choice of options in one of the calls.
+type Planting = fn(Asks) -> Misfiled;
+
 fn of_options() -> Vec<Fault> {
-    let calls: [(&str, fn(Asks) -> Misfiled); 4] = [
+    let calls: [(&str, Planting); 4] = [
         ("import_with", |asks| Misfiled { options: asks, ..NONE }),
         ("import_stretches_with", |asks| Misfiled { stretches: asks, ..NONE }),
         ("records_with", |asks| Misfiled { records: asks, ..NONE }),
@@ -525,7 +530,6 @@ fn of_stretches() -> Vec<Fault> {
     all.into_iter().map(fault).collect()
 }
 
-/// The tail told of a file that is not refused.
 fn of_found() -> Vec<Fault> {
     let found = |found| Misfiled { found, ..NONE };
     let told = |told| Misfiled { told, ..NONE };
