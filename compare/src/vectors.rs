@@ -137,17 +137,21 @@ fn answer(line: &Line) -> Answer {
 struct Tally {
     run: BTreeMap<&'static str, u64>,
     pcap: u64,
+    /// How many told the number of records.
+    records: u64,
     passed: BTreeMap<String, u64>,
 }
 
 /// The calls held to the cases.
 struct Vectors<'a> {
+    subject: &'a dyn Subject,
     imports: Vec<Import<'a>>,
     tally: Tally,
 }
 
 impl Vectors<'_> {
     fn case(&mut self, line: &Line) -> Checked {
+        self.records(line)?;
         let asked = (line.container(), line.tolerant());
         let linked = self.imports.iter().any(|import| (import.container(), import.tolerant()) == asked);
         if let Some(why) = line.later().or((!linked).then(|| "built without `pcap`".into())) {
@@ -169,6 +173,35 @@ impl Vectors<'_> {
             checked.map_err(|found| line.differs(&found.call, found.expected, found.got))?;
         }
         Ok(())
+    }
+}
+
+impl Vectors<'_> {
+    /// Where a case of import tells how many records the file has, or a refusal that does not ask for work, the records are
+    /// held to it, whatever else the case asks for.
+    fn records(&mut self, line: &Line) -> Checked {
+        if line.call != "import" || !self.subject.has_boxes() {
+            return Ok(());
+        }
+        let words: Vec<&str> = line.answer.split(' ').collect();
+        let number = |word: &str| word.parse::<u64>().expect("a number");
+        let expected = match (words[0], words.iter().position(|word| *word == "sizes")) {
+            ("ok", Some(sizes)) => (0, vec![number(words[sizes + 2]), number(words[4])]),
+            ("refused", _) if ["1", "3", "4", "21", "22"].contains(&words[1]) => {
+                (number(words[1]) as u32, words[2..].iter().map(|word| number(word)).collect())
+            }
+            _ => return Ok(()),
+        };
+        let file = bytes(line.get("file").expect("a file"));
+        let container = u64::from(line.container() == Container::Pcap);
+        let mut values = [u64::MAX; 2];
+        let found = self.subject.records_with(&file, &mut [], &[256, 0, container], &mut values);
+        let found = (found, values[..expected.1.len()].to_vec());
+        self.tally.records += 1;
+        if found == expected {
+            return Ok(());
+        }
+        Err(line.differs("records_with", format!("{expected:?}"), format!("{found:?}")))
     }
 }
 
@@ -223,7 +256,7 @@ pub fn run(subject: &dyn Subject, options: &Options) -> Checked {
             imports.extend([Rule::Strict, Rule::Tolerant].map(|rule| Import::boxed(subject, rule, container)));
         }
     }
-    let mut vectors = Vectors { imports, tally: Tally::default() };
+    let mut vectors = Vectors { subject, imports, tally: Tally::default() };
     for file in FILES {
         let path = directory().join(file);
         let text = std::fs::read_to_string(&path)
@@ -240,13 +273,14 @@ pub fn run(subject: &dyn Subject, options: &Options) -> Checked {
             name = UNNAMED;
         }
     }
-    let Tally { run, pcap, passed } = vectors.tally;
+    let Tally { run, pcap, records, passed } = vectors.tally;
     if run.is_empty() {
         return Err(unusable("cases to run", "none".into()));
     }
     if !options.quiet {
         let shown = |counts: Vec<String>| counts.join(", ");
         let total: u64 = run.values().sum();
+        println!("vectors: records as {records} cases of import tell them");
         println!(
             "vectors: {total} cases run, {pcap} of them of pcap: {}",
             shown(run.iter().map(|(file, n)| format!("{file} {n}")).collect())
