@@ -83,6 +83,8 @@ pub trait Subject {
         options: &[u64],
         values: &mut [u64],
     ) -> u32;
+    /// Where the records of a btsnoop file start.
+    fn records(&self, file: &[u8], starts: &mut [u64], values: &mut [u64]) -> u32;
     /// Where the records of a file start. Of the options only the container is looked at.
     fn records_with(&self, file: &[u8], starts: &mut [u64], options: &[u64], values: &mut [u64]) -> u32;
     /// The signs that something is not in a file: how many of each, and where the first is.

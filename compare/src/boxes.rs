@@ -6,7 +6,9 @@ use crate::codec::each_string;
 use crate::editcap;
 use crate::expected::{self, LONGEST_FILE};
 use crate::gaps::VALUES;
+use crate::hard;
 use crate::import::{self, ack, Import, Rule, Taker};
+use crate::lacking;
 use crate::model;
 use crate::pcap::{self, Form, FORMS, HEAD, LINK, ROW};
 use crate::rng::Rng;
@@ -44,18 +46,33 @@ impl<'a> Records<'a> {
         self.call(file, [0, many + 1, many / 2, many + 9][self.files % 4], &expected, &starts)
     }
 
-    /// One call with so many places lent, between two that nobody may touch.
+    /// One call with so many places lent, between two that nobody may touch. A btsnoop file goes through the call without
+    /// options too.
     fn call(&mut self, file: &[u8], places: usize, expected: &Answer, starts: &[u64]) -> Checked {
+        self.called(file, places, expected, starts, Some(&self.options()))?;
+        match self.container {
+            Container::Btsnoop => self.called(file, places, expected, starts, None),
+            Container::Pcap => Ok(()),
+        }
+    }
+
+    fn called(
+        &mut self,
+        file: &[u8],
+        places: usize,
+        expected: &Answer,
+        starts: &[u64],
+        options: Option<&[u64]>,
+    ) -> Checked {
         let mut lent = vec![EMPTY; places + 2];
-        let options = self.options();
         let room = self.lender.room(expected);
-        let case = || Case {
-            call: format!("records_with, options {options:?}, {places} places"),
-            inputs: vec![("file", file.to_vec())],
-        };
+        let asked = options.map_or("records".into(), |options| format!("records_with, options {options:?}"));
+        let case = || Case { call: format!("{asked}, {places} places"), inputs: vec![("file", file.to_vec())] };
         let subject = self.subject;
-        let mut call =
-            |_: &mut [u8], values: &mut [u64]| subject.records_with(file, &mut lent[1..=places], &options, values);
+        let mut call = |_: &mut [u8], values: &mut [u64]| match options {
+            Some(options) => subject.records_with(file, &mut lent[1..=places], options, values),
+            None => subject.records(file, &mut lent[1..=places], values),
+        };
         self.lender.call(expected, 0, room, &mut call, &case)?;
         let filled = starts.iter().copied().chain(std::iter::repeat(EMPTY));
         let due: Vec<u64> = std::iter::once(EMPTY).chain(filled.take(places)).chain([EMPTY]).collect();
@@ -472,6 +489,17 @@ fn packets(boxes: &mut Boxes) -> Checked {
     Ok(())
 }
 
+/// The traces of the bench of import, of so many KiB.
+fn hard_traces(boxes: &mut Boxes, sizes: &[usize]) -> Checked {
+    let mut converted = Converted { boxes, turn: 0 };
+    for trace in hard::traces() {
+        for kib in trace.sizes(Some(sizes)) {
+            trace.file(kib).map_or(Ok(()), |file| converted.file(&file, NO_CHANNEL))?;
+        }
+    }
+    Ok(())
+}
+
 // ---- files full of the smallest records
 
 /// Puts a record of the least size that has something, by its number.
@@ -647,7 +675,7 @@ fn twins_of(subject: &dyn Subject, file: &[u8]) -> Checked {
 
 fn twins(subject: &dyn Subject, rng: &mut Rng, size: u64) -> Checked {
     for _ in 0..size {
-        let trace = crate::lacking::made(rng, Container::Pcap, 40);
+        let trace = lacking::made(rng, Container::Pcap, 40);
         let (other, _) = trace::structured_in(rng, Container::Pcap, 30);
         for file in [&trace.file, &trace::damaged(rng, &trace), &other.file, &trace::damaged(rng, &other)] {
             import::smallest(Container::Pcap, file, &mut |file| twins_of(subject, file))?;
@@ -704,6 +732,8 @@ pub fn run(subject: &dyn Subject, options: &Options) -> Checked {
     import::excess(&mut converted)?;
     import::limits(&mut |file| converted.file(file, NO_CHANNEL), &mut rng)?;
     log.counts("every four fragments, three of two PDUs, and long buffers", &boxes.answers());
+    hard_traces(&mut boxes, if options.quiet { &[16] } else { &[16, 128, 1024] })?;
+    log.counts("the traces of the bench of import", &boxes.answers());
     most(&mut boxes, if options.quiet { 300 } else { 1000 })?;
     large(&mut boxes, &mut rng)?;
     log.counts("files full of the smallest records, up to 1,048,576 bytes", &boxes.answers());
@@ -746,6 +776,13 @@ fn others(boxes: &mut Boxes, rng: &mut Rng, size: u64) -> Checked {
     let example = import::example().file;
     for n in 0..=example.len() {
         boxes.file(&example[..n], NO_CHANNEL)?;
+    }
+    for datalink in [1001, 1002, 2001, 0, 1003, u32::MAX] {
+        boxes.file(&Trace::new(datalink).file, NO_CHANNEL)?;
+    }
+    for _ in 0..size {
+        let trace = lacking::made(rng, Container::Btsnoop, 20);
+        boxes.file(&lacking::ended(rng, &trace), NO_CHANNEL)?;
     }
     random(boxes, rng, size)?;
     damaged(boxes, rng, size)

@@ -9,6 +9,7 @@ use std::{env, fs, process};
 
 use crate::answer::{Answer, Checked, Container, Difference, Subject, NO_CHANNEL};
 use crate::expected;
+use crate::honest::{self, Scale};
 use crate::model::{self, be};
 use crate::pcap::{self, Form, FORMS, ROW};
 use crate::rng::Rng;
@@ -49,12 +50,14 @@ fn converted(directory: &Path, file: &[u8], kind: &str) -> Result<Vec<u8>, Box<D
     fs::read(&to).map_err(words)
 }
 
-/// A pcap file that editcap reads as we do.
+/// A pcap file that editcap reads as we do: an honest recording, then random traces.
 fn made_pcap(rng: &mut Rng, form: Form) -> Vec<u8> {
     let mut file = Trace::pcap(form).file;
-    for _ in 0..8 {
-        let (other, _) = trace::structured_in(rng, Container::Pcap, 60);
-        for record in pcap::read(&other.file, pcap::RIGHT).0.iter().filter(|record| record.received.is_some()) {
+    let scale = Scale { links: 3, frames: 40, payload: 40, piece: 60, fragment: 100 };
+    let mut others = vec![honest::recording_in(rng, Container::Pcap, scale).file];
+    others.extend((0..4).map(|_| trace::structured_in(rng, Container::Pcap, 60).0.file));
+    for other in others {
+        for record in pcap::read(&other, pcap::RIGHT).0.iter().filter(|record| record.received.is_some()) {
             let fraction = record.form.number(record.bytes, 4) as u32 % (2000 * form.parts() as u32);
             let length = record.packet().len() as u32;
             for number in [record.form.number(record.bytes, 0) as u32, fraction, length, length] {

@@ -520,6 +520,10 @@ pub fn short(taker: &mut dyn Taker, rng: &mut Rng) -> Checked {
             taker.file(&trace.file[..n], channel)?;
         }
     }
+    // A file of the other container.
+    for form in pcap::FORMS {
+        taker.file(&pcap::of_btsnoop(&example().file, form), NO_CHANNEL)?;
+    }
     Ok(())
 }
 

@@ -42,6 +42,8 @@ pub struct Misfiled {
     /// Changes the answers, each before it is stored.
     change_stretches: fn(&mut Answer, &[u8]),
     change_records: fn(&mut Answer, &[u8]),
+    /// Of the call that takes no options.
+    change_alone: fn(&mut Answer, &[u8]),
     change_gaps: fn(&mut Answer, &[u8]),
     /// Whether a byte of work is changed, after this number.
     spoils: fn(u32) -> bool,
@@ -67,6 +69,7 @@ pub const NONE: Misfiled = Misfiled {
     signs: gaps::RIGHT,
     change_stretches: |_, _| (),
     change_records: |_, _| (),
+    change_alone: |_, _| (),
     change_gaps: |_, _| (),
     spoils: |_| false,
 };
@@ -108,6 +111,10 @@ impl Misfiled {
         (self.change_records)(&mut answer, file);
         (self.starts)(places, &starts);
         model::store(&answer, &mut [], values)
+    }
+
+    pub fn records_alone(&self, file: &[u8], places: &mut [u64], values: &mut [u64]) -> u32 {
+        Misfiled { change_records: self.change_alone, ..NONE }.records(file, places, &[], values)
     }
 
     pub fn gaps(&self, file: &[u8], work: &mut [u8], options: &[u64], values: &mut [u64]) -> u32 {
@@ -631,6 +638,23 @@ fn of_found() -> Vec<Fault> {
     all.into_iter().map(fault).collect()
 }
 
+/// In the call for records that takes no options.
+fn of_records_alone() -> Vec<Fault> {
+    let change = |change_alone| Misfiled { change_alone, ..NONE };
+    let all = vec![
+        ("one record more is counted", change(numbered!(0, answer, file, answer.values[0] += 1))),
+        ("the tail is the file's length", change(numbered!(0, answer, file, answer.values[1] = file.len() as u64))),
+        ("4 carries nothing", change(numbered!(4, answer, file, answer.values.clear()))),
+        (
+            "a pcap file is taken",
+            change(numbered!(3, answer, file, {
+                *answer = model::records_with(Container::Pcap, file, RIGHT).0;
+            })),
+        ),
+    ];
+    all.into_iter().map(|(label, planted)| (OTHERS, format!("records: {label}"), planted)).collect()
+}
+
 /// The signs by another definition of what a record shows.
 fn signs(pcap: InPcap) -> Misfiled {
     Misfiled { signs: gaps::Reading { pcap, ..gaps::RIGHT }, ..NONE }
@@ -765,5 +789,5 @@ fn of_signs() -> Vec<Fault> {
 
 /// The wrong calls.
 pub fn faults() -> Vec<Fault> {
-    [of_options(), of_stretches(), of_found(), of_signs()].concat()
+    [of_options(), of_stretches(), of_found(), of_records_alone(), of_signs()].concat()
 }

@@ -112,6 +112,10 @@ impl Subject for Model {
         number
     }
 
+    fn records(&self, file: &[u8], starts: &mut [u64], values: &mut [u64]) -> u32 {
+        self.records_with(file, starts, &[], values)
+    }
+
     fn records_with(&self, file: &[u8], starts: &mut [u64], options: &[u64], values: &mut [u64]) -> u32 {
         let (answer, found) = records_with(container(options), file, pcap::RIGHT);
         starts.iter_mut().zip(found).for_each(|(place, start)| *place = start);

@@ -172,6 +172,10 @@ impl Subject for Planted {
         self.boxed.import_stretches(self.reading, file, work, stretches, out, options, values)
     }
 
+    fn records(&self, file: &[u8], starts: &mut [u64], values: &mut [u64]) -> u32 {
+        self.boxed.records_alone(file, starts, values)
+    }
+
     fn records_with(&self, file: &[u8], starts: &mut [u64], options: &[u64], values: &mut [u64]) -> u32 {
         self.boxed.records(file, starts, options, values)
     }

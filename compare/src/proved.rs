@@ -75,6 +75,8 @@ call!("gaps", lumbryth_gaps(
 call!("pcap", lumbryth_import_stretches_with(
     file: *const u8, file_len: usize, work: *mut u8, work_len: usize, stretches: *mut Stretch, stretches_len: usize,
     out: *mut u8, out_len: usize, options: *const u64, options_len: usize, values: *mut u64, values_len: usize));
+call!("pcap", lumbryth_records(
+    file: *const u8, file_len: usize, starts: *mut u64, starts_len: usize, values: *mut u64, values_len: usize));
 call!("pcap", lumbryth_records_with(
     file: *const u8, file_len: usize, starts: *mut u64, starts_len: usize, options: *const u64, options_len: usize,
     values: *mut u64, values_len: usize));
@@ -283,6 +285,19 @@ impl Subject for Proved {
                 out.len(),
                 options.as_ptr(),
                 options.len(),
+                values.as_mut_ptr(),
+                values.len(),
+            )
+        }
+    }
+
+    fn records(&self, file: &[u8], starts: &mut [u64], values: &mut [u64]) -> u32 {
+        unsafe {
+            lumbryth_records(
+                file.as_ptr(),
+                file.len(),
+                starts.as_mut_ptr(),
+                starts.len(),
                 values.as_mut_ptr(),
                 values.len(),
             )
