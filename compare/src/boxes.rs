@@ -532,12 +532,12 @@ const LEAST: [(&str, usize, Least); 9] = [
 ];
 
 /// A file of so many bytes, full of such records; what is left over is a record that is skipped, or the beginning of one.
-/// The last whole record is of the worked example, where there is room for it.
-fn full(form: Form, length: usize, (_, size, record): (&str, usize, Least)) -> Vec<u8> {
+/// With `frame` the last whole record is of the worked example, where there is room for it.
+fn full(form: Form, length: usize, frame: bool, (_, size, record): (&str, usize, Least)) -> Vec<u8> {
     let mut trace = Trace::pcap(form);
-    let frame = example(2);
-    let last = ROW + 4 + frame.len();
-    let room = if length >= HEAD + last { length - last } else { length };
+    let packet = example(2);
+    let last = ROW + 4 + packet.len();
+    let room = if frame && length >= HEAD + last { length - last } else { length };
     for i in 0.. {
         if trace.file.len() + size > room {
             break;
@@ -545,7 +545,7 @@ fn full(form: Form, length: usize, (_, size, record): (&str, usize, Least)) -> V
         record(&mut trace, i);
     }
     if room < length {
-        trace.row(frame.len() as u32, 1, 0, EPOCH, &frame);
+        trace.row(packet.len() as u32, 1, 0, EPOCH, &packet);
     }
     match length - trace.file.len() {
         rest if rest < ROW => trace.file.extend(vec![0; rest]),
@@ -557,7 +557,7 @@ fn full(form: Form, length: usize, (_, size, record): (&str, usize, Least)) -> V
 /// The files of at most so many bytes that have the most rows of one table, for the bench: whole ones.
 pub fn fullest(length: usize) -> impl Iterator<Item = (&'static str, Vec<u8>)> {
     LEAST.into_iter().map(move |kind| {
-        let mut file = full(FORMS[0], length, kind);
+        let mut file = full(FORMS[0], length, true, kind);
         file.truncate(pcap::read(&file, pcap::RIGHT).1);
         (kind.0, file)
     })
@@ -567,7 +567,9 @@ pub fn fullest(length: usize) -> impl Iterator<Item = (&'static str, Vec<u8>)> {
 fn most(boxes: &mut Boxes, longest: usize) -> Checked {
     for (turn, kind) in LEAST.into_iter().enumerate() {
         for length in HEAD..=longest {
-            boxes.file(&full(FORMS[(length + turn) % 4], length, kind), NO_CHANNEL)?;
+            for frame in [false, true] {
+                boxes.file(&full(FORMS[(length + turn) % 4], length, frame, kind), NO_CHANNEL)?;
+            }
         }
     }
     Ok(())
@@ -575,8 +577,8 @@ fn most(boxes: &mut Boxes, longest: usize) -> Checked {
 
 fn large(boxes: &mut Boxes, rng: &mut Rng) -> Checked {
     for (turn, kind) in LEAST.into_iter().enumerate() {
-        for length in [LONGEST_FILE - 1 - turn, LONGEST_FILE] {
-            boxes.file(&full(FORMS[(length + turn) % 4], length, kind), NO_CHANNEL)?;
+        for (length, frame) in [(LONGEST_FILE - 1 - turn, true), (LONGEST_FILE, true), (LONGEST_FILE, false)] {
+            boxes.file(&full(FORMS[(length + turn) % 4], length, frame, kind), NO_CHANNEL)?;
         }
     }
     for length in [LONGEST_FILE - 1, LONGEST_FILE, LONGEST_FILE + 1] {
