@@ -96,7 +96,7 @@ pub trait Subject {
         true
     }
     /// Whether the calls that take a container are linked.
-    fn has_boxes(&self) -> bool {
+    fn takes_container(&self) -> bool {
         true
     }
 }

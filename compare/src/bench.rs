@@ -11,7 +11,7 @@ use std::hint::black_box;
 use std::path::Path;
 
 use crate::answer::{Answer, Case, Checked, Container, Difference, Lender, Subject, NO_CHANNEL};
-use crate::boxes;
+use crate::containers;
 use crate::expected::{self, LONGEST_FILE};
 use crate::gaps;
 use crate::hard::{self, Hard};
@@ -531,7 +531,7 @@ fn pcap(bench: &mut Bench) -> Checked {
         }
     }
     for &kib in &sizes {
-        for (label, file) in boxes::fullest(kib << 10) {
+        for (label, file) in containers::fullest(kib << 10) {
             pcap_row(bench, label, None, vec![file])?;
         }
     }

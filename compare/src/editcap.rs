@@ -42,7 +42,7 @@ fn converted(directory: &Path, file: &[u8], kind: &str) -> Result<Vec<u8>, Box<D
     let words = |error: std::io::Error| failed(kind, error.to_string());
     fs::write(&from, file).map_err(words)?;
     let output = editcap().args(["-F", kind]).args([&from, &to]).output().map_err(words)?;
-    if !output.status.success() || !output.stderr.is_empty() {
+    if !output.status.success() {
         let path = directory.join("refused");
         fs::copy(&from, &path).map_err(words)?;
         return Err(failed(kind, format!("{}: {}", path.display(), String::from_utf8_lossy(&output.stderr))));

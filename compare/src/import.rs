@@ -57,7 +57,7 @@ pub struct Import<'a> {
     rule: Rule,
     container: Container,
     /// Whether every call is by a list of options, which may have a container in it.
-    boxed: bool,
+    takes_container: bool,
     pub lender: Lender,
     files: usize,
     work: RefCell<Vec<u8>>,
@@ -80,7 +80,7 @@ impl<'a> Import<'a> {
             subject,
             rule,
             container: Container::Btsnoop,
-            boxed: false,
+            takes_container: false,
             lender: Lender::default(),
             files: 0,
             work: RefCell::default(),
@@ -89,8 +89,8 @@ impl<'a> Import<'a> {
     }
 
     /// Files of a container, by the calls that take one.
-    pub fn boxed(subject: &'a dyn Subject, rule: Rule, container: Container) -> Import<'a> {
-        Import { container, boxed: true, ..Import::new(subject, rule) }
+    pub fn by_container(subject: &'a dyn Subject, rule: Rule, container: Container) -> Import<'a> {
+        Import { container, takes_container: true, ..Import::new(subject, rule) }
     }
 
     fn case(&self, file: &[u8], channel: u32, work: usize, by: By) -> Case {
@@ -161,7 +161,7 @@ impl<'a> Import<'a> {
 
     /// The ways in which the call is told what to import.
     fn ways(&self) -> &'static [By] {
-        if self.boxed {
+        if self.takes_container {
             &[By::Options]
         } else if self.rule == Rule::Strict {
             &[By::Numbers]
@@ -218,7 +218,7 @@ impl<'a> Import<'a> {
                 self.unworked(lender, file, channel, &Answer::refused(2, &[]), self.files % (8 * file.len()), by)?;
             }
         }
-        if self.boxed || self.subject.has_stretches() {
+        if self.takes_container || self.subject.has_stretches() {
             self.with_stretches(lender, file, channel, expected, enough, fill)?;
         }
         Ok(())
@@ -257,7 +257,7 @@ impl<'a> Import<'a> {
         let needed = expected.written.len();
         let lent = if self.files.is_multiple_of(3) { needed.saturating_sub(1) } else { needed + self.files % 2 };
         let room = lender.room(expected);
-        let with = if self.boxed { By::OptionsPlaces } else { By::Places };
+        let with = if self.takes_container { By::OptionsPlaces } else { By::Places };
         let by = with(places);
         self.lend(enough, fill);
         self.lend_stretches(places);

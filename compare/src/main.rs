@@ -3,8 +3,8 @@
 mod adapters;
 mod answer;
 mod bench;
-mod boxes;
 mod codec;
+mod containers;
 mod deep;
 mod editcap;
 mod expected;
@@ -136,7 +136,7 @@ const GROUPS: [(&str, Group); 9] = [
     ("import", import::run),
     ("tolerant", tolerant::run),
     ("gaps", signs::run),
-    ("pcap", boxes::run),
+    ("pcap", containers::run),
     ("vectors", vectors::run),
 ];
 

@@ -7,7 +7,7 @@ use crate::misfiled::{self, Misfiled};
 use crate::misread::{self, Misread};
 use crate::mistaken::{self, RANDOM};
 use crate::model::{self, Reading, RIGHT};
-use crate::{boxes, import, signs, tolerant, Group, Options};
+use crate::{containers, import, signs, tolerant, Group, Options};
 
 /// The model with some of its calls replaced.
 #[derive(Clone, Copy)]
@@ -36,7 +36,7 @@ struct Planted {
     spoils_with: bool,
     gaps: Misread,
     /// The calls that take a container.
-    boxed: Misfiled,
+    misfiled: Misfiled,
 }
 
 fn read(file: &[u8], work: usize, channel: u32, tolerant: bool, reading: Reading) -> Answer {
@@ -67,7 +67,7 @@ const NONE: Planted = Planted {
     store_with: model::store,
     spoils_with: false,
     gaps: misread::NONE,
-    boxed: misfiled::NONE,
+    misfiled: misfiled::NONE,
 };
 
 fn by_options(file: &[u8], work: usize, (channel, tolerant): (u32, bool)) -> Answer {
@@ -156,7 +156,7 @@ impl Subject for Planted {
         if self.spoils_with && !work.is_empty() {
             work[work.len() / 2] ^= 0xFF;
         }
-        let options = &(self.boxed.options)(file, options)[..];
+        let options = &(self.misfiled.options)(file, options)[..];
         (self.store_with)(&(self.import_with)(self.reading, file, work.len(), options), out, values)
     }
 
@@ -169,19 +169,19 @@ impl Subject for Planted {
         options: &[u64],
         values: &mut [u64],
     ) -> u32 {
-        self.boxed.import_stretches(self.reading, file, work, stretches, out, options, values)
+        self.misfiled.import_stretches(self.reading, file, work, stretches, out, options, values)
     }
 
     fn records(&self, file: &[u8], starts: &mut [u64], values: &mut [u64]) -> u32 {
-        self.boxed.records_alone(file, starts, values)
+        self.misfiled.records_alone(file, starts, values)
     }
 
     fn records_with(&self, file: &[u8], starts: &mut [u64], options: &[u64], values: &mut [u64]) -> u32 {
-        self.boxed.records(file, starts, options, values)
+        self.misfiled.records(file, starts, options, values)
     }
 
     fn gaps_with(&self, file: &[u8], work: &mut [u8], options: &[u64], values: &mut [u64]) -> u32 {
-        self.boxed.gaps(file, work, options, values)
+        self.misfiled.gaps(file, work, options, values)
     }
 
     fn gaps(&self, file: &[u8], work: &mut [u8], tolerant: u32, values: &mut [u64]) -> u32 {
@@ -225,17 +225,17 @@ const PARTS: [(&str, Group); 27] = [
     (misread::FOUR, signs::run_fragments),
     (misread::LONG, signs::run_long),
     (misread::LAW, signs::run_law),
-    (misfiled::BY_HAND, boxes::run_by_hand),
-    (misfiled::RANDOM, boxes::run_random),
-    (misfiled::DAMAGED, boxes::run_damaged),
-    (misfiled::HONEST, boxes::run_honest),
-    (misfiled::SHORT, boxes::run_short),
-    (misfiled::MOST, boxes::run_most),
-    (misfiled::LONG, boxes::run_long),
-    (misfiled::LOSSES, boxes::run_losses),
-    (misfiled::TWINS, boxes::run_twins),
-    (misfiled::LAW, boxes::run_law),
-    (misfiled::OTHERS, boxes::run_others),
+    (misfiled::BY_HAND, containers::run_by_hand),
+    (misfiled::RANDOM, containers::run_random),
+    (misfiled::DAMAGED, containers::run_damaged),
+    (misfiled::HONEST, containers::run_honest),
+    (misfiled::SHORT, containers::run_short),
+    (misfiled::MOST, containers::run_most),
+    (misfiled::LONG, containers::run_long),
+    (misfiled::LOSSES, containers::run_losses),
+    (misfiled::TWINS, containers::run_twins),
+    (misfiled::LAW, containers::run_law),
+    (misfiled::OTHERS, containers::run_others),
 ];
 
 const EXCESS: Planted = Planted { reading: Reading { excess_dropped: false, ..RIGHT }, ..NONE };
@@ -1009,27 +1009,27 @@ fn faults_of_pcap() -> Vec<(&'static str, &'static str, Planted)> {
                 }
             }),
         ),
-        (HAND, "pcap: 21 is told as 3", calls(|r, f, w, o| boxed(r, f, w, o, 21, |a, _| a.number = 3))),
-        (HAND, "pcap: 22 is told as 4", calls(|r, f, w, o| boxed(r, f, w, o, 22, |a, _| a.number = 4))),
-        (HAND, "pcap: 22 carries nothing", calls(|r, f, w, o| boxed(r, f, w, o, 22, |a, _| a.values.clear()))),
-        (HAND, "pcap: 21 carries a number", calls(|r, f, w, o| boxed(r, f, w, o, 21, |a, _| a.values.push(0)))),
-        (HAND, "pcap: 5 carries nothing", calls(|r, f, w, o| boxed(r, f, w, o, 5, |a, _| a.values.clear()))),
+        (HAND, "pcap: 21 is told as 3", calls(|r, f, w, o| of_pcap(r, f, w, o, 21, |a, _| a.number = 3))),
+        (HAND, "pcap: 22 is told as 4", calls(|r, f, w, o| of_pcap(r, f, w, o, 22, |a, _| a.number = 4))),
+        (HAND, "pcap: 22 carries nothing", calls(|r, f, w, o| of_pcap(r, f, w, o, 22, |a, _| a.values.clear()))),
+        (HAND, "pcap: 21 carries a number", calls(|r, f, w, o| of_pcap(r, f, w, o, 21, |a, _| a.values.push(0)))),
+        (HAND, "pcap: 5 carries nothing", calls(|r, f, w, o| of_pcap(r, f, w, o, 5, |a, _| a.values.clear()))),
         (
             HAND,
             "pcap: 5 carries the file's length",
-            calls(|r, f, w, o| boxed(r, f, w, o, 5, |a, f| a.values[0] = f.len() as u64)),
+            calls(|r, f, w, o| of_pcap(r, f, w, o, 5, |a, f| a.values[0] = f.len() as u64)),
         ),
         (
             misfiled::HONEST,
             "pcap: the tail offset is the file's length",
-            calls(|r, f, w, o| boxed(r, f, w, o, 0, |a, f| a.values[3] = f.len() as u64)),
+            calls(|r, f, w, o| of_pcap(r, f, w, o, 0, |a, f| a.values[3] = f.len() as u64)),
         ),
         (
             misfiled::HONEST,
             "pcap: unfinished is invented",
-            calls(|r, f, w, o| boxed(r, f, w, o, 0, |a, _| a.values[2] = 0)),
+            calls(|r, f, w, o| of_pcap(r, f, w, o, 0, |a, _| a.values[2] = 0)),
         ),
-        (HAND, "pcap: 6 is told as 5", calls(|r, f, w, o| boxed(r, f, w, o, 6, |a, _| a.number = 5))),
+        (HAND, "pcap: 6 is told as 5", calls(|r, f, w, o| of_pcap(r, f, w, o, 6, |a, _| a.number = 5))),
         (
             misfiled::RANDOM,
             "pcap: the channel is not looked at",
@@ -1063,7 +1063,7 @@ fn faults_of_pcap() -> Vec<(&'static str, &'static str, Planted)> {
 }
 
 /// The answer of the call with options, changed if it has this number.
-fn boxed(
+fn of_pcap(
     reading: Reading,
     file: &[u8],
     work: usize,
@@ -1113,7 +1113,7 @@ fn all() -> Vec<(&'static str, String, Planted)> {
     let importers = misfiled::importers().into_iter();
     all.extend(importers.map(|(group, label, reading)| (group, label, Planted { reading, ..NONE })));
     let misfiled = misfiled::faults().into_iter();
-    all.extend(misfiled.map(|(group, label, boxed)| (group, label, Planted { boxed, ..NONE })));
+    all.extend(misfiled.map(|(group, label, misfiled)| (group, label, Planted { misfiled, ..NONE })));
     all
 }
 

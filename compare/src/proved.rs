@@ -338,7 +338,7 @@ impl Subject for Proved {
         has("stretches")
     }
 
-    fn has_boxes(&self) -> bool {
+    fn takes_container(&self) -> bool {
         has("pcap")
     }
 }

@@ -54,7 +54,7 @@ pub struct Gaps<'a> {
     subject: &'a dyn Subject,
     container: Container,
     /// Whether the call is by a list of options, which may have a container in it.
-    boxed: bool,
+    takes_container: bool,
     lender: Lender,
     files: usize,
     /// What work is filled with, from another place each time.
@@ -72,12 +72,12 @@ impl<'a> Gaps<'a> {
     pub fn new(subject: &'a dyn Subject) -> Gaps<'a> {
         let noise = Rng::new(1).bytes(8 * (LONGEST_FILE + 1) + 64 + 2 * GUARD + 8 + TURNS);
         let (lender, work, tally) = (Lender::default(), Vec::new(), Tally::default());
-        Gaps { subject, container: Container::Btsnoop, boxed: false, lender, files: 0, noise, work, tally }
+        Gaps { subject, container: Container::Btsnoop, takes_container: false, lender, files: 0, noise, work, tally }
     }
 
     /// Files of a container, by the call that takes one.
-    pub fn boxed(subject: &'a dyn Subject, container: Container) -> Gaps<'a> {
-        Gaps { container, boxed: true, ..Gaps::new(subject) }
+    pub fn by_container(subject: &'a dyn Subject, container: Container) -> Gaps<'a> {
+        Gaps { container, takes_container: true, ..Gaps::new(subject) }
     }
 
     /// How many calls were to be answered with each number.
@@ -155,13 +155,13 @@ impl<'a> Gaps<'a> {
         self.work.extend(noise);
         let options = self.options(tolerant);
         let work = &mut self.work[front..front + lent];
-        let asked = match self.boxed {
+        let asked = match self.takes_container {
             true => format!("gaps_with, options {options:?}"),
             false => format!("gaps, tolerant {tolerant}"),
         };
         let case = || Case { call: format!("{asked}, {lent} bytes of work"), inputs: vec![("file", file.to_vec())] };
         let room = room(self.lender.answers.iter().sum());
-        let mut call = |_: &mut [u8], values: &mut [u64]| match self.boxed {
+        let mut call = |_: &mut [u8], values: &mut [u64]| match self.takes_container {
             true => self.subject.gaps_with(file, work, &options, values),
             false => self.subject.gaps(file, work, tolerant, values),
         };

@@ -180,7 +180,7 @@ impl Vectors<'_> {
     /// Where a case of import tells how many records the file has, or a refusal that does not ask for work, the records are
     /// held to it, whatever else the case asks for.
     fn records(&mut self, line: &Line) -> Checked {
-        if line.call != "import" || !self.subject.has_boxes() {
+        if line.call != "import" || !self.subject.takes_container() {
             return Ok(());
         }
         let words: Vec<&str> = line.answer.split(' ').collect();
@@ -251,9 +251,9 @@ fn unusable(expected: &str, got: String) -> Box<Difference> {
 pub fn run(subject: &dyn Subject, options: &Options) -> Checked {
     let mut imports: Vec<Import> =
         [Rule::Strict, Rule::NotTolerant, Rule::Tolerant].map(|rule| Import::new(subject, rule)).into();
-    if subject.has_boxes() {
+    if subject.takes_container() {
         for container in [Container::Btsnoop, Container::Pcap] {
-            imports.extend([Rule::Strict, Rule::Tolerant].map(|rule| Import::boxed(subject, rule, container)));
+            imports.extend([Rule::Strict, Rule::Tolerant].map(|rule| Import::by_container(subject, rule, container)));
         }
     }
     let mut vectors = Vectors { subject, imports, tally: Tally::default() };

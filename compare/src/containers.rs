@@ -104,7 +104,7 @@ impl<'a> Records<'a> {
 }
 
 /// The calls that take a container.
-pub struct Boxes<'a> {
+pub struct ByContainer<'a> {
     container: Container,
     /// Strict and tolerant.
     imports: [Import<'a>; 2],
@@ -112,13 +112,13 @@ pub struct Boxes<'a> {
     gaps: Gaps<'a>,
 }
 
-impl<'a> Boxes<'a> {
-    pub fn new(subject: &'a dyn Subject, container: Container) -> Boxes<'a> {
-        Boxes {
+impl<'a> ByContainer<'a> {
+    pub fn new(subject: &'a dyn Subject, container: Container) -> ByContainer<'a> {
+        ByContainer {
             container,
-            imports: [Rule::Strict, Rule::Tolerant].map(|rule| Import::boxed(subject, rule, container)),
+            imports: [Rule::Strict, Rule::Tolerant].map(|rule| Import::by_container(subject, rule, container)),
             records: Records::new(subject, container),
-            gaps: Gaps::boxed(subject, container),
+            gaps: Gaps::by_container(subject, container),
         }
     }
 
@@ -148,7 +148,7 @@ impl<'a> Boxes<'a> {
     }
 }
 
-impl Taker for Boxes<'_> {
+impl Taker for ByContainer<'_> {
     fn file(&mut self, file: &[u8], channel: u32) -> Checked {
         import::smallest(self.container, file, &mut |file| self.once(file, channel))
     }
@@ -156,20 +156,20 @@ impl Taker for Boxes<'_> {
 
 /// Takes btsnoop files of one adapter and hands them on as pcap, in each form in turn.
 struct Converted<'b, 'a> {
-    boxes: &'b mut Boxes<'a>,
+    calls: &'b mut ByContainer<'a>,
     turn: usize,
 }
 
 impl Taker for Converted<'_, '_> {
     fn file(&mut self, file: &[u8], channel: u32) -> Checked {
         self.turn += 1;
-        self.boxes.file(&pcap::of_btsnoop(file, FORMS[self.turn % 4]), channel)
+        self.calls.file(&pcap::of_btsnoop(file, FORMS[self.turn % 4]), channel)
     }
 }
 
 // ---- fixed files, with answers that are known from the making
 
-/// The H4 packet of 01's worked example, with another type.
+/// The H4 packet of 01's worked example, with this type.
 fn example(kind: u8) -> Vec<u8> {
     [&[kind], &acl_packet(0x40, 2, &l2cap(0x41, &trace::uih(18, &ack(0), None, false)))[..]].concat()
 }
@@ -371,14 +371,14 @@ fn cuts(form: Form) -> Vec<Fixed> {
 }
 
 /// All of them, in each form. The oracle says the same of each.
-fn by_hand(boxes: &mut Boxes) -> Checked {
+fn by_hand(calls: &mut ByContainer) -> Checked {
     for form in FORMS {
         for part in [directions, links, headers, times, records, cuts] {
             for (file, strict, tolerant) in part(form) {
                 let known = [&strict, &tolerant];
                 let found = expected::import_pcap(&file, NO_CHANNEL).both();
                 assert!(found.iter().eq(known), "a fixed file has its answer: {file:02X?}");
-                boxes.held(&file, NO_CHANNEL, &strict, &tolerant)?;
+                calls.held(&file, NO_CHANNEL, &strict, &tolerant)?;
             }
         }
     }
@@ -402,7 +402,7 @@ fn small(form: Form) -> Trace {
 }
 
 /// Headers and what little may follow them, and every beginning of good files.
-fn short(boxes: &mut Boxes, rng: &mut Rng) -> Checked {
+fn short(calls: &mut ByContainer, rng: &mut Rng) -> Checked {
     for form in FORMS {
         let bare = Trace::pcap(form).file;
         let example = Hand::new(form).sent(1, 0, 0).file;
@@ -411,52 +411,52 @@ fn short(boxes: &mut Boxes, rng: &mut Rng) -> Checked {
                 for good in [&bare, &example] {
                     let mut file = good.clone();
                     file[at] = byte;
-                    boxes.file(&file, NO_CHANNEL)?;
+                    calls.file(&file, NO_CHANNEL)?;
                 }
             }
         }
         for byte in 0..=255 {
-            boxes.file(&[&bare[..], &[byte]].concat(), NO_CHANNEL)?;
+            calls.file(&[&bare[..], &[byte]].concat(), NO_CHANNEL)?;
         }
         for n in 2..=3 {
             each_string(n, &[0x00, 0x01, 0x10, 0x80, 0xC9, 0xFF], &mut |tail| {
-                boxes.file(&[&bare[..], tail].concat(), NO_CHANNEL)
+                calls.file(&[&bare[..], tail].concat(), NO_CHANNEL)
             })?;
         }
         // A record whose captured length is anything about what is there.
         for there in 0..=30usize {
             for captured in (0..=32u32).chain([255, 256, 65_536, 1 << 24, 1 << 31, u32::MAX, u32::MAX - 15]) {
                 let fields = [1, 2, captured, 4].map(|number| form.bytes(number)).concat();
-                boxes.file(&[&bare[..], &fields, &vec![0; there]].concat(), NO_CHANNEL)?;
+                calls.file(&[&bare[..], &fields, &vec![0; there]].concat(), NO_CHANNEL)?;
             }
         }
         let good = small(form).file;
         for n in 0..=good.len() {
-            boxes.file(&good[..n], NO_CHANNEL)?;
+            calls.file(&good[..n], NO_CHANNEL)?;
         }
     }
     // Every four bytes out of those of the magics and of others'.
     let link = Form { big: true, nano: false }.bytes(LINK);
     each_string(4, &[0xA1, 0xB2, 0xC3, 0xD4, 0x3C, 0x4D, 0xCD, 0x34], &mut |magic| {
-        boxes.file(&[magic, &[0; 16], &link].concat(), NO_CHANNEL)
+        calls.file(&[magic, &[0; 16], &link].concat(), NO_CHANNEL)
     })?;
     for _ in 0..10 {
         let (trace, channel) = trace::structured_in(rng, Container::Pcap, 20);
         for n in 0..=trace.file.len().min(3000) {
-            boxes.file(&trace.file[..n], channel)?;
+            calls.file(&trace.file[..n], channel)?;
         }
     }
     Ok(())
 }
 
 /// Every change of one byte in small files.
-fn one_byte(boxes: &mut Boxes) -> Checked {
+fn one_byte(calls: &mut ByContainer) -> Checked {
     for good in FORMS.map(|form| small(form).file) {
         for at in HEAD..good.len() {
             for byte in 0..=255 {
                 let mut file = good.clone();
                 file[at] = byte;
-                boxes.file(&file, NO_CHANNEL)?;
+                calls.file(&file, NO_CHANNEL)?;
             }
         }
     }
@@ -465,7 +465,7 @@ fn one_byte(boxes: &mut Boxes) -> Checked {
 
 /// Every packet of up to six bytes over the bytes that matter, direction and type included, between the fragments of a PDU;
 /// then those with a direction and up to six bytes behind it.
-fn packets(boxes: &mut Boxes) -> Checked {
+fn packets(calls: &mut ByContainer) -> Checked {
     let pdu = l2cap(0x41, &trace::uih(18, &ack(1), None, false));
     let mut turn = 0;
     let mut between = |bytes: &[u8]| {
@@ -474,7 +474,7 @@ fn packets(boxes: &mut Boxes) -> Checked {
         trace.fragment(Rx, EPOCH, 0x40, 2, &pdu[..9]);
         trace.captured(bytes.len() as u32, EPOCH + 1_000_000, bytes);
         trace.fragment(Rx, EPOCH + 2_000_000, 0x40, 1, &pdu[9..]);
-        boxes.file(&trace.file, NO_CHANNEL)
+        calls.file(&trace.file, NO_CHANNEL)
     };
     for n in 0..=6 {
         each_string(n, &[0x00, 0x01, 0x02], &mut between)?;
@@ -490,8 +490,8 @@ fn packets(boxes: &mut Boxes) -> Checked {
 }
 
 /// The traces of the bench of import, of so many KiB.
-fn hard_traces(boxes: &mut Boxes, sizes: &[usize]) -> Checked {
-    let mut converted = Converted { boxes, turn: 0 };
+fn hard_traces(calls: &mut ByContainer, sizes: &[usize]) -> Checked {
+    let mut converted = Converted { calls, turn: 0 };
     for trace in hard::traces() {
         for kib in trace.sizes(Some(sizes)) {
             trace.file(kib).map_or(Ok(()), |file| converted.file(&file, NO_CHANNEL))?;
@@ -564,56 +564,56 @@ pub fn fullest(length: usize) -> impl Iterator<Item = (&'static str, Vec<u8>)> {
 }
 
 /// Files of every short length, and of the longest, that have the most rows of one table.
-fn most(boxes: &mut Boxes, longest: usize) -> Checked {
+fn most(calls: &mut ByContainer, longest: usize) -> Checked {
     for (turn, kind) in LEAST.into_iter().enumerate() {
         for length in HEAD..=longest {
             for frame in [false, true] {
-                boxes.file(&full(FORMS[(length + turn) % 4], length, frame, kind), NO_CHANNEL)?;
+                calls.file(&full(FORMS[(length + turn) % 4], length, frame, kind), NO_CHANNEL)?;
             }
         }
     }
     Ok(())
 }
 
-fn large(boxes: &mut Boxes, rng: &mut Rng) -> Checked {
+fn large(calls: &mut ByContainer, rng: &mut Rng) -> Checked {
     for (turn, kind) in LEAST.into_iter().enumerate() {
         for (length, frame) in [(LONGEST_FILE - 1 - turn, true), (LONGEST_FILE, true), (LONGEST_FILE, false)] {
-            boxes.file(&full(FORMS[(length + turn) % 4], length, frame, kind), NO_CHANNEL)?;
+            calls.file(&full(FORMS[(length + turn) % 4], length, frame, kind), NO_CHANNEL)?;
         }
     }
     for length in [LONGEST_FILE - 1, LONGEST_FILE, LONGEST_FILE + 1] {
         let (mut trace, channel) = trace::structured_in(rng, Container::Pcap, 2000);
         let rest = length - ROW - trace.file.len();
         trace.captured(0, EPOCH, &vec![0xFF; rest]);
-        boxes.file(&trace.file, channel)?;
-        boxes.file(&vec![0; length], NO_CHANNEL)?;
+        calls.file(&trace.file, channel)?;
+        calls.file(&vec![0; length], NO_CHANNEL)?;
     }
     // Of zeros alone behind the header, one byte too long.
-    boxes.file(&[&Trace::pcap(FORMS[0]).file[..], &vec![0; LONGEST_FILE + 1 - HEAD]].concat(), NO_CHANNEL)
+    calls.file(&[&Trace::pcap(FORMS[0]).file[..], &vec![0; LONGEST_FILE + 1 - HEAD]].concat(), NO_CHANNEL)
 }
 
 // ---- random files
 
-fn random(boxes: &mut Boxes, rng: &mut Rng, size: u64) -> Checked {
+fn random(calls: &mut ByContainer, rng: &mut Rng, size: u64) -> Checked {
     for i in 0..size {
-        let (trace, channel) = trace::structured_in(rng, boxes.container, if i % 100 == 0 { 600 } else { 60 });
-        boxes.file(&trace.file, channel)?;
+        let (trace, channel) = trace::structured_in(rng, calls.container, if i % 100 == 0 { 600 } else { 60 });
+        calls.file(&trace.file, channel)?;
     }
     Ok(())
 }
 
-fn damaged(boxes: &mut Boxes, rng: &mut Rng, size: u64) -> Checked {
+fn damaged(calls: &mut ByContainer, rng: &mut Rng, size: u64) -> Checked {
     for _ in 0..size / 4 {
-        let (trace, channel) = trace::structured_in(rng, boxes.container, 30);
+        let (trace, channel) = trace::structured_in(rng, calls.container, 30);
         for _ in 0..4 {
-            boxes.file(&trace::damaged(rng, &trace), channel)?;
+            calls.file(&trace::damaged(rng, &trace), channel)?;
         }
     }
     Ok(())
 }
 
 /// A good header, or nearly, and then bytes that are mostly small.
-fn scattered(boxes: &mut Boxes, rng: &mut Rng, size: u64) -> Checked {
+fn scattered(calls: &mut ByContainer, rng: &mut Rng, size: u64) -> Checked {
     for i in 0..size {
         let mut file = Trace::any(rng, Container::Pcap).file;
         if i % 8 == 0 {
@@ -623,22 +623,22 @@ fn scattered(boxes: &mut Boxes, rng: &mut Rng, size: u64) -> Checked {
         let n = rng.below(200);
         let percent = rng.pick(&[70, 90, 98]);
         file.extend(rng.mixed(n, &[0, 0, 0, 0, 0, 1, 2], percent));
-        boxes.file(&file, NO_CHANNEL)?;
+        calls.file(&file, NO_CHANNEL)?;
         if i % 16 == 0 {
             let n = rng.below(60);
-            boxes.file(&rng.bytes(n), NO_CHANNEL)?;
+            calls.file(&rng.bytes(n), NO_CHANNEL)?;
         }
     }
     Ok(())
 }
 
 /// Every cut of honest recordings, held to what is left: by the strict rule too, where that does not refuse.
-fn honest(boxes: &mut Boxes, rng: &mut Rng, size: u64) -> Checked {
-    tolerant::each_cut(rng, boxes.container, size, &mut |recording, n| {
+fn honest(calls: &mut ByContainer, rng: &mut Rng, size: u64) -> Checked {
+    tolerant::each_cut(rng, calls.container, size, &mut |recording, n| {
         let left = recording.left(n);
         let tail = recording.ends.iter().copied().take_while(|end| *end <= n).last().unwrap_or(recording.head);
         let strict = if tail < n { Answer::refused(5, &[tail as u64]) } else { left.clone() };
-        boxes.held(&recording.file[..n], recording.channel(), &strict, &left)
+        calls.held(&recording.file[..n], recording.channel(), &strict, &left)
     })
 }
 
@@ -713,44 +713,44 @@ pub fn run(subject: &dyn Subject, options: &Options) -> Checked {
     let size = options.size.unwrap_or(50_000);
     let mut rng = Rng::new(options.seed);
     let mut log = options.log("pcap");
-    let mut boxes = Boxes::new(subject, Container::Pcap);
-    by_hand(&mut boxes)?;
-    log.counts("fixed files", &boxes.answers());
-    random(&mut boxes, &mut rng, size / 5)?;
-    log.counts("random traces", &boxes.answers());
-    damaged(&mut boxes, &mut rng, size / 5)?;
-    scattered(&mut boxes, &mut rng, size / 5)?;
-    log.counts("damaged traces and random bytes", &boxes.answers());
-    honest(&mut boxes, &mut rng, size / 500)?;
-    log.counts("every cut of honest recordings", &boxes.answers());
-    short(&mut boxes, &mut rng)?;
-    log.counts("short files, headers, and every beginning of good ones", &boxes.answers());
-    one_byte(&mut boxes)?;
-    log.counts("every one-byte change of small files", &boxes.answers());
-    packets(&mut boxes)?;
-    log.counts("every short packet", &boxes.answers());
-    let mut converted = Converted { boxes: &mut boxes, turn: 0 };
+    let mut calls = ByContainer::new(subject, Container::Pcap);
+    by_hand(&mut calls)?;
+    log.counts("fixed files", &calls.answers());
+    random(&mut calls, &mut rng, size / 5)?;
+    log.counts("random traces", &calls.answers());
+    damaged(&mut calls, &mut rng, size / 5)?;
+    scattered(&mut calls, &mut rng, size / 5)?;
+    log.counts("damaged traces and random bytes", &calls.answers());
+    honest(&mut calls, &mut rng, size / 500)?;
+    log.counts("every cut of honest recordings", &calls.answers());
+    short(&mut calls, &mut rng)?;
+    log.counts("short files, headers, and every beginning of good ones", &calls.answers());
+    one_byte(&mut calls)?;
+    log.counts("every one-byte change of small files", &calls.answers());
+    packets(&mut calls)?;
+    log.counts("every short packet", &calls.answers());
+    let mut converted = Converted { calls: &mut calls, turn: 0 };
     import::fragments(&mut converted)?;
     import::excess(&mut converted)?;
     import::limits(&mut |file| converted.file(file, NO_CHANNEL), &mut rng)?;
-    log.counts("every four fragments, three of two PDUs, and long buffers", &boxes.answers());
-    hard_traces(&mut boxes, if options.quiet { &[16] } else { &[16, 128, 1024] })?;
-    log.counts("the traces of the bench of import", &boxes.answers());
-    most(&mut boxes, if options.quiet { 300 } else { 1000 })?;
-    large(&mut boxes, &mut rng)?;
-    log.counts("files full of the smallest records, up to 1,048,576 bytes", &boxes.answers());
-    let mut gaps = Gaps::boxed(subject, Container::Pcap);
+    log.counts("every four fragments, three of two PDUs, and long buffers", &calls.answers());
+    hard_traces(&mut calls, if options.quiet { &[16] } else { &[16, 128, 1024] })?;
+    log.counts("the traces of the bench of import", &calls.answers());
+    most(&mut calls, if options.quiet { 300 } else { 1000 })?;
+    large(&mut calls, &mut rng)?;
+    log.counts("files full of the smallest records, up to 1,048,576 bytes", &calls.answers());
+    let mut gaps = Gaps::by_container(subject, Container::Pcap);
     losses(&mut gaps, &mut rng, size / 2)?;
-    let mut answers = boxes.answers();
+    let mut answers = calls.answers();
     add(&mut answers, gaps.answers());
     log.counts("signs", &answers);
-    let mut btsnoop = Boxes::new(subject, Container::Btsnoop);
+    let mut btsnoop = ByContainer::new(subject, Container::Btsnoop);
     others(&mut btsnoop, &mut rng, size / 10)?;
     add(&mut answers, &btsnoop.answers());
     log.counts("btsnoop files by the calls that take a container", &answers);
     log.total(&answers);
     if !options.quiet {
-        boxes.gaps.print("pcap");
+        calls.gaps.print("pcap");
         gaps.print("pcap, signs alone");
     }
     signs::law(subject, Container::Pcap, &mut rng, size / 10)?;
@@ -767,65 +767,65 @@ fn add(answers: &mut [u64; NUMBERS], more: &[u64; NUMBERS]) {
 }
 
 /// btsnoop files, and pcap files that are asked for as btsnoop.
-fn others(boxes: &mut Boxes, rng: &mut Rng, size: u64) -> Checked {
+fn others(calls: &mut ByContainer, rng: &mut Rng, size: u64) -> Checked {
     for form in FORMS {
         let file = Hand::new(form).sent(1, 0, 0).file;
-        boxes.held(&file, NO_CHANNEL, &Answer::refused(3, &[]), &Answer::refused(3, &[]))?;
+        calls.held(&file, NO_CHANNEL, &Answer::refused(3, &[]), &Answer::refused(3, &[]))?;
         for n in 0..=HEAD {
-            boxes.file(&file[..n], NO_CHANNEL)?;
+            calls.file(&file[..n], NO_CHANNEL)?;
         }
     }
     let example = import::example().file;
     for n in 0..=example.len() {
-        boxes.file(&example[..n], NO_CHANNEL)?;
+        calls.file(&example[..n], NO_CHANNEL)?;
     }
     for datalink in [1001, 1002, 2001, 0, 1003, u32::MAX] {
-        boxes.file(&Trace::new(datalink).file, NO_CHANNEL)?;
+        calls.file(&Trace::new(datalink).file, NO_CHANNEL)?;
     }
     for _ in 0..size {
         let trace = lacking::made(rng, Container::Btsnoop, 20);
-        boxes.file(&lacking::ended(rng, &trace), NO_CHANNEL)?;
+        calls.file(&lacking::ended(rng, &trace), NO_CHANNEL)?;
     }
-    random(boxes, rng, size)?;
-    damaged(boxes, rng, size)
+    random(calls, rng, size)?;
+    damaged(calls, rng, size)
 }
 
 /// One part alone; in a short run more of what is random.
 pub fn run_by_hand(subject: &dyn Subject, _: &Options) -> Checked {
-    by_hand(&mut Boxes::new(subject, Container::Pcap))
+    by_hand(&mut ByContainer::new(subject, Container::Pcap))
 }
 
 pub fn run_random(subject: &dyn Subject, options: &Options) -> Checked {
-    let mut boxes = Boxes::new(subject, Container::Pcap);
-    random(&mut boxes, &mut Rng::new(options.seed), options.size.unwrap_or(50_000).max(1_000))
+    let mut calls = ByContainer::new(subject, Container::Pcap);
+    random(&mut calls, &mut Rng::new(options.seed), options.size.unwrap_or(50_000).max(1_000))
 }
 
 pub fn run_damaged(subject: &dyn Subject, options: &Options) -> Checked {
-    let (mut boxes, mut rng) = (Boxes::new(subject, Container::Pcap), Rng::new(options.seed));
+    let (mut calls, mut rng) = (ByContainer::new(subject, Container::Pcap), Rng::new(options.seed));
     let size = options.size.unwrap_or(50_000).max(1_000);
-    damaged(&mut boxes, &mut rng, size)?;
-    scattered(&mut boxes, &mut rng, size)
+    damaged(&mut calls, &mut rng, size)?;
+    scattered(&mut calls, &mut rng, size)
 }
 
 pub fn run_honest(subject: &dyn Subject, options: &Options) -> Checked {
-    let mut boxes = Boxes::new(subject, Container::Pcap);
-    honest(&mut boxes, &mut Rng::new(options.seed), options.size.unwrap_or(50_000) / 500 + 30)
+    let mut calls = ByContainer::new(subject, Container::Pcap);
+    honest(&mut calls, &mut Rng::new(options.seed), options.size.unwrap_or(50_000) / 500 + 30)
 }
 
 pub fn run_short(subject: &dyn Subject, options: &Options) -> Checked {
-    short(&mut Boxes::new(subject, Container::Pcap), &mut Rng::new(options.seed))
+    short(&mut ByContainer::new(subject, Container::Pcap), &mut Rng::new(options.seed))
 }
 
 pub fn run_most(subject: &dyn Subject, _: &Options) -> Checked {
-    most(&mut Boxes::new(subject, Container::Pcap), 300)
+    most(&mut ByContainer::new(subject, Container::Pcap), 300)
 }
 
 pub fn run_long(subject: &dyn Subject, options: &Options) -> Checked {
-    large(&mut Boxes::new(subject, Container::Pcap), &mut Rng::new(options.seed))
+    large(&mut ByContainer::new(subject, Container::Pcap), &mut Rng::new(options.seed))
 }
 
 pub fn run_losses(subject: &dyn Subject, options: &Options) -> Checked {
-    let mut gaps = Gaps::boxed(subject, Container::Pcap);
+    let mut gaps = Gaps::by_container(subject, Container::Pcap);
     losses(&mut gaps, &mut Rng::new(options.seed), options.size.unwrap_or(50_000))
 }
 
@@ -838,6 +838,6 @@ pub fn run_law(subject: &dyn Subject, options: &Options) -> Checked {
 }
 
 pub fn run_others(subject: &dyn Subject, options: &Options) -> Checked {
-    let mut boxes = Boxes::new(subject, Container::Btsnoop);
-    others(&mut boxes, &mut Rng::new(options.seed), options.size.unwrap_or(50_000) / 10)
+    let mut calls = ByContainer::new(subject, Container::Btsnoop);
+    others(&mut calls, &mut Rng::new(options.seed), options.size.unwrap_or(50_000) / 10)
 }
