@@ -3,7 +3,7 @@
 use std::env;
 use std::path::PathBuf;
 
-const GROUPS: [&str; 8] = ["CODEC", "NAMES", "PLAN", "ORDER", "IMPORT", "TOLERANT", "STRETCHES", "GAPS"];
+const GROUPS: [&str; 9] = ["CODEC", "NAMES", "PLAN", "ORDER", "IMPORT", "TOLERANT", "STRETCHES", "GAPS", "PCAP"];
 
 fn main() {
     println!("cargo:rerun-if-env-changed=LUMBRYTH_LIB_DIR");

@@ -15,11 +15,13 @@ enum { FILE_MOST = 1 << 20, OUT = 1 << 24, STACK = 1 << 20, FILL = 0xA5 };
 static uint8_t *file, *work, *spans, *plan, *names;
 static size_t file_len, spans_len, names_len;
 static uint64_t values[LUMBRYTH_GAPS];
+/* Any channel, tolerant, and what the file is. */
+static uint64_t options[3] = {256, 1, 0};
 
 static void import_trace(void) {
-    if (lumbryth_import(file, file_len, work, 8 * file_len, spans, OUT, 256, 1, values, 5) == 0) spans_len = values[4];
+    if (lumbryth_import_with(file, file_len, work, 8 * file_len, spans, OUT, options, 3, values, 5) == 0) spans_len = values[4];
 }
-static void find_gaps(void) { lumbryth_gaps(file, file_len, work, 8 * file_len, 1, values, LUMBRYTH_GAPS); }
+static void find_gaps(void) { lumbryth_gaps_with(file, file_len, work, 8 * file_len, options, 3, values, LUMBRYTH_GAPS); }
 static void make_plan(void) { lumbryth_plan(spans, spans_len, spans, 0, plan, OUT, values, 5); }
 static void order_names(void) { lumbryth_capture_order(names, names_len, plan, OUT, values, 5); }
 static void pack_frame(void) { lumbryth_pack(12, 1, file, file_len < 32760 ? file_len : 32760, plan, OUT, values, 5); }
@@ -71,6 +73,7 @@ int main(int count, char **args) {
     names = malloc(FILE_MOST);
     stack = aligned_alloc(4096, STACK);
     file_len = fread(file, 1, FILE_MOST, trace);
+    options[2] = file_len > 0 && file[0] != 'b';
     make_names();
     for (size_t i = 0; i < sizeof calls / sizeof *calls; i++) printf("%s: %zu bytes\n", calls[i].name, touched(calls[i].call));
     return 0;

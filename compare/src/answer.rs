@@ -71,20 +71,52 @@ pub trait Subject {
         tolerant: u32,
         values: &mut [u64],
     ) -> u32;
-    /// Import by a list of options: the channel, the tail rule; what it lacks has its default.
-    fn import_with(&self, file: &[u8], work: &mut [u8], out: &mut [u8], options: &[u64], values: &mut [u64]) -> u32 {
-        let (channel, tolerant) = chosen(options);
-        self.import(file, work, out, channel, u32::from(tolerant), values)
-    }
+    /// Import by a list of options: the channel, the tail rule, the container; what it lacks has its default.
+    fn import_with(&self, file: &[u8], work: &mut [u8], out: &mut [u8], options: &[u64], values: &mut [u64]) -> u32;
+    #[allow(clippy::too_many_arguments)]
+    fn import_stretches_with(
+        &self,
+        file: &[u8],
+        work: &mut [u8],
+        stretches: &mut [Stretch],
+        out: &mut [u8],
+        options: &[u64],
+        values: &mut [u64],
+    ) -> u32;
+    /// Where the records of a btsnoop file start.
+    fn records(&self, file: &[u8], starts: &mut [u64], values: &mut [u64]) -> u32;
+    /// Where the records of a file start. Of the options only the container is looked at.
+    fn records_with(&self, file: &[u8], starts: &mut [u64], options: &[u64], values: &mut [u64]) -> u32;
     /// The signs that something is not in a file: how many of each, and where the first is.
     fn gaps(&self, file: &[u8], work: &mut [u8], tolerant: u32, values: &mut [u64]) -> u32;
+    /// The same by a list of options, of which the channel is not looked at.
+    fn gaps_with(&self, file: &[u8], work: &mut [u8], options: &[u64], values: &mut [u64]) -> u32;
     /// Whether the call with stretches is linked.
     fn has_stretches(&self) -> bool {
         true
     }
+    /// Whether the calls that take a container are linked.
+    fn takes_container(&self) -> bool {
+        true
+    }
 }
 
-/// What a list of options chooses: the channel, and whether the rule is tolerant.
+/// What a file is asked for as.
+#[derive(Clone, Copy, Debug, PartialEq, Eq)]
+pub enum Container {
+    Btsnoop,
+    Pcap,
+}
+
+/// The container that a list of options chooses.
+pub fn container(options: &[u64]) -> Container {
+    match options.get(2) {
+        None | Some(0) => Container::Btsnoop,
+        Some(_) => Container::Pcap,
+    }
+}
+
+/// What a list of options chooses besides: the channel, and whether the rule is tolerant.
 pub fn chosen(options: &[u64]) -> (u32, bool) {
     let channel = options.first().map_or(NO_CHANNEL, |&n| n.min(u64::from(NO_CHANNEL)) as u32);
     (channel, options.get(1).is_some_and(|&n| n != 0))
@@ -143,7 +175,7 @@ pub struct Lender {
 }
 
 /// One more than the highest number of a refusal.
-pub const NUMBERS: usize = 21;
+pub const NUMBERS: usize = 23;
 
 impl Lender {
     /// One call with `lent` bytes of output and room for `room` values. Everything is

@@ -10,13 +10,15 @@ use std::collections::BTreeSet;
 use std::hint::black_box;
 use std::path::Path;
 
-use crate::answer::{Answer, Case, Checked, Difference, Lender, Subject, NO_CHANNEL};
-use crate::expected;
+use crate::answer::{Answer, Case, Checked, Container, Difference, Lender, Subject, NO_CHANNEL};
+use crate::containers;
+use crate::expected::{self, LONGEST_FILE};
 use crate::gaps;
 use crate::hard::{self, Hard};
 use crate::import::ack;
 use crate::items::{self, Span};
 use crate::model::{self, packed};
+use crate::pcap::{self, Form, FORMS};
 use crate::rng::Rng;
 use crate::times;
 use crate::Options;
@@ -31,6 +33,8 @@ const ANY: Option<f64> = Some(1.0);
 const GROWTH: f64 = 1.1;
 /// What one handle on many adapters is to cost at most, divided by links that are spread over handles.
 const ADAPTERS: f64 = 1.1;
+/// What packets in pcap are to cost at most, divided by the same in btsnoop.
+const PCAP: f64 = 1.1;
 
 /// The rows of a run, and those that are over their limit.
 struct Bench<'a> {
@@ -334,6 +338,7 @@ fn order_row(bench: &mut Bench, label: &str, names: Vec<String>) -> Checked {
 
 /// Files to import one after another, with what is lent for all of them.
 struct Files {
+    container: Container,
     files: Vec<Vec<u8>>,
     answers: Vec<Answer>,
     work: Vec<u8>,
@@ -343,15 +348,27 @@ struct Files {
 impl Files {
     /// The files, once the subject's answers are the oracle's.
     fn checked(subject: &dyn Subject, label: &str, files: Vec<Vec<u8>>) -> Result<Files, Box<Difference>> {
+        Files::checked_in(Container::Btsnoop, subject, label, files)
+    }
+
+    fn checked_in(
+        container: Container,
+        subject: &dyn Subject,
+        label: &str,
+        files: Vec<Vec<u8>>,
+    ) -> Result<Files, Box<Difference>> {
         let mut work = vec![0; 8 * files.iter().map(Vec::len).max().unwrap_or(0)];
         let mut answers = Vec::new();
         for file in &files {
-            let expected = expected::import_strict(file, NO_CHANNEL);
-            check(label, &expected, &mut |out, v| subject.import_strict(file, &mut work, out, NO_CHANNEL, v))?;
+            let expected = match container {
+                Container::Btsnoop => expected::import_strict(file, NO_CHANNEL),
+                Container::Pcap => expected::import_pcap(file, NO_CHANNEL).by(false),
+            };
+            check(label, &expected, &mut |out, v| imported(container, subject, file, &mut work, out, v))?;
             answers.push(expected);
         }
         let out = vec![0; answers.iter().map(|a| a.written.len()).max().unwrap_or(0)];
-        Ok(Files { files, answers, work, out })
+        Ok(Files { container, files, answers, work, out })
     }
 
     fn bytes(&self) -> f64 {
@@ -369,9 +386,25 @@ impl Files {
     fn import(&mut self, subject: &dyn Subject) {
         let mut values = [0; 5];
         for (file, answer) in self.files.iter().zip(&self.answers) {
-            let number = subject.import_strict(black_box(file), &mut self.work, &mut self.out, NO_CHANNEL, &mut values);
+            let lent = (&mut self.work[..], &mut self.out[..]);
+            let number = imported(self.container, subject, black_box(file), lent.0, lent.1, &mut values);
             assert_eq!(number, answer.number);
         }
+    }
+}
+
+/// The strict import of a file, on any channel.
+fn imported(
+    container: Container,
+    subject: &dyn Subject,
+    file: &[u8],
+    work: &mut [u8],
+    out: &mut [u8],
+    values: &mut [u64],
+) -> u32 {
+    match container {
+        Container::Btsnoop => subject.import_strict(file, work, out, NO_CHANNEL, values),
+        Container::Pcap => subject.import_with(file, work, out, &[u64::from(NO_CHANNEL), 0, 1], values),
     }
 }
 
@@ -480,6 +513,68 @@ fn adapters(bench: &mut Bench) -> Checked {
     import_rows(bench, hard::of_many_adapters())
 }
 
+/// The same packets in pcap and in btsnoop, where they fit: our times for both, and the Rust's for the latter. The typical
+/// trace in each form, then files that are full of the smallest records.
+fn pcap(bench: &mut Bench) -> Checked {
+    println!(
+        "{:64} {:>10} {:>10} {:>10} {:>10} {:>10} {:>7} {:>7}",
+        "pcap", "bytes", "pcap", "btsnoop", "Rust", "by btsnoop", "least", "by Rust"
+    );
+    let sizes = bench.options.kib.clone().unwrap_or(vec![128, 1024]);
+    for &kib in &sizes {
+        for form in FORMS {
+            for trace in hard::traces().iter().filter(|trace| trace.label.starts_with("typical")) {
+                let files = trace.files(kib).unwrap_or_default();
+                let files = files.iter().map(|file| pcap::of_btsnoop(file, form)).collect();
+                pcap_row(bench, &format!("{}, {}", trace.label, words(form)), Some(PCAP), files)?;
+            }
+        }
+    }
+    for &kib in &sizes {
+        for (label, file) in containers::fullest(kib << 10) {
+            pcap_row(bench, label, None, vec![file])?;
+        }
+    }
+    Ok(())
+}
+
+fn words(form: Form) -> String {
+    let order = if form.big { "big-endian" } else { "little-endian" };
+    format!("{order} {}", if form.nano { "nanoseconds" } else { "microseconds" })
+}
+
+fn pcap_row(bench: &mut Bench, label: &str, limit: Option<f64>, files: Vec<Vec<u8>>) -> Checked {
+    if !bench.wants(label) {
+        return Ok(());
+    }
+    let (subject, bytes, count) = (bench.subject, files[0].len(), files.len() as f64);
+    let twins: Vec<Vec<u8>> = files.iter().map(|file| pcap::twin(file, 1002)).collect();
+    let mut ours = Files::checked_in(Container::Pcap, subject, label, files)?;
+    let label = ours.label(label);
+    let fit = twins.iter().all(|twin| twin.len() <= LONGEST_FILE);
+    let mut others = if fit { Some(Files::checked(subject, &label, twins.clone())?) } else { None };
+    let (mut import, mut rust) = (|| ours.import(subject), || import_rust(&twins));
+    let mut btsnoop = others.as_mut().map(|others| || others.import(subject));
+    let mut sides: Vec<&mut dyn FnMut()> = vec![&mut import, &mut rust];
+    sides.extend(btsnoop.as_mut().map(|side| side as &mut dyn FnMut()));
+    let times = times::turns(&mut sides);
+    let shown = |times: &Vec<f64>| times::shown(times::median(times.clone()) / count);
+    let (own, rust) = (shown(&times[0]), shown(&times[1]));
+    let by_rust = times::ratio(&times[0], &times[1]);
+    let (btsnoop, ratio, least) = match times.get(2) {
+        None => ("too long".into(), "-".into(), "-".into()),
+        Some(twin) => {
+            let ratio = times::ratio(&times[0], twin);
+            bench.judge(&label, bytes, ratio, limit);
+            let least = times::least(&times[0]) / times::least(twin);
+            (shown(twin), format!("{ratio:.3}"), format!("{least:.3}"))
+        }
+    };
+    println!("{label:64} {bytes:>10} {own:>10} {btsnoop:>10} {rust:>10} {ratio:>10} {least:>7} {by_rust:>7.3}");
+    bench.judge(&format!("{label}, by the Rust"), bytes, by_rust, ANY);
+    Ok(())
+}
+
 /// How many links a file has.
 fn links(file: &[u8]) -> usize {
     let rows = model::records(&file[16..]).0;
@@ -566,6 +661,7 @@ pub fn run(group: &str, subject: &dyn Subject, options: &Options) -> Option<Chec
         "growth" => growth,
         "gaps" => gaps,
         "adapters" => adapters,
+        "pcap" => pcap,
         _ => return None,
     };
     times::keep_memory();
@@ -574,20 +670,27 @@ pub fn run(group: &str, subject: &dyn Subject, options: &Options) -> Option<Chec
 }
 
 /// Imports of one trace and nothing else, to be counted or profiled: the trace of that label,
-/// or the first whose label has it.
+/// or the first whose label has it; as pcap, if the label begins with that word.
 pub fn once(label: &str, kib: usize, subject: &dyn Subject, options: &Options) -> Result<(), String> {
     let traces = [hard::traces(), hard::of_many_adapters()].into_iter().flatten().collect::<Vec<Hard>>();
+    let (container, label) = match label.strip_prefix("pcap ") {
+        Some(label) => (Container::Pcap, label),
+        None => (Container::Btsnoop, label),
+    };
     let same = traces.iter().find(|t| t.label == label);
     let trace = same.or_else(|| traces.iter().find(|t| t.label.contains(label)));
     let trace = trace.ok_or_else(|| format!("no trace has the label `{label}`"))?;
-    let file = trace.file(kib).ok_or_else(|| format!("`{}` does not fit {kib} KiB", trace.label))?;
+    let mut file = trace.file(kib).ok_or_else(|| format!("`{}` does not fit {kib} KiB", trace.label))?;
+    if container == Container::Pcap {
+        file = pcap::of_btsnoop(&file, FORMS[0]);
+    }
     let bytes = file.len();
     let mut work = vec![0; 8 * bytes];
     // No list of spans is longer than that of the shortest, which are two bytes long.
     let mut out = vec![0; 8 * bytes];
     let (mut number, mut values) = (0, [0; 5]);
     for _ in 0..options.times {
-        number = subject.import_strict(black_box(&file), &mut work, &mut out, NO_CHANNEL, &mut values);
+        number = imported(container, subject, black_box(&file), &mut work, &mut out, &mut values);
     }
     println!("{}: {bytes} bytes, number {number}, values {values:?}", trace.label);
     Ok(())

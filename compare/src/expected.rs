@@ -10,6 +10,7 @@ use std::path::Path;
 use crate::answer::{Answer, NO_CHANNEL};
 use crate::items;
 use crate::model::{self, RIGHT};
+use crate::pcap;
 use oracle::capture::{self, Direction, ImportError, Imported};
 use oracle::mdr::frame::{self, FrameError};
 use oracle::mdr::DataType;
@@ -100,6 +101,42 @@ pub fn import_strict(file: &[u8], channel: u32) -> Answer {
 /// refusal 1 judged on the file.
 pub fn import_tolerant(file: &[u8], channel: u32) -> Answer {
     import_judged(&file[..tail(file)], file.len(), channel)
+}
+
+/// Import of a pcap file by either rule.
+pub struct FromPcap {
+    strict: Answer,
+    tolerant: Answer,
+}
+
+impl FromPcap {
+    pub fn by(self, tolerant: bool) -> Answer {
+        if tolerant {
+            self.tolerant
+        } else {
+            self.strict
+        }
+    }
+
+    /// Strict, then tolerant.
+    pub fn both(self) -> [Answer; 2] {
+        [self.strict, self.tolerant]
+    }
+}
+
+/// The oracle's import of a pcap file's twin, of 1001 or 1002 in turn; the refusals before it and the tail offset are those
+/// of the container. A twin may be longer than a file that is imported, which is nothing to the oracle.
+pub fn import_pcap(file: &[u8], channel: u32) -> FromPcap {
+    let refusal = |tolerant| pcap::refusal(file, usize::MAX, tolerant, pcap::RIGHT);
+    if let Some(refused) = refusal(true) {
+        return FromPcap { strict: refused.clone(), tolerant: refused };
+    }
+    let twin = pcap::twin(file, [1001, 1002][file.len() % 2]);
+    let mut found = import_judged(&twin, 0, channel);
+    if found.number == 0 {
+        found.values[3] = pcap::read(file, pcap::RIGHT).1 as u64;
+    }
+    FromPcap { strict: refusal(false).unwrap_or_else(|| found.clone()), tolerant: found }
 }
 
 fn import_judged(file: &[u8], whole: usize, channel: u32) -> Answer {

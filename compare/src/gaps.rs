@@ -3,8 +3,9 @@
 
 use std::collections::BTreeMap;
 
-use crate::answer::Answer;
+use crate::answer::{Answer, Container};
 use crate::model;
+use crate::pcap;
 
 /// How many values the call answers: two for each sign.
 pub const VALUES: usize = 14;
@@ -133,7 +134,34 @@ pub struct Reading {
     pub first: fn(&[usize]) -> usize,
     /// Changes what was found.
     pub change: fn(&mut Found, &[u8]),
+    /// What is read otherwise in a pcap file.
+    pub pcap: InPcap,
 }
+
+/// The definitions of what a record of a pcap file shows, each of which a fault may replace.
+#[derive(Clone, Copy)]
+pub struct InPcap {
+    pub reading: pcap::Reading,
+    pub is_short: fn(&pcap::Record) -> bool,
+    /// The recorder's count of drops, which a record does not have.
+    pub drops: fn(&pcap::Record) -> u64,
+    pub is_zeros: fn(&pcap::Record) -> bool,
+    pub is_acl: fn(&pcap::Record) -> bool,
+    pub packet_of: for<'a> fn(&pcap::Record<'a>) -> Option<Packet<'a>>,
+    /// The place that is told of a record.
+    pub place: fn(&pcap::Record) -> usize,
+}
+
+/// ACL data is what has one of the two directions, and type 02 behind it.
+const PCAP: InPcap = InPcap {
+    reading: pcap::RIGHT,
+    is_short: |record| record.original() > record.captured(),
+    drops: |_| 0,
+    is_zeros: |record| is_zeros(record.bytes),
+    is_acl: |record| record.acl.is_some(),
+    packet_of: |record| fragment(record.at, 0, record.received?, record.acl?),
+    place: |record| record.at,
+};
 
 pub const RIGHT: Reading = Reading {
     is_short,
@@ -151,6 +179,7 @@ pub const RIGHT: Reading = Reading {
     start_apart: true,
     first: |places| places.first().copied().unwrap_or(0),
     change: |_, _| (),
+    pcap: PCAP,
 };
 
 /// The places where each sign shows.
@@ -169,25 +198,59 @@ pub struct Found {
     pub starts: Vec<usize>,
 }
 
-/// The signs of a file with a good header.
-pub fn find(file: &[u8], reading: Reading) -> Found {
+/// What a record shows by itself.
+struct Shown<'a> {
+    at: usize,
+    short: bool,
+    drops: u64,
+    acl: bool,
+    zeros: bool,
+    packet: Option<Packet<'a>>,
+}
+
+fn shown(container: Container, file: &[u8], reading: Reading) -> Vec<Shown<'_>> {
     let datalink = be32(file, 12);
-    let records = records(file);
-    let places = |test: &dyn Fn(&[u8]) -> bool| -> Vec<usize> {
-        records.iter().filter(|(_, record)| test(record)).map(|(at, _)| *at).collect()
+    match container {
+        Container::Btsnoop => {
+            let shows = |(at, record)| Shown {
+                at,
+                short: (reading.is_short)(record),
+                drops: be32(record, 12),
+                acl: (reading.is_acl)(datalink, record),
+                zeros: (reading.is_zeros)(record),
+                packet: (reading.packet_of)(datalink, at, record),
+            };
+            records(file).into_iter().map(shows).collect()
+        }
+        Container::Pcap => {
+            let own = reading.pcap;
+            let mut shown = Vec::new();
+            for record in pcap::read(file, own.reading).0 {
+                let at = (own.place)(&record);
+                let packet = (own.packet_of)(&record).map(|packet| Packet { at, ..packet });
+                let [short, acl, zeros] = [own.is_short, own.is_acl, own.is_zeros].map(|shows| shows(&record));
+                shown.push(Shown { at, short, drops: (own.drops)(&record), acl, zeros, packet });
+            }
+            shown
+        }
+    }
+}
+
+/// The signs of a file with a good header.
+pub fn find(container: Container, file: &[u8], reading: Reading) -> Found {
+    let records = shown(container, file, reading);
+    let places = |test: &dyn Fn(&Shown) -> bool| -> Vec<usize> {
+        records.iter().filter(|record| test(record)).map(|record| record.at).collect()
     };
-    let packets: Vec<Packet> =
-        records.iter().filter_map(|(at, record)| (reading.packet_of)(datalink, *at, record)).collect();
-    let drops: Vec<u64> = records.iter().map(|(_, record)| be32(record, 12)).collect();
+    let packets: Vec<Packet> = records.iter().filter_map(|record| record.packet).collect();
+    let drops: Vec<u64> = records.iter().map(|record| record.drops).collect();
     let rises = (reading.rises)(&drops);
     let mut found = Found {
-        short: places(&reading.is_short),
+        short: places(&|record| record.short),
         dropped: rises.iter().sum(),
-        dropped_at: records.iter().zip(&rises).filter(|(_, by)| **by > 0).map(|((at, _), _)| *at).collect(),
-        skipped: places(&|record| {
-            (reading.is_acl)(datalink, record) && (reading.packet_of)(datalink, 0, record).is_none()
-        }),
-        zeros: places(&reading.is_zeros),
+        dropped_at: records.iter().zip(&rises).filter(|(_, by)| **by > 0).map(|(record, _)| record.at).collect(),
+        skipped: places(&|record| record.acl && record.packet.is_none()),
+        zeros: places(&|record| record.zeros),
         ..Found::default()
     };
     follow(&packets, reading, &mut found);
@@ -242,8 +305,15 @@ impl Found {
     }
 }
 
-/// The call.
+/// The call of a btsnoop file.
 pub fn answer(file: &[u8], work: usize, tolerant: bool, reading: Reading) -> Answer {
-    model::refusal(file, work, tolerant)
-        .unwrap_or_else(|| Answer::done(&find(file, reading).values(reading), Vec::new()))
+    answer_in(Container::Btsnoop, file, work, tolerant, reading)
+}
+
+pub fn answer_in(container: Container, file: &[u8], work: usize, tolerant: bool, reading: Reading) -> Answer {
+    let refusal = match container {
+        Container::Btsnoop => model::refusal(container, file, work, tolerant, model::RIGHT),
+        Container::Pcap => pcap::refusal(file, work, tolerant, reading.pcap.reading),
+    };
+    refusal.unwrap_or_else(|| Answer::done(&find(container, file, reading).values(reading), Vec::new()))
 }

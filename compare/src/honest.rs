@@ -3,14 +3,13 @@
 
 use std::collections::VecDeque;
 
-use crate::answer::Answer;
+use crate::answer::{Answer, Container};
 use crate::codec;
 use crate::items;
 use crate::model::packed;
 use crate::rng::Rng;
 use crate::trace::{self, Trace};
 use oracle::capture::Direction::{self, Rx, Tx};
-use oracle::capture::BTSNOOP_EPOCH_DELTA_US as EPOCH;
 
 /// A data PDU, at the record that completes it.
 struct Brought {
@@ -28,6 +27,8 @@ struct Brought {
 
 pub struct Honest {
     pub file: Vec<u8>,
+    /// Where the first record starts.
+    pub head: usize,
     pub dlci: u8,
     pub ends: Vec<usize>,
     brought: Vec<Brought>,
@@ -40,7 +41,7 @@ impl Honest {
 
     /// What tolerant import answers for the first `n` bytes.
     pub fn left(&self, n: usize) -> Answer {
-        let tail = self.ends.iter().copied().take_while(|&end| end <= n).last().unwrap_or(16);
+        let tail = self.ends.iter().copied().take_while(|&end| end <= n).last().unwrap_or(self.head);
         let mut frames = Vec::new();
         let mut midway: Vec<(usize, Direction)> = Vec::new();
         for pdu in self.brought.iter().filter(|pdu| pdu.end <= n) {
@@ -246,6 +247,12 @@ struct Maker<'a> {
 }
 
 impl Maker<'_> {
+    /// What was recorded.
+    fn recording(self) -> Honest {
+        let (head, _) = self.trace.heads();
+        Honest { file: self.trace.file, head, dlci: self.dlci, ends: self.trace.ends, brought: self.brought }
+    }
+
     /// Sends one fragment of what a link has to send one way, if there is one.
     fn step(&mut self, index: usize, link: &mut Link) {
         let direction = self.rng.pick(&[Rx, Tx]);
@@ -287,7 +294,7 @@ impl Maker<'_> {
             link.held = None;
         }
         if let Some((frames, midway)) = sending.data {
-            let ms = stamp.saturating_sub(EPOCH) / 1000;
+            let ms = self.trace.ms(stamp);
             let end = self.trace.file.len();
             self.brought.push(Brought { end, ms, link: index, direction, frames, midway });
         }
@@ -297,6 +304,9 @@ impl Maker<'_> {
     fn noise(&mut self, links: &[Link], adapters: &[u16]) {
         if adapters.len() > 1 && self.rng.percent(70) {
             return self.beside(links, adapters);
+        }
+        if self.trace.form.is_some() && self.rng.percent(40) {
+            return self.undirected(links);
         }
         let rng = &mut *self.rng;
         self.trace.index = rng.pick(adapters);
@@ -327,6 +337,21 @@ impl Maker<'_> {
             }
             _ => trace::noise(rng, &mut self.trace),
         }
+    }
+
+    /// A packet of a link, with data, in a pcap file and of a direction that is neither of the two, or of another type.
+    fn undirected(&mut self, links: &[Link]) {
+        let rng = &mut *self.rng;
+        let Link { pair: (_, handle), cids, .. } = links[rng.below(links.len())];
+        let wire = packed(0x0C, 8, &[0x22]);
+        let pdu = trace::l2cap(cids[rng.below(2)], &trace::uih(self.dlci, &wire, None, false));
+        let packet = trace::acl_packet(handle, rng.pick(&[0, 1, 2]), &pdu);
+        let stamp = trace::stamp(rng);
+        let (direction, kind) = match rng.percent(60) {
+            true => (rng.pick(&trace::OTHERS), 2),
+            false => (rng.below(2) as u32, trace::other_type(rng)),
+        };
+        self.trace.record(direction, stamp, &[&[kind], &packet[..]].concat());
     }
 
     /// A record of another adapter on a link's handle and CID, where no link is: what it does there is free, but for
@@ -374,8 +399,12 @@ impl Link {
 
 /// A random honest recording.
 pub fn recording(rng: &mut Rng, scale: Scale) -> Honest {
+    recording_in(rng, Container::Btsnoop, scale)
+}
+
+pub fn recording_in(rng: &mut Rng, container: Container, scale: Scale) -> Honest {
     let dlci = rng.pick(&[1, 2, 18, 19, 63]);
-    let trace = Trace::new(rng.pick(&trace::DATALINKS));
+    let trace = Trace::any(rng, container);
     let adapters = trace::adapters(rng, trace.datalink);
     // Of two or three adapters, links share handles.
     let mut pairs = trace::on_each(&adapters, &[0x040, 0x041, 0x000, 0xFFF]);
@@ -394,13 +423,13 @@ pub fn recording(rng: &mut Rng, scale: Scale) -> Honest {
         let index = maker.rng.below(links.len());
         maker.step(index, &mut links[index]);
     }
-    Honest { file: maker.trace.file, dlci, ends: maker.trace.ends, brought: maker.brought }
+    maker.recording()
 }
 
 /// A random honest recording of up to 1,048,576 bytes.
-pub fn large(rng: &mut Rng) -> Honest {
+pub fn large(rng: &mut Rng, container: Container) -> Honest {
     loop {
-        let recording = recording(rng, LARGE);
+        let recording = recording_in(rng, container, LARGE);
         if (200_000..=1_048_576).contains(&recording.file.len()) {
             return recording;
         }
@@ -408,33 +437,37 @@ pub fn large(rng: &mut Rng) -> Honest {
 }
 
 /// One guessed link on DLCI 18 that sends these PDUs, Rx first.
-fn sent(rng: &mut Rng, sending: [VecDeque<Sending>; 2]) -> Honest {
+fn sent(rng: &mut Rng, container: Container, sending: [VecDeque<Sending>; 2]) -> Honest {
     let pair = (rng.pick(&[0, 1, 0xFFFF]), 0x40);
     let (setup, open) = (VecDeque::new(), [None, None]);
     let mut link = Link { pair, cids: [0x41, 0x42], setup, sending, open, begun: false, held: None };
     let scale = Scale { fragment: 40_000, ..SMALL };
-    let mut maker = Maker { rng, trace: Trace::new(2001), brought: Vec::new(), dlci: 18, scale, asking: false };
+    let trace = match container {
+        Container::Btsnoop => Trace::new(2001),
+        Container::Pcap => Trace::any(rng, container),
+    };
+    let mut maker = Maker { rng, trace, brought: Vec::new(), dlci: 18, scale, asking: false };
     while link.waits() {
         maker.step(0, &mut link);
     }
-    Honest { file: maker.trace.file, dlci: 18, ends: maker.trace.ends, brought: maker.brought }
+    maker.recording()
 }
 
 /// A recording whose frames are as long as they may be: a whole one of exactly 65,536
 /// bytes and a partial one of 65,535.
-pub fn longest(rng: &mut Rng) -> Honest {
+pub fn longest(rng: &mut Rng, container: Container) -> Honest {
     let wire = longest_frame();
     let (one, two) = (frame(rng, 3), frame(rng, 3));
     let sending = [
         data_pdus(rng, 0x41, 18, &[wire.clone(), one], &wire[..65_535], 32_767),
         data_pdus(rng, 0x42, 18, &[two, wire.clone()], &[], 9_000),
     ];
-    sent(rng, sending)
+    sent(rng, container, sending)
 }
 
 /// A recording that is honest but for a frame longer than 65,536 bytes, of which 65,537
 /// come before its end.
-pub fn too_long(rng: &mut Rng) -> Honest {
+pub fn too_long(rng: &mut Rng, container: Container) -> Honest {
     let wire = packed(0x0C, 0, &vec![0x3E; 32_765]);
     assert!(wire.len() > 65_537);
     let parts = [&wire[..32_767], &wire[32_767..65_534], &wire[65_534..65_537], &wire[65_537..]];
@@ -444,7 +477,7 @@ pub fn too_long(rng: &mut Rng) -> Honest {
         Sending { bytes, data: Some((if closed { vec![wire.clone()] } else { Vec::new() }, !closed)), answers: false }
     });
     let sending = [pdus.collect(), VecDeque::new()];
-    sent(rng, sending)
+    sent(rng, container, sending)
 }
 
 /// A packed frame of exactly 65,536 bytes.

@@ -3,11 +3,12 @@
 use std::cell::RefCell;
 
 use crate::adapters;
-use crate::answer::{Answer, Case, Checked, Difference, Lender, Stretch, Subject, NO_CHANNEL};
+use crate::answer::{Answer, Case, Checked, Container, Difference, Lender, Stretch, Subject, NO_CHANNEL};
 use crate::codec::each_string;
 use crate::expected::{self, LONGEST_FILE};
 use crate::hard;
 use crate::model::{self, packed};
+use crate::pcap;
 use crate::rng::Rng;
 use crate::trace::{self, Trace};
 use crate::Options;
@@ -32,14 +33,15 @@ enum By {
     Numbers,
     /// By a list of options.
     Options,
-    /// By number, with so many places for stretches lent.
+    /// By number, with so many places for stretches lent; and by a list of options.
     Places(usize),
+    OptionsPlaces(usize),
 }
 
 impl By {
     fn places(self) -> usize {
         match self {
-            By::Places(places) => places,
+            By::Places(places) | By::OptionsPlaces(places) => places,
             _ => 0,
         }
     }
@@ -53,6 +55,9 @@ pub trait Taker {
 pub struct Import<'a> {
     subject: &'a dyn Subject,
     rule: Rule,
+    container: Container,
+    /// Whether every call is by a list of options, which may have a container in it.
+    takes_container: bool,
     pub lender: Lender,
     files: usize,
     work: RefCell<Vec<u8>>,
@@ -74,11 +79,18 @@ impl<'a> Import<'a> {
         Import {
             subject,
             rule,
+            container: Container::Btsnoop,
+            takes_container: false,
             lender: Lender::default(),
             files: 0,
             work: RefCell::default(),
             stretches: RefCell::default(),
         }
+    }
+
+    /// Files of a container, by the calls that take one.
+    pub fn by_container(subject: &'a dyn Subject, rule: Rule, container: Container) -> Import<'a> {
+        Import { container, takes_container: true, ..Import::new(subject, rule) }
     }
 
     fn case(&self, file: &[u8], channel: u32, work: usize, by: By) -> Case {
@@ -93,6 +105,10 @@ impl<'a> Import<'a> {
             By::Numbers => format!("{rule}, {asked}, {work} bytes of work"),
             By::Options => format!("import_with, options {:?}, {work} bytes of work", self.options(channel)),
             By::Places(n) => format!("{rule}, {asked}, {work} bytes of work, {n} places for stretches"),
+            By::OptionsPlaces(n) => format!(
+                "import_stretches_with, options {:?}, {work} bytes of work, {n} places for stretches",
+                self.options(channel)
+            ),
         };
         Case { call, inputs }
     }
@@ -105,6 +121,10 @@ impl<'a> Import<'a> {
                 let stretches = &mut self.stretches.borrow_mut()[..places];
                 self.subject.import_stretches(file, work, stretches, out, channel, tolerant, values)
             }
+            By::OptionsPlaces(places) => {
+                let stretches = &mut self.stretches.borrow_mut()[..places];
+                self.subject.import_stretches_with(file, work, stretches, out, &self.options(channel), values)
+            }
             By::Options => self.subject.import_with(file, work, out, &self.options(channel), values),
             By::Numbers if self.rule == Rule::Strict => self.subject.import_strict(file, work, out, channel, values),
             By::Numbers => self.subject.import(file, work, out, channel, tolerant, values),
@@ -112,8 +132,9 @@ impl<'a> Import<'a> {
     }
 
     fn once(&mut self, file: &[u8], channel: u32) -> Checked {
-        let expected = match self.rule {
-            Rule::Tolerant => expected::import_tolerant(file, channel),
+        let expected = match (self.container, self.rule) {
+            (Container::Pcap, _) => expected::import_pcap(file, channel).by(self.tolerant()),
+            (_, Rule::Tolerant) => expected::import_tolerant(file, channel),
             _ => expected::import_strict(file, channel),
         };
         self.held(file, channel, &expected)
@@ -129,6 +150,10 @@ impl<'a> Import<'a> {
         checked
     }
 
+    pub fn container(&self) -> Container {
+        self.container
+    }
+
     /// Whether the rule is tolerant.
     pub fn tolerant(&self) -> bool {
         self.rule == Rule::Tolerant
@@ -136,7 +161,9 @@ impl<'a> Import<'a> {
 
     /// The ways in which the call is told what to import.
     fn ways(&self) -> &'static [By] {
-        if self.rule == Rule::Strict {
+        if self.takes_container {
+            &[By::Options]
+        } else if self.rule == Rule::Strict {
             &[By::Numbers]
         } else {
             &[By::Numbers, By::Options]
@@ -182,13 +209,16 @@ impl<'a> Import<'a> {
             })?;
             self.guards(enough, file, channel, by)?;
             if expected.number == 1 {
-                self.unworked(lender, file, channel, expected, enough, by)?;
+                // However much work there is.
+                for lent in [enough, 8 * file.len() - 1, self.files % 100] {
+                    self.unworked(lender, file, channel, expected, lent, by)?;
+                }
             } else if self.files.is_multiple_of(7) && !file.is_empty() {
                 self.unworked(lender, file, channel, &Answer::refused(2, &[]), 8 * file.len() - 1, by)?;
                 self.unworked(lender, file, channel, &Answer::refused(2, &[]), self.files % (8 * file.len()), by)?;
             }
         }
-        if self.subject.has_stretches() {
+        if self.takes_container || self.subject.has_stretches() {
             self.with_stretches(lender, file, channel, expected, enough, fill)?;
         }
         Ok(())
@@ -198,11 +228,16 @@ impl<'a> Import<'a> {
     fn options(&self, channel: u32) -> Vec<u64> {
         let any = [u64::from(NO_CHANNEL), u64::MAX, 1 << 32][self.files % 3];
         let channel = if channel == NO_CHANNEL { any } else { u64::from(channel) };
-        let tolerant = if self.rule == Rule::Tolerant { [1, u64::MAX, 2][self.files % 3] } else { 0 };
+        let tolerant = if self.tolerant() { [1, u64::MAX, 2][self.files % 3] } else { 0 };
+        if self.container == Container::Pcap {
+            let pcap = [1, 1, 2, u64::MAX, 1 << 32, 1, 1 << 63, 0x100, 1 << 16][self.files % 9];
+            return [&[channel, tolerant, pcap], &[0, 1, u64::MAX][..self.files % 4]].concat();
+        }
         match self.files % 4 {
             0 if tolerant == 0 && channel > 255 => vec![],
             0 | 1 if tolerant == 0 => vec![channel],
-            2 => vec![channel, tolerant, 1, 2, 3],
+            1 => vec![channel, tolerant, 0],
+            2 => vec![channel, tolerant, 0, 2, 3],
             _ => vec![channel, tolerant],
         }
     }
@@ -222,29 +257,31 @@ impl<'a> Import<'a> {
         let needed = expected.written.len();
         let lent = if self.files.is_multiple_of(3) { needed.saturating_sub(1) } else { needed + self.files % 2 };
         let room = lender.room(expected);
+        let with = if self.takes_container { By::OptionsPlaces } else { By::Places };
+        let by = with(places);
         self.lend(enough, fill);
         self.lend_stretches(places);
         lender.call(
             expected,
             lent,
             room,
-            &mut |out, values| self.call(file, enough, By::Places(places), out, channel, values),
-            &|| self.case(file, channel, enough, By::Places(places)),
+            &mut |out, values| self.call(file, enough, by, out, channel, values),
+            &|| self.case(file, channel, enough, by),
         )?;
-        self.guards(enough, file, channel, By::Places(places))?;
+        self.guards(enough, file, channel, by)?;
         match expected.within(lent).number {
-            0 => self.listed(file, channel, expected, enough, places)?,
-            _ => self.unfilled(file, channel, enough, By::Places(places), 0)?,
+            0 => self.listed(file, channel, expected, enough, by)?,
+            _ => self.unfilled(file, channel, enough, by, 0)?,
         }
         if expected.number == 1 {
-            self.unworked(lender, file, channel, expected, enough, By::Places(places))?;
-            return self.unworked(lender, file, channel, expected, enough, By::Places(0));
+            self.unworked(lender, file, channel, expected, enough, by)?;
+            return self.unworked(lender, file, channel, expected, enough, with(0));
         }
         if self.files % 7 == 1 && places > 0 {
             let short = Answer::refused(2, &[]);
-            self.unworked(lender, file, channel, &short, enough, By::Places(places - 1))?;
-            self.unworked(lender, file, channel, &short, enough, By::Places(self.files % places))?;
-            self.unworked(lender, file, channel, &short, 8 * file.len() - 1, By::Places(places))?;
+            self.unworked(lender, file, channel, &short, enough, with(places - 1))?;
+            self.unworked(lender, file, channel, &short, enough, with(self.files % places))?;
+            self.unworked(lender, file, channel, &short, 8 * file.len() - 1, by)?;
         }
         Ok(())
     }
@@ -259,16 +296,15 @@ impl<'a> Import<'a> {
     /// The first `unfinished` places hold the open stretches, in the order of their first
     /// pieces, and no other place is touched. Of a long file with few of them only the DLCI
     /// and the bounds of what is held are seen.
-    fn listed(&self, file: &[u8], channel: u32, expected: &Answer, lent: usize, places: usize) -> Checked {
+    fn listed(&self, file: &[u8], channel: u32, expected: &Answer, lent: usize, by: By) -> Checked {
         let unfinished = expected.values[2] as usize;
-        let by = By::Places(places);
         self.unfilled(file, channel, lent, by, unfinished)?;
         if unfinished == 0 {
             return Ok(());
         }
         let found = self.stretches.borrow()[..unfinished].to_vec();
         let wrong = if file.len() < 20_000 || unfinished > 4096 {
-            let open = model::open(file, expected.values[0], model::RIGHT);
+            let open = model::open(self.container, file, expected.values[0], model::RIGHT);
             (found != open).then(|| format!("{open:?}"))
         } else {
             let fits = |s: &Stretch| u64::from(s.dlci) == expected.values[0] && (1..=65_536).contains(&s.held);
@@ -357,16 +393,16 @@ impl<'a> Import<'a> {
 impl Taker for Import<'_> {
     /// The file held to the oracle.
     fn file(&mut self, file: &[u8], channel: u32) -> Checked {
-        smallest(file, &mut |file| self.once(file, channel))
+        smallest(self.container, file, &mut |file| self.once(file, channel))
     }
 }
 
 /// Checks a file. A difference is reported for the smallest file that leaving out records finds.
-pub fn smallest(file: &[u8], check: &mut dyn FnMut(&[u8]) -> Checked) -> Checked {
+pub fn smallest(container: Container, file: &[u8], check: &mut dyn FnMut(&[u8]) -> Checked) -> Checked {
     check(file).map_err(|found| {
         let mut found = found;
         let mut file = file.to_vec();
-        let mut bounds = bounds(&file);
+        let mut bounds = bounds(container, &file);
         let mut i = bounds.len();
         while i > 1 && file.len() < 100_000 {
             i -= 1;
@@ -374,7 +410,7 @@ pub fn smallest(file: &[u8], check: &mut dyn FnMut(&[u8]) -> Checked) -> Checked
             fewer.drain(bounds[i - 1]..bounds[i]);
             if let Err(difference) = check(&fewer) {
                 (found, file) = (difference, fewer);
-                bounds = self::bounds(&file);
+                bounds = self::bounds(container, &file);
                 i = i.min(bounds.len());
             }
         }
@@ -383,7 +419,11 @@ pub fn smallest(file: &[u8], check: &mut dyn FnMut(&[u8]) -> Checked) -> Checked
 }
 
 /// Where the records of a file begin and end.
-fn bounds(file: &[u8]) -> Vec<usize> {
+fn bounds(container: Container, file: &[u8]) -> Vec<usize> {
+    if container == Container::Pcap {
+        let (records, tail) = pcap::read(file, pcap::RIGHT);
+        return records.iter().map(|record| record.at).chain([tail]).collect();
+    }
     let mut bounds = vec![16];
     if file.len() < 16 {
         return bounds;
@@ -480,6 +520,10 @@ pub fn short(taker: &mut dyn Taker, rng: &mut Rng) -> Checked {
             taker.file(&trace.file[..n], channel)?;
         }
     }
+    // A file of the other container.
+    for form in pcap::FORMS {
+        taker.file(&pcap::of_btsnoop(&example().file, form), NO_CHANNEL)?;
+    }
     Ok(())
 }
 
@@ -568,7 +612,7 @@ fn send(trace: &mut Trace, (direction, cid, payload): &Step) {
 }
 
 /// Every sequence of six steps that halve frames and start sessions and links.
-fn stretches(import: &mut Import) -> Checked {
+fn stretches(import: &mut dyn Taker) -> Checked {
     let (one, two) = (ack(1), ack(2));
     let data = |dlci, information: &[u8]| trace::uih(dlci, information, None, false);
     let alphabet: Vec<Step> = vec![
@@ -588,7 +632,7 @@ fn stretches(import: &mut Import) -> Checked {
 }
 
 /// Every sequence of four steps on several DLCIs, with each kind of channel.
-fn choices(import: &mut Import) -> Checked {
+fn choices(import: &mut dyn Taker) -> Checked {
     let data = |dlci, information: &[u8]| trace::uih(dlci, information, None, false);
     let alphabet: Vec<Step> = vec![
         (Rx, 0x41, data(18, &ack(1))),
@@ -609,7 +653,7 @@ fn choices(import: &mut Import) -> Checked {
 
 /// Every sequence of up to three signalling PDUs out of many, before or after data on
 /// channels that need admission or lose it.
-fn signalling(import: &mut Import) -> Checked {
+fn signalling(import: &mut dyn Taker) -> Checked {
     let mut commands = Vec::new();
     for source in [0x30, 0x41] {
         for psm in [3, 1] {
@@ -663,7 +707,7 @@ fn signalling(import: &mut Import) -> Checked {
 
 /// Every four PDUs on CID 1 that admit it or carry data on it, with a request for PSM 3, one
 /// for another or half of one behind, then a frame on another channel.
-fn doubled(import: &mut Import) -> Checked {
+fn doubled(import: &mut dyn Taker) -> Checked {
     let cut = &trace::request(3, 0x41)[..7];
     let alphabet: Vec<Step> = vec![
         (Tx, 1, trace::request(3, 1)),
@@ -685,7 +729,7 @@ fn doubled(import: &mut Import) -> Checked {
 }
 
 /// Two traces that a wrong reading finds a frame more in.
-fn fixed(import: &mut Import) -> Checked {
+fn fixed(import: &mut dyn Taker) -> Checked {
     // In excess of a PDU's length comes the start of another, and a continuation has its rest.
     let pdu = trace::l2cap(0x40, &trace::uih(18, &ack(0), None, false));
     let mut excess = Trace::new(1001);
@@ -706,7 +750,7 @@ fn fixed(import: &mut Import) -> Checked {
 
 /// Every RFCOMM frame of up to five bytes over the bytes that matter, between the
 /// halves of a frame.
-fn rfcomm(import: &mut Import) -> Checked {
+fn rfcomm(import: &mut dyn Taker) -> Checked {
     let half = ack(1);
     let mut start = Trace::new(2001);
     send(&mut start, &(Rx, 0x41, trace::uih(18, &half[..5], None, false)));
@@ -887,6 +931,10 @@ pub fn run_random(subject: &dyn Subject, options: &Options) -> Checked {
 /// One part alone.
 pub fn run_fixed(subject: &dyn Subject, _: &Options) -> Checked {
     fixed(&mut Import::new(subject, Rule::Strict))
+}
+
+pub fn run_large(subject: &dyn Subject, options: &Options) -> Checked {
+    large(&mut Import::new(subject, Rule::Strict), &mut Rng::new(options.seed))
 }
 
 pub fn run_by_hand(subject: &dyn Subject, _: &Options) -> Checked {

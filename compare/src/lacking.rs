@@ -2,14 +2,18 @@
 
 use std::collections::{BTreeMap, VecDeque};
 
+use crate::answer::Container;
 use crate::gaps::{Found, SIGNS};
+use crate::pcap::LINK;
 use crate::rng::Rng;
-use crate::trace::{self, acl_packet, l2cap, Trace, DATALINKS};
+use crate::trace::{self, acl_packet, l2cap, Trace};
 
 /// Flags of ACL data of an adapter, at times with bits that mean nothing.
 fn acl_flags(rng: &mut Rng, datalink: u32, index: u16, rx: bool) -> u32 {
-    if datalink == 2001 {
-        return u32::from(index) << 16 | 4 | u32::from(rx);
+    match datalink {
+        2001 => return u32::from(index) << 16 | 4 | u32::from(rx),
+        LINK => return u32::from(rx),
+        _ => (),
     }
     let extra = if rng.percent(20) { rng.next() as u32 } else { 0 };
     extra << 2 | u32::from(rx)
@@ -18,7 +22,7 @@ fn acl_flags(rng: &mut Rng, datalink: u32, index: u16, rx: bool) -> u32 {
 /// The bytes of an ACL packet as a record of the datalink has them.
 pub fn typed(datalink: u32, packet: &[u8]) -> Vec<u8> {
     match datalink {
-        1002 => [&[2], packet].concat(),
+        1002 | LINK => [&[2], packet].concat(),
         _ => packet.to_vec(),
     }
 }
@@ -28,7 +32,8 @@ fn other(rng: &mut Rng, datalink: u32, packet: &[u8]) -> (u32, Vec<u8>) {
     let side = rng.below(2) as u32;
     match datalink {
         2001 => (rng.pick(&[0, 1, 2, 3, 6, 7, 0x14, 0x105, 0x8004, 0x4_0000, 0x5_0003]), packet.to_vec()),
-        1002 if rng.percent(60) => {
+        LINK if rng.percent(40) => (rng.pick(&trace::OTHERS), typed(LINK, packet)),
+        1002 | LINK if datalink == LINK || rng.percent(60) => {
             let mut packet = typed(1002, packet);
             packet[0] = rng.pick(&[0, 1, 3, 4, 5, 0x82, 0x20]);
             packet.truncate(if rng.percent(30) { rng.below(3) } else { packet.len() });
@@ -136,19 +141,22 @@ fn pdu(rng: &mut Rng, trouble: usize) -> Vec<u8> {
 /// A record of zeros, or one that is nearly that.
 fn zeros(rng: &mut Rng, trace: &mut Trace) {
     let from = trace.file.len();
-    trace.row(0, 0, 0, 0, &[]);
+    trace.zeros();
     if rng.percent(30) {
         // Not of the included length, so that the record keeps its size.
-        let at = rng.pick(&[0, 3, 8, 9, 11, 12, 15, 16, 20, 23]);
+        let at = match trace.form {
+            None => rng.pick(&[0, 3, 8, 9, 11, 12, 15, 16, 20, 23]),
+            Some(_) => rng.pick(&[0, 3, 4, 7, 12, 13, 15]),
+        };
         trace.file[from + at] = rng.pick(&[1, 2, 4, 0x80]);
     }
 }
 
 /// A random trace of so many records at most, in which signs meet.
-pub fn made(rng: &mut Rng, records: usize) -> Trace {
-    let datalink = rng.pick(&DATALINKS);
+pub fn made(rng: &mut Rng, container: Container, records: usize) -> Trace {
+    let mut trace = Trace::any(rng, container);
+    let datalink = trace.datalink;
     let mood = Mood::new(rng, datalink);
-    let mut trace = Trace::new(datalink);
     let mut waiting: BTreeMap<((u16, u16), bool), VecDeque<u8>> = BTreeMap::new();
     let mut drops = if rng.percent(20) { rng.below(5) as u32 } else { 0 };
     for _ in 0..rng.within(1, records) {
@@ -180,6 +188,11 @@ pub fn made(rng: &mut Rng, records: usize) -> Trace {
             _ => included,
         };
         let stamp = if rng.percent(10) { 0 } else { trace::stamp(rng) };
+        // Packets too short for a direction.
+        if trace.form.is_some() && rng.percent(mood.others / 2) {
+            trace.captured(original, stamp, &packet[..rng.below(4).min(packet.len())]);
+            continue;
+        }
         trace.row(original, flags, drops, stamp, &packet);
     }
     trace
@@ -188,11 +201,13 @@ pub fn made(rng: &mut Rng, records: usize) -> Trace {
 /// The bytes of a trace, at times with a cut end: of its last record, or of one that begins behind it.
 pub fn ended(rng: &mut Rng, trace: &Trace) -> Vec<u8> {
     let mut file = trace.file.clone();
+    let (head, row) = trace.heads();
     match rng.below(6) {
-        0 => file.truncate(file.len() - rng.below(40).min(file.len() - 16)),
-        1 => file.extend(vec![0; rng.within(1, 23)]),
+        0 => file.truncate(file.len() - rng.below(40).min(file.len() - head)),
+        1 => file.extend(vec![0; rng.within(1, row - 1)]),
         2 => {
-            file.extend([0, 0, 1, 0, 0, 0, 0, 9]);
+            let pcap = trace.form.map(|form| [7, 7, 9].map(|number| form.bytes(number)).concat());
+            file.extend(pcap.unwrap_or(vec![0, 0, 1, 0, 0, 0, 0, 9]));
             file.extend(vec![0xFF; rng.below(25)]);
         }
         _ => (),
@@ -201,8 +216,8 @@ pub fn ended(rng: &mut Rng, trace: &Trace) -> Vec<u8> {
 }
 
 /// A header and then bytes that are mostly zeros, so that many make records.
-pub fn scattered(rng: &mut Rng) -> Vec<u8> {
-    let mut file = Trace::new(rng.pick(&DATALINKS)).file;
+pub fn scattered(rng: &mut Rng, container: Container) -> Vec<u8> {
+    let mut file = Trace::any(rng, container).file;
     let zeros = rng.pick(&[50, 80, 95]);
     for _ in 0..rng.below(300) {
         let byte = rng.pick(&[1, 2, 3, 4, 5, 8, 0x10, 0x20, 0x40, 0xFF]);
@@ -304,8 +319,11 @@ impl Mixture {
                 self.packet(rng, link, missing, &whole);
             }
             Step::Dropped(by) => {
-                self.known.dropped += u64::from(by);
-                self.known.dropped_at.push(at);
+                // A pcap record has no count.
+                if self.trace.form.is_none() {
+                    self.known.dropped += u64::from(by);
+                    self.known.dropped_at.push(at);
+                }
                 self.drops += by;
                 self.packet(rng, link, 0, &whole);
             }
@@ -320,7 +338,7 @@ impl Mixture {
                     self.known.skipped.push(at);
                 }
                 self.drops = 0;
-                self.trace.row(0, 0, 0, 0, &[]);
+                self.trace.zeros();
             }
             Step::Stray => {
                 self.known.stray.push(at);
@@ -344,7 +362,7 @@ impl Mixture {
 }
 
 /// A trace with each sign so often as `times` says, among records without any, and the signs.
-pub fn mixture(rng: &mut Rng, datalink: u32, times: [usize; SIGNS.len()]) -> (Trace, Found) {
+pub fn mixture(rng: &mut Rng, trace: Trace, times: [usize; SIGNS.len()]) -> (Trace, Found) {
     let mut queues: Vec<VecDeque<Step>> = Vec::new();
     for (sign, &times) in times.iter().enumerate() {
         queues.extend((0..times).map(|_| steps(rng, sign).into()));
@@ -354,8 +372,8 @@ pub fn mixture(rng: &mut Rng, datalink: u32, times: [usize; SIGNS.len()]) -> (Tr
             queues.push(neutral.to_vec().into());
         }
     }
-    let adapters = trace::adapters(rng, datalink);
-    let mut mixture = Mixture { trace: Trace::new(datalink), adapters, drops: 0, known: Found::default() };
+    let adapters = trace::adapters(rng, trace.datalink);
+    let mut mixture = Mixture { trace, adapters, drops: 0, known: Found::default() };
     loop {
         let left: Vec<usize> = (0..queues.len()).filter(|i| !queues[*i].is_empty()).collect();
         if left.is_empty() {

@@ -4,7 +4,9 @@ mod adapters;
 mod answer;
 mod bench;
 mod codec;
+mod containers;
 mod deep;
+mod editcap;
 mod expected;
 mod gaps;
 mod hard;
@@ -12,12 +14,14 @@ mod honest;
 mod import;
 mod items;
 mod lacking;
+mod misfiled;
 mod misprint;
 mod misread;
 mod mistaken;
 mod model;
 mod names;
 mod order;
+mod pcap;
 mod plan;
 mod planted;
 mod proved;
@@ -33,7 +37,7 @@ mod vectors;
 
 use std::process::ExitCode;
 
-use answer::{Checked, Difference, Lender, Subject, NUMBERS};
+use answer::{Checked, Container, Difference, Lender, Subject, NUMBERS};
 
 const USAGE: &str = "\
 usage: compare GROUP [--seed N] [--size N] [--against proved|model]
@@ -43,19 +47,22 @@ usage: compare GROUP [--seed N] [--size N] [--against proved|model]
        compare bench GROUP|growth|adapters [--only TEXT] [--kib N,N,..] [--judge] [--against proved|model]
        compare once LABEL KIB [--times N] [--against proved|model]
        compare sample GROUP FILE
-       compare stats import|honest|bench [--seed N] [--size N]
+       compare stats import|pcap|honest|bench [--seed N] [--size N]
 
-GROUP is codec, names, plan, order, import, tolerant, gaps or vectors. --size is the
-number of random cases; what is exhaustive stays whole. `all` runs every group that
-this build links. There is no sample of gaps, and neither sample nor bench of vectors.
+GROUP is codec, names, plan, order, import, tolerant, gaps, pcap or vectors. --size is
+the number of random cases; what is exhaustive stays whole. `all` runs every group that
+this build links. There is no sample of gaps and pcap, and neither sample nor bench of
+vectors.
 PROGRAM is the built traceprint.
 
 `bench` times the rows of a group, `bench growth` how the times of import grow,
 `bench gaps` how long the signs take as a part of import, `bench adapters` one handle
-on many adapters against as many links that are spread over handles.
+on many adapters against as many links that are spread over handles, `bench pcap` the
+same packets in pcap and in btsnoop.
 --only takes the rows whose label has TEXT, --kib the sizes of the files of import
 (16 to 1024), and --judge says at the end which rows are over their limit. `once`
-imports the trace of a row --times times and does nothing else.";
+imports the trace of a row --times times and does nothing else; as pcap, if LABEL
+begins with that word.";
 
 /// What the command line says besides the command.
 pub struct Options {
@@ -121,7 +128,7 @@ fn cases(counts: &[u64]) -> String {
 
 pub type Group = fn(&dyn Subject, &Options) -> Checked;
 
-const GROUPS: [(&str, Group); 8] = [
+const GROUPS: [(&str, Group); 9] = [
     ("codec", codec::run),
     ("names", names::run),
     ("plan", plan::run),
@@ -129,6 +136,7 @@ const GROUPS: [(&str, Group); 8] = [
     ("import", import::run),
     ("tolerant", tolerant::run),
     ("gaps", signs::run),
+    ("pcap", containers::run),
     ("vectors", vectors::run),
 ];
 
@@ -236,13 +244,14 @@ fn run() -> Result<bool, String> {
             let calls: &[&str] = match group {
                 "growth" => &["import"],
                 "adapters" => &["import", "gaps"],
+                "pcap" => &["import", "pcap"],
                 _ => &[group],
             };
             calls.iter().try_for_each(|call| need(call))?;
             bench::run(group, subject, &options).map(verdict).ok_or_else(|| USAGE.into())
         }
         ["once", label, kib] => {
-            need("import")?;
+            need(if label.starts_with("pcap ") { "pcap" } else { "import" })?;
             bench::once(label, size(kib)?, subject, &options).map(|()| true)
         }
         ["sample", group, path] => {
@@ -251,8 +260,8 @@ fn run() -> Result<bool, String> {
             println!("sample: {group}: {cases} cases, {} bytes", bytes.len());
             Ok(true)
         }
-        ["stats", "import"] => {
-            stats::import(&options);
+        ["stats", group @ ("import" | "pcap")] => {
+            stats::import(&options, if group == "pcap" { Container::Pcap } else { Container::Btsnoop });
             Ok(true)
         }
         ["stats", "honest"] => Ok(verdict(tolerant::check_makers(&options))),

@@ -5,9 +5,10 @@
 
 use std::collections::BTreeMap;
 
-use crate::answer::{self, Answer, Subject, NO_CHANNEL};
+use crate::answer::{self, chosen, container, Answer, Container, Subject, NO_CHANNEL};
 use crate::expected::{LONGEST_FILE, LONGEST_PAYLOAD};
 use crate::gaps;
+use crate::pcap;
 use oracle::capture;
 use oracle::mdr::DataType;
 
@@ -82,16 +83,52 @@ impl Subject for Model {
         tolerant: u32,
         values: &mut [u64],
     ) -> u32 {
-        let answer = import_in(file, work.len(), stretches.len(), channel, tolerant != 0);
+        let options = [u64::from(channel), u64::from(tolerant)];
+        self.import_stretches_with(file, work, stretches, out, &options, values)
+    }
+
+    fn import_with(&self, file: &[u8], work: &mut [u8], out: &mut [u8], options: &[u64], values: &mut [u64]) -> u32 {
+        store(&import_with(file, work.len(), options, RIGHT), out, values)
+    }
+
+    fn import_stretches_with(
+        &self,
+        file: &[u8],
+        work: &mut [u8],
+        stretches: &mut [answer::Stretch],
+        out: &mut [u8],
+        options: &[u64],
+        values: &mut [u64],
+    ) -> u32 {
+        let answer = if lacks_places(file.len(), stretches.len()) {
+            Answer::refused(2, &[])
+        } else {
+            import_with(file, work.len(), options, RIGHT)
+        };
         let number = store(&answer, out, values);
         if number == 0 {
-            fill(stretches, &open(file, answer.values[0], RIGHT));
+            fill(stretches, &open(container(options), file, answer.values[0], RIGHT));
         }
         number
     }
 
+    fn records(&self, file: &[u8], starts: &mut [u64], values: &mut [u64]) -> u32 {
+        self.records_with(file, starts, &[], values)
+    }
+
+    fn records_with(&self, file: &[u8], starts: &mut [u64], options: &[u64], values: &mut [u64]) -> u32 {
+        let (answer, found) = records_with(container(options), file, pcap::RIGHT);
+        starts.iter_mut().zip(found).for_each(|(place, start)| *place = start);
+        store(&answer, &mut [], values)
+    }
+
     fn gaps(&self, file: &[u8], work: &mut [u8], tolerant: u32, values: &mut [u64]) -> u32 {
-        store(&gaps::answer(file, work.len(), tolerant != 0, gaps::RIGHT), &mut [], values)
+        self.gaps_with(file, work, &[0, u64::from(tolerant)], values)
+    }
+
+    fn gaps_with(&self, file: &[u8], work: &mut [u8], options: &[u64], values: &mut [u64]) -> u32 {
+        let answer = gaps::answer_in(container(options), file, work.len(), chosen(options).1, gaps::RIGHT);
+        store(&answer, &mut [], values)
     }
 }
 
@@ -124,6 +161,8 @@ pub struct Reading {
     /// A start discards nothing of another adapter.
     pub start_apart: bool,
     pub keys: Keys,
+    /// How pcap files are read.
+    pub pcap: pcap::Reading,
 }
 
 /// What of a link is looked at, wherever import keys on it.
@@ -165,6 +204,7 @@ pub const RIGHT: Reading = Reading {
     every_adapter: true,
     start_apart: true,
     keys: BY_LINK,
+    pcap: pcap::RIGHT,
 };
 
 // MDR frames.
@@ -463,22 +503,41 @@ fn fragment(packet: &[u8]) -> Option<(u16, u16, &[u8])> {
     Some((field % 4096, field / 4096 % 4, packet.get(4..4 + usize::from(length))?))
 }
 
-/// How many packets start a PDU.
-pub fn starts(datalink: u64, rows: &[&[u8]]) -> usize {
-    let fragments = rows.iter().filter_map(|row| packet(datalink, row)).filter_map(|(_, _, _, bytes)| fragment(bytes));
-    fragments.filter(|(_, flag, _)| *flag != 1).count()
-}
-
 /// A packet all of whose fields are there.
-struct Packet<'a> {
+pub struct Packet<'a> {
     ms: u64,
     way: Way,
     link: u32,
-    start: bool,
+    pub start: bool,
     data: &'a [u8],
 }
 
-fn packets<'a>(datalink: u64, rows: &[&'a [u8]], reading: Reading) -> Vec<Packet<'a>> {
+/// The packets of a file with a good header, and where its whole records end.
+pub fn packets(container: Container, file: &[u8], reading: Reading) -> (Vec<Packet<'_>>, usize) {
+    match container {
+        Container::Btsnoop => {
+            let (rows, taken) = records(&file[16..]);
+            (of_btsnoop(be(&file[12..16]), &rows, reading), 16 + taken)
+        }
+        Container::Pcap => {
+            let (records, tail) = pcap::read(file, reading.pcap);
+            (of_pcap(&records), tail)
+        }
+    }
+}
+
+/// A pcap file has one adapter.
+fn of_pcap<'a>(records: &[pcap::Record<'a>]) -> Vec<Packet<'a>> {
+    let mut packets = Vec::new();
+    for record in records {
+        let (Some(way), Some(bytes)) = (record.received, record.acl) else { continue };
+        let Some((handle, flag, data)) = fragment(bytes) else { continue };
+        packets.push(Packet { ms: record.ms, way, link: u32::from(handle), start: flag != 1, data });
+    }
+    packets
+}
+
+fn of_btsnoop<'a>(datalink: u64, rows: &[&'a [u8]], reading: Reading) -> Vec<Packet<'a>> {
     let mut first = None;
     let mut packets = Vec::new();
     for row in rows {
@@ -493,10 +552,10 @@ fn packets<'a>(datalink: u64, rows: &[&'a [u8]], reading: Reading) -> Vec<Packet
     packets
 }
 
-pub fn pdus(datalink: u64, rows: &[&[u8]], reading: Reading) -> Vec<Pdu> {
+pub fn pdus(packets: &[Packet], reading: Reading) -> Vec<Pdu> {
     let mut open: BTreeMap<(u32, Way), (u64, Vec<u8>)> = BTreeMap::new();
     let mut pdus = Vec::new();
-    for Packet { ms, way, link, start, data } in packets(datalink, rows, reading) {
+    for &Packet { ms, way, link, start, data } in packets {
         let key = ((reading.keys.open)(link), way);
         let before = open.remove(&key);
         if start && !reading.start_apart {
@@ -682,8 +741,8 @@ fn buffers(pieces: &[&Piece], reading: Reading) -> (Spans, BTreeMap<(Stretch, Wa
 
 /// The stretches of a DLCI that are open at the end of a file with a good header, in the
 /// order of their first pieces.
-pub fn open(file: &[u8], dlci: u64, reading: Reading) -> Vec<answer::Stretch> {
-    let pieces = pieces(&pdus(be(&file[12..16]), &records(&file[16..]).0, reading), reading);
+pub fn open(container: Container, file: &[u8], dlci: u64, reading: Reading) -> Vec<answer::Stretch> {
+    let pieces = pieces(&pdus(&packets(container, file, reading).0, reading), reading);
     let own: Vec<&Piece> = pieces.iter().filter(|p| u64::from(p.dlci) == dlci).collect();
     let mut buffers = buffers(&own, reading).1;
     // the first piece of a key takes its buffer out
@@ -703,12 +762,9 @@ pub fn fill(places: &mut [answer::Stretch], stretches: &[answer::Stretch]) {
     }
 }
 
-/// Import where a list of stretches of so many places is lent.
-pub fn import_in(file: &[u8], work: usize, places: usize, channel: u32, tolerant: bool) -> Answer {
-    if file.len() <= LONGEST_FILE && places < file.len() / 24 {
-        return Answer::refused(2, &[]);
-    }
-    import(file, work, channel, tolerant, RIGHT)
+/// Whether a list of stretches has fewer places than a file of this length wants. One that is too long is refused before.
+pub fn lacks_places(length: usize, places: usize) -> bool {
+    length <= LONGEST_FILE && places < length / 24
 }
 
 /// The DLCIs of pieces in the order of their first.
@@ -723,7 +779,10 @@ pub fn dlcis(pieces: &[Piece]) -> Vec<u8> {
 }
 
 /// The refusals of a file that come before its packets are looked at.
-pub fn refusal(file: &[u8], work: usize, tolerant: bool) -> Option<Answer> {
+pub fn refusal(container: Container, file: &[u8], work: usize, tolerant: bool, reading: Reading) -> Option<Answer> {
+    if container == Container::Pcap {
+        return pcap::refusal(file, work, tolerant, reading.pcap);
+    }
     if file.len() > LONGEST_FILE {
         return Some(Answer::refused(1, &[]));
     }
@@ -741,14 +800,52 @@ pub fn refusal(file: &[u8], work: usize, tolerant: bool) -> Option<Answer> {
     (!tolerant && tail < file.len()).then(|| Answer::refused(5, &[tail as u64]))
 }
 
+/// How many records a file has and where they end, and where they start. Work is not asked for.
+pub fn records_with(container: Container, file: &[u8], reading: pcap::Reading) -> (Answer, Vec<u64>) {
+    if let Some(refusal) = refusal(container, file, usize::MAX, true, Reading { pcap: reading, ..RIGHT }) {
+        return (refusal, Vec::new());
+    }
+    let (starts, tail) = match container {
+        Container::Btsnoop => {
+            let (rows, taken) = records(&file[16..]);
+            let mut at = 16;
+            let starts = rows.iter().map(|row| {
+                at += row.len() as u64;
+                at - row.len() as u64
+            });
+            (starts.collect::<Vec<u64>>(), 16 + taken)
+        }
+        Container::Pcap => {
+            let (records, tail) = pcap::read(file, reading);
+            (records.iter().map(|record| (reading.offset)(record.at) as u64).collect(), (reading.offset)(tail))
+        }
+    };
+    (Answer::done(&[starts.len() as u64, tail as u64], Vec::new()), starts)
+}
+
+/// Import of a btsnoop file.
 pub fn import(file: &[u8], work: usize, channel: u32, tolerant: bool, reading: Reading) -> Answer {
-    if let Some(refusal) = refusal(file, work, tolerant) {
+    import_from(Container::Btsnoop, file, work, (channel, tolerant), reading)
+}
+
+/// Import by a list of options.
+pub fn import_with(file: &[u8], work: usize, options: &[u64], reading: Reading) -> Answer {
+    import_from(container(options), file, work, chosen(options), reading)
+}
+
+pub fn import_from(
+    container: Container,
+    file: &[u8],
+    work: usize,
+    (channel, tolerant): (u32, bool),
+    reading: Reading,
+) -> Answer {
+    if let Some(refusal) = refusal(container, file, work, tolerant, reading) {
         return refusal;
     }
-    let datalink = be(&file[12..16]);
-    let (rows, taken) = records(&file[16..]);
-    let tail = 16 + taken;
-    let pieces = pieces(&pdus(datalink, &rows, reading), reading);
+    let (packets, tail) = packets(container, file, reading);
+    let tail = if container == Container::Pcap { (reading.pcap.offset)(tail) } else { tail };
+    let pieces = pieces(&pdus(&packets, reading), reading);
     for dlci in dlcis(&pieces) {
         if channel != NO_CHANNEL && channel != u32::from(dlci / 2) {
             continue;

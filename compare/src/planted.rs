@@ -1,12 +1,13 @@
 //! Wrong answers planted on purpose: each must be reported, or the comparison could
 //! not fail.
 
-use crate::answer::{chosen, Answer, Stretch, Subject, NO_CHANNEL};
+use crate::answer::{chosen, Answer, Container, Stretch, Subject, NO_CHANNEL};
 use crate::expected::LONGEST_FILE;
+use crate::misfiled::{self, Misfiled};
 use crate::misread::{self, Misread};
 use crate::mistaken::{self, RANDOM};
 use crate::model::{self, Reading, RIGHT};
-use crate::{import, signs, tolerant, Group, Options};
+use crate::{containers, import, signs, tolerant, Group, Options};
 
 /// The model with some of its calls replaced.
 #[derive(Clone, Copy)]
@@ -34,6 +35,8 @@ struct Planted {
     /// Changes work in the call with options, whatever the answer.
     spoils_with: bool,
     gaps: Misread,
+    /// The calls that take a container.
+    misfiled: Misfiled,
 }
 
 fn read(file: &[u8], work: usize, channel: u32, tolerant: bool, reading: Reading) -> Answer {
@@ -60,13 +63,11 @@ const NONE: Planted = Planted {
             model::fill(places, open);
         }
     },
-    import_with: |reading, file, work, options| {
-        let (channel, tolerant) = chosen(options);
-        read(file, work, channel, tolerant, reading)
-    },
+    import_with: |reading, file, work, options| model::import_with(file, work, options, reading),
     store_with: model::store,
     spoils_with: false,
     gaps: misread::NONE,
+    misfiled: misfiled::NONE,
 };
 
 fn by_options(file: &[u8], work: usize, (channel, tolerant): (u32, bool)) -> Answer {
@@ -146,8 +147,8 @@ impl Subject for Planted {
     ) -> u32 {
         let answer = (self.import_in)(self, file, work.len(), stretches.len(), channel, tolerant != 0);
         let number = (self.store)(&answer, out, values);
-        let open = if number == 0 { model::open(file, answer.values[0], self.reading) } else { Vec::new() };
-        (self.fill)(number, stretches, &open);
+        let open = || model::open(Container::Btsnoop, file, answer.values[0], self.reading);
+        (self.fill)(number, stretches, &if number == 0 { open() } else { Vec::new() });
         number
     }
 
@@ -155,7 +156,32 @@ impl Subject for Planted {
         if self.spoils_with && !work.is_empty() {
             work[work.len() / 2] ^= 0xFF;
         }
+        let options = &(self.misfiled.options)(file, options)[..];
         (self.store_with)(&(self.import_with)(self.reading, file, work.len(), options), out, values)
+    }
+
+    fn import_stretches_with(
+        &self,
+        file: &[u8],
+        work: &mut [u8],
+        stretches: &mut [Stretch],
+        out: &mut [u8],
+        options: &[u64],
+        values: &mut [u64],
+    ) -> u32 {
+        self.misfiled.import_stretches(self.reading, file, work, stretches, out, options, values)
+    }
+
+    fn records(&self, file: &[u8], starts: &mut [u64], values: &mut [u64]) -> u32 {
+        self.misfiled.records_alone(file, starts, values)
+    }
+
+    fn records_with(&self, file: &[u8], starts: &mut [u64], options: &[u64], values: &mut [u64]) -> u32 {
+        self.misfiled.records(file, starts, options, values)
+    }
+
+    fn gaps_with(&self, file: &[u8], work: &mut [u8], options: &[u64], values: &mut [u64]) -> u32 {
+        self.misfiled.gaps(file, work, options, values)
     }
 
     fn gaps(&self, file: &[u8], work: &mut [u8], tolerant: u32, values: &mut [u64]) -> u32 {
@@ -181,12 +207,14 @@ const FIXED: &str = "import, fixed traces";
 const FRAGMENTS: &str = "import, every three fragments of two PDUs";
 const CID_1: &str = "import, every four PDUs on CID 1";
 const STRICT: &str = "tolerant, switched to strict";
-const PARTS: [(&str, Group); 15] = [
+const LARGE: &str = "import, long files";
+const PARTS: [(&str, Group); 27] = [
     (RANDOM, import::run_random),
     (FIXED, import::run_fixed),
     (FRAGMENTS, import::run_excess),
     (CID_1, import::run_doubled),
     (STRICT, tolerant::run_strict),
+    (LARGE, import::run_large),
     (mistaken::BY_HAND, import::run_by_hand),
     (mistaken::STEPS, import::run_steps),
     (mistaken::HONEST, tolerant::run_honest),
@@ -197,6 +225,17 @@ const PARTS: [(&str, Group); 15] = [
     (misread::FOUR, signs::run_fragments),
     (misread::LONG, signs::run_long),
     (misread::LAW, signs::run_law),
+    (misfiled::BY_HAND, containers::run_by_hand),
+    (misfiled::RANDOM, containers::run_random),
+    (misfiled::DAMAGED, containers::run_damaged),
+    (misfiled::HONEST, containers::run_honest),
+    (misfiled::SHORT, containers::run_short),
+    (misfiled::MOST, containers::run_most),
+    (misfiled::LONG, containers::run_long),
+    (misfiled::LOSSES, containers::run_losses),
+    (misfiled::TWINS, containers::run_twins),
+    (misfiled::LAW, containers::run_law),
+    (misfiled::OTHERS, containers::run_others),
 ];
 
 const EXCESS: Planted = Planted { reading: Reading { excess_dropped: false, ..RIGHT }, ..NONE };
@@ -603,6 +642,17 @@ fn faults() -> Vec<(&'static str, &'static str, Planted)> {
             "work one byte short is enough",
             Planted { import: |_, f, w, c, t| read(f, w + 1, c, t, RIGHT), ..NONE },
         ),
+        (
+            LARGE,
+            "2 before 1",
+            Planted {
+                import: |reading, f, w, c, t| match w < 8 * f.len() {
+                    true => Answer::refused(2, &[]),
+                    false => read(f, w, c, t, reading),
+                },
+                ..NONE
+            },
+        ),
         ("import", "work is touched by a refusal", Planted { spoils: true, ..NONE }),
         (
             "import",
@@ -821,7 +871,7 @@ fn faults_of_options() -> Vec<(&'static str, &'static str, Planted)> {
         (
             "tolerant",
             "options: of more than there are, none counts",
-            Planted { import_with: |_, f, w, o| by_options(f, w, chosen(if o.len() > 2 { &[] } else { o })), ..NONE },
+            Planted { import_with: |_, f, w, o| by_options(f, w, chosen(if o.len() > 3 { &[] } else { o })), ..NONE },
         ),
         (
             "tolerant",
@@ -924,6 +974,119 @@ fn faults_of_options() -> Vec<(&'static str, &'static str, Planted)> {
     ]
 }
 
+/// Faults of the call with options on pcap files: in its refusals and their order, and in what is answered and lent.
+fn faults_of_pcap() -> Vec<(&'static str, &'static str, Planted)> {
+    const HAND: &str = misfiled::BY_HAND;
+    let calls = |import_with| Planted { import_with, ..NONE };
+    let stores = |store_with| Planted { store_with, ..NONE };
+    vec![
+        (HAND, "pcap: work one byte short is enough", calls(|r, f, w, o| model::import_with(f, w + 1, o, r))),
+        (HAND, "pcap: 21 before 2", calls(|r, f, w, o| judged_first(r, f, w, o, &[21]))),
+        (HAND, "pcap: 22 before 2", calls(|r, f, w, o| judged_first(r, f, w, o, &[22]))),
+        (HAND, "pcap: 5 before 2", calls(|r, f, w, o| judged_first(r, f, w, o, &[5]))),
+        (
+            misfiled::LONG,
+            "pcap: 2 before 1",
+            calls(|r, f, w, o| match w < 8 * f.len() {
+                true => Answer::refused(2, &[]),
+                false => model::import_with(f, w, o, r),
+            }),
+        ),
+        (
+            misfiled::LONG,
+            "pcap: one byte more is taken",
+            calls(|r, f, w, o| model::import_with(f.get(..LONGEST_FILE).unwrap_or(f), w, o, r)),
+        ),
+        (
+            HAND,
+            "pcap: 5 before 22",
+            calls(|r, f, w, o| {
+                let answer = model::import_with(f, w, o, r);
+                let tail = crate::pcap::read(f, r.pcap).1;
+                match answer.number == 22 && !chosen(o).1 && tail < f.len() {
+                    true => Answer::refused(5, &[tail as u64]),
+                    false => answer,
+                }
+            }),
+        ),
+        (HAND, "pcap: 21 is told as 3", calls(|r, f, w, o| of_pcap(r, f, w, o, 21, |a, _| a.number = 3))),
+        (HAND, "pcap: 22 is told as 4", calls(|r, f, w, o| of_pcap(r, f, w, o, 22, |a, _| a.number = 4))),
+        (HAND, "pcap: 22 carries nothing", calls(|r, f, w, o| of_pcap(r, f, w, o, 22, |a, _| a.values.clear()))),
+        (HAND, "pcap: 21 carries a number", calls(|r, f, w, o| of_pcap(r, f, w, o, 21, |a, _| a.values.push(0)))),
+        (HAND, "pcap: 5 carries nothing", calls(|r, f, w, o| of_pcap(r, f, w, o, 5, |a, _| a.values.clear()))),
+        (
+            HAND,
+            "pcap: 5 carries the file's length",
+            calls(|r, f, w, o| of_pcap(r, f, w, o, 5, |a, f| a.values[0] = f.len() as u64)),
+        ),
+        (
+            misfiled::HONEST,
+            "pcap: the tail offset is the file's length",
+            calls(|r, f, w, o| of_pcap(r, f, w, o, 0, |a, f| a.values[3] = f.len() as u64)),
+        ),
+        (
+            misfiled::HONEST,
+            "pcap: unfinished is invented",
+            calls(|r, f, w, o| of_pcap(r, f, w, o, 0, |a, _| a.values[2] = 0)),
+        ),
+        (HAND, "pcap: 6 is told as 5", calls(|r, f, w, o| of_pcap(r, f, w, o, 6, |a, _| a.number = 5))),
+        (
+            misfiled::RANDOM,
+            "pcap: the channel is not looked at",
+            calls(|r, f, w, o| {
+                let any = [&[u64::from(NO_CHANNEL)], &o[1..]].concat();
+                model::import_with(f, w, &any, r)
+            }),
+        ),
+        (
+            HAND,
+            "pcap: 7 carries what is lent",
+            stores(|answer, out, values| {
+                let short = Answer::refused(7, &[out.len() as u64]);
+                let fits = answer.written.len() <= out.len();
+                model::store(if fits { answer } else { &short }, out, values)
+            }),
+        ),
+        (
+            HAND,
+            "pcap: a refusal writes",
+            stores(|answer, out, values| {
+                let number = model::store(answer, out, values);
+                if let (Some(first), true) = (out.first_mut(), number != 0) {
+                    *first ^= 1;
+                }
+                number
+            }),
+        ),
+        (HAND, "pcap: work is touched by a refusal", Planted { spoils_with: true, ..NONE }),
+    ]
+}
+
+/// The answer of the call with options, changed if it has this number.
+fn of_pcap(
+    reading: Reading,
+    file: &[u8],
+    work: usize,
+    options: &[u64],
+    number: u32,
+    change: fn(&mut Answer, &[u8]),
+) -> Answer {
+    let mut answer = model::import_with(file, work, options, reading);
+    if answer.number == number {
+        change(&mut answer, file);
+    }
+    answer
+}
+
+/// The same with these refusals before that of work.
+fn judged_first(reading: Reading, file: &[u8], work: usize, options: &[u64], first: &[u32]) -> Answer {
+    let enough = model::import_with(file, usize::MAX, options, reading);
+    match first.contains(&enough.number) {
+        true => enough,
+        false => model::import_with(file, work, options, reading),
+    }
+}
+
 /// The answer of import by options, changed if it has this number.
 fn numbered(file: &[u8], work: usize, options: &[u64], number: u32, change: fn(&mut Answer, &[u8])) -> Answer {
     let mut answer = by_options(file, work, chosen(options));
@@ -941,12 +1104,16 @@ pub fn reported_without(groups: &[(&'static str, Group)], options: &Options) -> 
 
 /// All faults.
 fn all() -> Vec<(&'static str, String, Planted)> {
-    let labelled = [faults(), faults_of_options()].concat().into_iter();
+    let labelled = [faults(), faults_of_options(), faults_of_pcap()].concat().into_iter();
     let mut all: Vec<_> = labelled.map(|(group, label, planted)| (group, label.to_string(), planted)).collect();
     let mistaken = mistaken::faults().into_iter();
     all.extend(mistaken.map(|(group, label, reading)| (group, label, Planted { reading, ..NONE })));
     let misread = misread::faults().into_iter();
     all.extend(misread.map(|(group, label, gaps)| (group, label, Planted { gaps, ..NONE })));
+    let importers = misfiled::importers().into_iter();
+    all.extend(importers.map(|(group, label, reading)| (group, label, Planted { reading, ..NONE })));
+    let misfiled = misfiled::faults().into_iter();
+    all.extend(misfiled.map(|(group, label, misfiled)| (group, label, Planted { misfiled, ..NONE })));
     all
 }
 

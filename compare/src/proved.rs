@@ -21,6 +21,7 @@ pub fn has(group: &str) -> bool {
         ("tolerant", cfg!(feature = "tolerant")),
         ("stretches", cfg!(feature = "stretches")),
         ("gaps", cfg!(feature = "gaps")),
+        ("pcap", cfg!(feature = "pcap")),
         // What the cases call.
         ("vectors", cfg!(all(feature = "import", feature = "tolerant"))),
     ];
@@ -71,6 +72,17 @@ call!("stretches", lumbryth_import_stretches(
 call!("gaps", lumbryth_gaps(
     file: *const u8, file_len: usize, work: *mut u8, work_len: usize, tolerant: u32, values: *mut u64,
     values_len: usize));
+call!("pcap", lumbryth_import_stretches_with(
+    file: *const u8, file_len: usize, work: *mut u8, work_len: usize, stretches: *mut Stretch, stretches_len: usize,
+    out: *mut u8, out_len: usize, options: *const u64, options_len: usize, values: *mut u64, values_len: usize));
+call!("pcap", lumbryth_records(
+    file: *const u8, file_len: usize, starts: *mut u64, starts_len: usize, values: *mut u64, values_len: usize));
+call!("pcap", lumbryth_records_with(
+    file: *const u8, file_len: usize, starts: *mut u64, starts_len: usize, options: *const u64, options_len: usize,
+    values: *mut u64, values_len: usize));
+call!("pcap", lumbryth_gaps_with(
+    file: *const u8, file_len: usize, work: *mut u8, work_len: usize, options: *const u64, options_len: usize,
+    values: *mut u64, values_len: usize));
 
 // Safety, of each call: the pointers and lengths are those of slices that live
 // through it, and the slices written do not overlap any other.
@@ -252,7 +264,81 @@ impl Subject for Proved {
         }
     }
 
+    fn import_stretches_with(
+        &self,
+        file: &[u8],
+        work: &mut [u8],
+        stretches: &mut [Stretch],
+        out: &mut [u8],
+        options: &[u64],
+        values: &mut [u64],
+    ) -> u32 {
+        unsafe {
+            lumbryth_import_stretches_with(
+                file.as_ptr(),
+                file.len(),
+                work.as_mut_ptr(),
+                work.len(),
+                stretches.as_mut_ptr(),
+                stretches.len(),
+                out.as_mut_ptr(),
+                out.len(),
+                options.as_ptr(),
+                options.len(),
+                values.as_mut_ptr(),
+                values.len(),
+            )
+        }
+    }
+
+    fn records(&self, file: &[u8], starts: &mut [u64], values: &mut [u64]) -> u32 {
+        unsafe {
+            lumbryth_records(
+                file.as_ptr(),
+                file.len(),
+                starts.as_mut_ptr(),
+                starts.len(),
+                values.as_mut_ptr(),
+                values.len(),
+            )
+        }
+    }
+
+    fn records_with(&self, file: &[u8], starts: &mut [u64], options: &[u64], values: &mut [u64]) -> u32 {
+        unsafe {
+            lumbryth_records_with(
+                file.as_ptr(),
+                file.len(),
+                starts.as_mut_ptr(),
+                starts.len(),
+                options.as_ptr(),
+                options.len(),
+                values.as_mut_ptr(),
+                values.len(),
+            )
+        }
+    }
+
+    fn gaps_with(&self, file: &[u8], work: &mut [u8], options: &[u64], values: &mut [u64]) -> u32 {
+        unsafe {
+            lumbryth_gaps_with(
+                file.as_ptr(),
+                file.len(),
+                work.as_mut_ptr(),
+                work.len(),
+                options.as_ptr(),
+                options.len(),
+                values.as_mut_ptr(),
+                values.len(),
+            )
+        }
+    }
+
     fn has_stretches(&self) -> bool {
         has("stretches")
+    }
+
+    fn takes_container(&self) -> bool {
+        has("pcap")
     }
 }

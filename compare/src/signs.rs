@@ -3,7 +3,7 @@
 use std::collections::BTreeSet;
 
 use crate::adapters;
-use crate::answer::{Answer, Case, Checked, Difference, Lender, Subject, NO_CHANNEL};
+use crate::answer::{Answer, Case, Checked, Container, Difference, Lender, Subject, NO_CHANNEL, NUMBERS};
 use crate::codec::each_string;
 use crate::expected::{self, LONGEST_FILE};
 use crate::gaps::{self, Found, RIGHT, SIGNS, VALUES};
@@ -11,6 +11,7 @@ use crate::hard;
 use crate::import::{self, Taker};
 use crate::lacking::{self, typed};
 use crate::model;
+use crate::pcap::LINK;
 use crate::rng::Rng;
 use crate::trace::{self, acl_packet, Trace, DATALINKS};
 use crate::{tolerant, Options};
@@ -37,11 +38,11 @@ impl Tally {
         self.mixtures.insert(places.map(|places| !places.is_empty()));
     }
 
-    fn print(&self) {
+    fn print(&self, group: &str) {
         let signs = SIGNS.iter().zip(self.came).zip(self.more);
         let signs: Vec<String> = signs.map(|((sign, came), more)| format!("{sign} {came} ({more})")).collect();
         println!(
-            "gaps: {} files with a good header; with a sign (at more than one place): {}; {} of 128 mixtures",
+            "{group}: {} files with a good header; with a sign (at more than one place): {}; {} of 128 mixtures",
             self.files,
             signs.join(", "),
             self.mixtures.len()
@@ -51,6 +52,9 @@ impl Tally {
 
 pub struct Gaps<'a> {
     subject: &'a dyn Subject,
+    container: Container,
+    /// Whether the call is by a list of options, which may have a container in it.
+    takes_container: bool,
     lender: Lender,
     files: usize,
     /// What work is filled with, from another place each time.
@@ -67,19 +71,36 @@ const TURNS: usize = 251;
 impl<'a> Gaps<'a> {
     pub fn new(subject: &'a dyn Subject) -> Gaps<'a> {
         let noise = Rng::new(1).bytes(8 * (LONGEST_FILE + 1) + 64 + 2 * GUARD + 8 + TURNS);
-        Gaps { subject, lender: Lender::default(), files: 0, noise, work: Vec::new(), tally: Tally::default() }
+        let (lender, work, tally) = (Lender::default(), Vec::new(), Tally::default());
+        Gaps { subject, container: Container::Btsnoop, takes_container: false, lender, files: 0, noise, work, tally }
+    }
+
+    /// Files of a container, by the call that takes one.
+    pub fn by_container(subject: &'a dyn Subject, container: Container) -> Gaps<'a> {
+        Gaps { container, takes_container: true, ..Gaps::new(subject) }
+    }
+
+    /// How many calls were to be answered with each number.
+    pub fn answers(&self) -> &[u64; NUMBERS] {
+        &self.lender.answers
+    }
+
+    /// How often signs came, in words.
+    pub fn print(&self, group: &str) {
+        self.tally.print(group);
     }
 
     /// The file by both rules, with enough work; at times also with less.
-    fn once(&mut self, file: &[u8]) -> Checked {
+    pub fn once(&mut self, file: &[u8]) -> Checked {
         self.files += 1;
-        let found = model::refusal(file, usize::MAX, true).is_none().then(|| gaps::find(file, RIGHT));
+        let refused = model::refusal(self.container, file, usize::MAX, true, model::RIGHT).is_some();
+        let found = (!refused).then(|| gaps::find(self.container, file, RIGHT));
         if let Some(found) = &found {
             self.tally.add(found);
         }
         let n = file.len();
         for tolerant in [0, [1, 2, 1 << 31, u32::MAX][self.files % 4]] {
-            let expected = expected(file, tolerant != 0, found.as_ref());
+            let expected = self.expected(file, tolerant != 0, found.as_ref());
             self.call(file, 8 * n + [0, 0, 1, 64][self.files % 4], tolerant, &expected)?;
             let long = expected.number == 1;
             if (long || self.files.is_multiple_of(7)) && n > 0 {
@@ -92,6 +113,38 @@ impl<'a> Gaps<'a> {
         Ok(())
     }
 
+    /// The refusal of import by the oracle, or in a pcap file by the container; else the signs by their definitions.
+    fn expected(&self, file: &[u8], tolerant: bool, found: Option<&Found>) -> Answer {
+        let import = match (self.container, tolerant) {
+            (Container::Pcap, _) => {
+                let refusal = model::refusal(self.container, file, usize::MAX, tolerant, model::RIGHT);
+                refusal.unwrap_or(Answer::refused(6, &[]))
+            }
+            (_, true) => expected::import_tolerant(file, NO_CHANNEL),
+            (_, false) => expected::import_strict(file, NO_CHANNEL),
+        };
+        match (found, import.number) {
+            (Some(found), 0 | 6) => Answer::done(&found.values(RIGHT), Vec::new()),
+            _ => import,
+        }
+    }
+
+    /// The options of a call: the channel, which is not looked at, the rule and the container.
+    fn options(&self, tolerant: u32) -> Vec<u64> {
+        let (channel, tolerant) = ([256, 0, u64::MAX, 9][self.files % 4], u64::from(tolerant));
+        if self.container == Container::Pcap {
+            let pcap = [1, 2, u64::MAX, 1 << 32, 1 << 63][self.files % 5];
+            return [&[channel, tolerant, pcap], &[0, 1][..self.files % 3]].concat();
+        }
+        match self.files % 5 {
+            0 if tolerant == 0 => vec![],
+            1 if tolerant == 0 => vec![channel],
+            2 => vec![channel, tolerant, 0],
+            3 => vec![channel, tolerant, 0, 1, 2],
+            _ => vec![channel, tolerant],
+        }
+    }
+
     /// One call with so much work lent, full of noise. After refusals 1 and 2 it is as it was.
     fn call(&mut self, file: &[u8], lent: usize, tolerant: u32, expected: &Answer) -> Checked {
         let turn = self.files % TURNS;
@@ -100,13 +153,19 @@ impl<'a> Gaps<'a> {
         let noise = &self.noise[turn..turn + front + lent + GUARD];
         self.work.clear();
         self.work.extend(noise);
+        let options = self.options(tolerant);
         let work = &mut self.work[front..front + lent];
-        let case = || Case {
-            call: format!("gaps, tolerant {tolerant}, {lent} bytes of work"),
-            inputs: vec![("file", file.to_vec())],
+        let asked = match self.takes_container {
+            true => format!("gaps_with, options {options:?}"),
+            false => format!("gaps, tolerant {tolerant}"),
         };
+        let case = || Case { call: format!("{asked}, {lent} bytes of work"), inputs: vec![("file", file.to_vec())] };
         let room = room(self.lender.answers.iter().sum());
-        self.lender.call(expected, 0, room, &mut |_, values| self.subject.gaps(file, work, tolerant, values), &case)?;
+        let mut call = |_: &mut [u8], values: &mut [u64]| match self.takes_container {
+            true => self.subject.gaps_with(file, work, &options, values),
+            false => self.subject.gaps(file, work, tolerant, values),
+        };
+        self.lender.call(expected, 0, room, &mut call, &case)?;
         let used = if [1, 2].contains(&expected.number) { 0 } else { lent };
         let changed = |i: &usize| self.work[*i] != noise[*i];
         match (0..front).chain(front + used..noise.len()).find(changed) {
@@ -127,19 +186,7 @@ impl<'a> Gaps<'a> {
 
 impl Taker for Gaps<'_> {
     fn file(&mut self, file: &[u8], _: u32) -> Checked {
-        import::smallest(file, &mut |file| self.once(file))
-    }
-}
-
-/// The refusal of import by the oracle, else the signs by their definitions.
-fn expected(file: &[u8], tolerant: bool, found: Option<&Found>) -> Answer {
-    let import = match tolerant {
-        true => expected::import_tolerant(file, NO_CHANNEL),
-        false => expected::import_strict(file, NO_CHANNEL),
-    };
-    match (found, import.number) {
-        (Some(found), 0 | 6) => Answer::done(&found.values(RIGHT), Vec::new()),
-        _ => import,
+        import::smallest(self.container, file, &mut |file| self.once(file))
     }
 }
 
@@ -155,18 +202,18 @@ fn room(turn: u64) -> usize {
 
 // ---- made traces
 
-fn made(gaps: &mut Gaps, rng: &mut Rng, size: u64) -> Checked {
+pub fn made(gaps: &mut Gaps, rng: &mut Rng, size: u64) -> Checked {
     for i in 0..size {
-        let trace = lacking::made(rng, [6, 20, 60][i as usize % 3]);
+        let trace = lacking::made(rng, gaps.container, [6, 20, 60][i as usize % 3]);
         gaps.file(&lacking::ended(rng, &trace), NO_CHANNEL)?;
         gaps.file(&trace::damaged(rng, &trace), NO_CHANNEL)?;
     }
     Ok(())
 }
 
-fn scattered(gaps: &mut Gaps, rng: &mut Rng, size: u64) -> Checked {
+pub fn scattered(gaps: &mut Gaps, rng: &mut Rng, size: u64) -> Checked {
     for i in 0..size {
-        gaps.file(&lacking::scattered(rng), NO_CHANNEL)?;
+        gaps.file(&lacking::scattered(rng, gaps.container), NO_CHANNEL)?;
         if i % 8 == 0 {
             let n = rng.below(100);
             gaps.file(&rng.bytes(n), NO_CHANNEL)?;
@@ -175,13 +222,18 @@ fn scattered(gaps: &mut Gaps, rng: &mut Rng, size: u64) -> Checked {
     Ok(())
 }
 
-/// Every mixture of signs that show not at all, once or twice, of each datalink. The signs are known from the making.
-fn mixtures(gaps: &mut Gaps, rng: &mut Rng) -> Checked {
-    for datalink in DATALINKS {
+/// Traces without a record, of each datalink.
+fn datalinks() -> Vec<Trace> {
+    DATALINKS.map(Trace::new).into()
+}
+
+/// Every mixture of signs that show not at all, once or twice, in each of these traces. The signs are known from the making.
+pub fn mixtures(gaps: &mut Gaps, rng: &mut Rng, starts: &[Trace]) -> Checked {
+    for start in starts {
         each_string(SIGNS.len(), &[0, 1, 2], &mut |times| {
             let times = std::array::from_fn(|i| usize::from(times[i]));
-            let (trace, known) = lacking::mixture(rng, datalink, times);
-            let found = gaps::find(&trace.file, RIGHT);
+            let (trace, known) = lacking::mixture(rng, start.clone(), times);
+            let found = gaps::find(gaps.container, &trace.file, RIGHT);
             assert_eq!(found.values(RIGHT), known.values(RIGHT), "a mixture has the signs that it was made with");
             gaps.file(&trace.file, NO_CHANNEL)
         })?;
@@ -189,15 +241,10 @@ fn mixtures(gaps: &mut Gaps, rng: &mut Rng) -> Checked {
     Ok(())
 }
 
-/// A trace with every sign twice.
-fn every_sign(rng: &mut Rng, datalink: u32) -> Trace {
-    lacking::mixture(rng, datalink, [2; SIGNS.len()]).0
-}
-
-/// Every beginning of traces with every sign, and many changes of one byte.
-fn changes(gaps: &mut Gaps, rng: &mut Rng) -> Checked {
-    for datalink in DATALINKS {
-        let good = every_sign(rng, datalink).file;
+/// Every beginning of traces with every sign twice, and many changes of one byte.
+pub fn changes(gaps: &mut Gaps, rng: &mut Rng, starts: &[Trace]) -> Checked {
+    for start in starts {
+        let good = lacking::mixture(rng, start.clone(), [2; SIGNS.len()]).0.file;
         for n in 0..good.len() {
             gaps.file(&good[..n], NO_CHANNEL)?;
         }
@@ -227,15 +274,15 @@ fn drops(gaps: &mut Gaps) -> Checked {
 }
 
 /// Every original length about the included one, and some far from it.
-fn lengths(gaps: &mut Gaps) -> Checked {
-    for datalink in DATALINKS {
+pub fn lengths(gaps: &mut Gaps, starts: &[Trace]) -> Checked {
+    for start in starts {
         for included in 0..=20 {
             for original in (0..=22).chain([255, 256, 65_536, 1 << 24, 1 << 31, u32::MAX]) {
-                let mut packet = typed(datalink, &acl_packet(0x40, 2, &[4, 0, 0x41, 0, 1, 2, 3, 4]));
+                let mut packet = typed(start.datalink, &acl_packet(0x40, 2, &[4, 0, 0x41, 0, 1, 2, 3, 4]));
                 packet.resize(included, 0);
-                let mut trace = Trace::new(datalink);
+                let mut trace = start.clone();
                 trace.row(0, 2, 0, 1, &[]);
-                trace.row(original, 4, 0, 1, &packet);
+                trace.row(original, if start.datalink == LINK { 0 } else { 4 }, 0, 1, &packet);
                 gaps.file(&trace.file, NO_CHANNEL)?;
             }
         }
@@ -244,10 +291,10 @@ fn lengths(gaps: &mut Gaps) -> Checked {
 }
 
 /// Records of zeros with every change of one byte.
-fn zeros(gaps: &mut Gaps) -> Checked {
-    for datalink in DATALINKS {
-        let good = [&Trace::new(datalink).file[..], &[0; 48]].concat();
-        for at in 16..good.len() {
+pub fn zeros(gaps: &mut Gaps, starts: &[Trace]) -> Checked {
+    for start in starts {
+        let good = [&start.file[..], &[0; 48]].concat();
+        for at in start.file.len()..good.len() {
             for byte in 0..=255 {
                 let mut file = good.clone();
                 file[at] = byte;
@@ -259,22 +306,26 @@ fn zeros(gaps: &mut Gaps) -> Checked {
 }
 
 /// Every packet of up to five bytes over the bytes that matter, by every kind of flags, between the fragments of a PDU.
-fn packets(gaps: &mut Gaps) -> Checked {
+pub fn packets(gaps: &mut Gaps, starts: &[Trace]) -> Checked {
     let hci = [0, 1, 2, 3, 4, 7, 0xFFFF_FFFC, 0xFFFF_FFFF];
     let codes = [0, 2, 3, 4, 5, 6, 0x1_0004, 0xFFFF_0005, 0x5_0003, 0x0105];
-    for datalink in DATALINKS {
-        let (flags, most) = match datalink {
-            2001 => (&codes[..], 5),
-            1002 => (&hci[..], 6),
-            _ => (&hci[..], 5),
+    let directions = [0, 1, 2, 3, 0x100, 0x0100_0000, 0xFFFF_FFFF];
+    for start in starts {
+        let datalink = start.datalink;
+        // Flags of ACL data, flags to try, and the longest packet.
+        let (acl, flags, most) = match datalink {
+            LINK => (0, &directions[..], 6),
+            2001 => (4, &codes[..], 5),
+            1002 => (4, &hci[..], 6),
+            _ => (4, &hci[..], 5),
         };
         for n in 0..=most {
             each_string(n, &[0x00, 0x01, 0x02, 0x10, 0x20], &mut |packet| {
                 flags.iter().try_for_each(|flags| {
-                    let mut trace = Trace::new(datalink);
-                    trace.row(0, 4, 0, 1, &typed(datalink, &acl_packet(0, 2, &[1, 0])));
+                    let mut trace = start.clone();
+                    trace.row(0, acl, 0, 1, &typed(datalink, &acl_packet(0, 2, &[1, 0])));
                     trace.row(0, *flags, 0, 1, packet);
-                    trace.row(0, 4, 0, 1, &typed(datalink, &acl_packet(0, 1, &[0x41, 0, 7])));
+                    trace.row(0, acl, 0, 1, &typed(datalink, &acl_packet(0, 1, &[0x41, 0, 7])));
                     gaps.file(&trace.file, NO_CHANNEL)
                 })
             })?;
@@ -286,6 +337,23 @@ fn packets(gaps: &mut Gaps) -> Checked {
 /// Every four packets out of fourteen, on two links and in both directions: parts of PDUs as starts and as continuations.
 /// In 2001 the two links are also those of one handle on two adapters.
 fn fragments(gaps: &mut Gaps) -> Checked {
+    let shared = |index: u32| Some([0, index]);
+    for (n, datalink, adapters) in [
+        (4, 1001, None),
+        (3, 1001, shared(1)),
+        (3, 1002, None),
+        (3, 2001, None),
+        (4, 2001, shared(1)),
+        (3, 2001, shared(0x100)),
+        (3, 2001, shared(0xFFFF)),
+    ] {
+        fragments_of(gaps, n, &Trace::new(datalink), adapters)?;
+    }
+    Ok(())
+}
+
+/// Every `n` of them in one trace; of two adapters' indexes where they are given.
+pub fn fragments_of(gaps: &mut Gaps, n: usize, start: &Trace, adapters: Option<[u32; 2]>) -> Checked {
     let alphabet: Vec<(u32, u16, u16, &[u8])> = vec![
         (0, 0x40, 2, &[]),
         (0, 0x40, 0, &[1]),
@@ -302,28 +370,17 @@ fn fragments(gaps: &mut Gaps) -> Checked {
         (0, 0x41, 1, &[0]),
         (0, 0x41, 1, &[7, 0, 0x41, 0]),
     ];
-    let shared = |index: u32| Some([0, index]);
-    for (n, datalink, adapters) in [
-        (4, 1001, None),
-        (3, 1001, shared(1)),
-        (3, 1002, None),
-        (3, 2001, None),
-        (4, 2001, shared(1)),
-        (3, 2001, shared(0x100)),
-        (3, 2001, shared(0xFFFF)),
-    ] {
-        let step = |trace: &mut Trace, (rx, handle, flag, data): &(u32, u16, u16, &[u8])| {
-            let way = if datalink == 2001 { 4 | rx } else { *rx };
-            let (upper, handle) = match adapters {
-                Some(indexes) => (indexes[usize::from(handle % 2)] << 16, 0x40),
-                None => (0, *handle),
-            };
-            let packet = typed(datalink, &acl_packet(handle, *flag, data));
-            trace.row(packet.len() as u32, upper | way, 0, 1, &packet);
+    let datalink = start.datalink;
+    let step = |trace: &mut Trace, (rx, handle, flag, data): &(u32, u16, u16, &[u8])| {
+        let way = if datalink == 2001 { 4 | rx } else { *rx };
+        let (upper, handle) = match adapters {
+            Some(indexes) => (indexes[usize::from(handle % 2)] << 16, 0x40),
+            None => (0, *handle),
         };
-        import::sequences(n, &alphabet, &Trace::new(datalink), &step, &mut |trace| gaps.file(&trace.file, NO_CHANNEL))?;
-    }
-    Ok(())
+        let packet = typed(datalink, &acl_packet(handle, *flag, data));
+        trace.row(packet.len() as u32, upper | way, 0, 1, &packet);
+    };
+    import::sequences(n, &alphabet, start, &step, &mut |trace| gaps.file(&trace.file, NO_CHANNEL))
 }
 
 // ---- long files
@@ -332,8 +389,8 @@ fn fragments(gaps: &mut Gaps) -> Checked {
 type Record = fn(&mut Trace, u32);
 
 /// A trace that is full of records.
-fn full(datalink: u32, record: Record) -> Vec<u8> {
-    let mut trace = Trace::new(datalink);
+fn full(start: &Trace, record: Record) -> Vec<u8> {
+    let mut trace = start.clone();
     for i in 0.. {
         record(&mut trace, i);
         if trace.file.len() > LONGEST_FILE {
@@ -361,9 +418,9 @@ fn flag(i: u32, from: u32) -> u16 {
 }
 
 /// Files of 1,048,576 bytes at most with as many signs as there can be: of one kind, in all ways, or far from each other.
-fn long(gaps: &mut Gaps) -> Checked {
+pub fn long(gaps: &mut Gaps, starts: &[Trace]) -> Checked {
     let kinds: [Record; 12] = [
-        |trace, _| trace.row(0, 0, 0, 0, &[]),
+        |trace, _| trace.zeros(),
         |trace, i| trace.row(1 + i % 2, 2, 0, 1, &[9]),
         // Drops that are over 32 bits in all.
         |trace, i| trace.row(0, 2, [u32::MAX, 0][i as usize % 2], 1, &[]),
@@ -379,9 +436,9 @@ fn long(gaps: &mut Gaps) -> Checked {
         |trace, i| sent(trace, i % 64, flag(i, 64), &[0xFF, 0x00]),
         |trace, i| sent(trace, i % 8192, flag(i / 8192 % 2, 1), &[0, 0, 0x41][..3 - i as usize % 2]),
     ];
-    for datalink in DATALINKS {
+    for start in starts {
         for kind in kinds {
-            gaps.file(&full(datalink, kind), NO_CHANNEL)?;
+            gaps.file(&full(start, kind), NO_CHANNEL)?;
         }
     }
     Ok(())
@@ -390,16 +447,18 @@ fn long(gaps: &mut Gaps) -> Checked {
 // ---- the law of starts
 
 /// Starts are as many as PDUs, those given up and those open at the end: by the subject's answer and the model of import.
-fn law_of(subject: &dyn Subject, file: &[u8]) -> Checked {
-    if model::refusal(file, usize::MAX, true).is_some() {
+pub fn law_of(subject: &dyn Subject, container: Container, file: &[u8]) -> Checked {
+    if model::refusal(container, file, usize::MAX, true, model::RIGHT).is_some() {
         return Ok(());
     }
-    let mut values = [0; VALUES];
-    let number = subject.gaps(file, &mut vec![0; 8 * file.len()], 1, &mut values);
-    let datalink = gaps::be32(file, 12);
-    let rows = model::records(&file[16..]).0;
-    let starts = model::starts(datalink, &rows) as u64;
-    let pdus = model::pdus(datalink, &rows, model::RIGHT).len() as u64;
+    let (mut work, mut values) = (vec![0; 8 * file.len()], [0; VALUES]);
+    let number = match container {
+        Container::Btsnoop => subject.gaps(file, &mut work, 1, &mut values),
+        Container::Pcap => subject.gaps_with(file, &mut work, &[0, 1, 1], &mut values),
+    };
+    let packets = model::packets(container, file, model::RIGHT).0;
+    let starts = packets.iter().filter(|packet| packet.start).count() as u64;
+    let pdus = model::pdus(&packets, model::RIGHT).len() as u64;
     let [given_up, open] = [values[10], values[12]];
     if number == 0 && starts == pdus + given_up + open {
         return Ok(());
@@ -413,12 +472,12 @@ fn law_of(subject: &dyn Subject, file: &[u8]) -> Checked {
     }))
 }
 
-fn law(subject: &dyn Subject, rng: &mut Rng, size: u64) -> Checked {
+pub fn law(subject: &dyn Subject, container: Container, rng: &mut Rng, size: u64) -> Checked {
     for _ in 0..size {
-        let trace = lacking::made(rng, 40);
-        let (other, _) = trace::structured(rng, 30);
+        let trace = lacking::made(rng, container, 40);
+        let (other, _) = trace::structured_in(rng, container, 30);
         for file in [&trace.file, &trace::damaged(rng, &trace), &other.file, &trace::damaged(rng, &other)] {
-            import::smallest(file, &mut |file| law_of(subject, file))?;
+            import::smallest(container, file, &mut |file| law_of(subject, container, file))?;
         }
     }
     Ok(())
@@ -433,7 +492,7 @@ pub fn run(subject: &dyn Subject, options: &Options) -> Checked {
     let mut gaps = Gaps::new(subject);
     made(&mut gaps, &mut rng, size)?;
     log.line("made traces, whole, cut and damaged", &gaps.lender);
-    mixtures(&mut gaps, &mut rng)?;
+    mixtures(&mut gaps, &mut rng, &datalinks())?;
     log.line("every mixture of signs", &gaps.lender);
     scattered(&mut gaps, &mut rng, size)?;
     log.line("random bytes", &gaps.lender);
@@ -447,15 +506,17 @@ pub fn run(subject: &dyn Subject, options: &Options) -> Checked {
         gaps.file(&twins.spread(16), NO_CHANNEL)?;
     }
     log.line("random traces of import, whole and damaged, and those of its bench", &gaps.lender);
-    tolerant::each_cut(&mut rng, size / 500, &mut |recording, n| gaps.file(&recording.file[..n], NO_CHANNEL))?;
+    tolerant::each_cut(&mut rng, Container::Btsnoop, size / 500, &mut |recording, n| {
+        gaps.file(&recording.file[..n], NO_CHANNEL)
+    })?;
     log.line("every cut of honest recordings", &gaps.lender);
     drops(&mut gaps)?;
     log.line("every four counts of drops", &gaps.lender);
-    lengths(&mut gaps)?;
+    lengths(&mut gaps, &datalinks())?;
     log.line("every length about the included one", &gaps.lender);
-    zeros(&mut gaps)?;
+    zeros(&mut gaps, &datalinks())?;
     log.line("every one-byte change of zeros", &gaps.lender);
-    packets(&mut gaps)?;
+    packets(&mut gaps, &datalinks())?;
     log.line("every short packet by every kind of flags", &gaps.lender);
     fragments(&mut gaps)?;
     import::fragments(&mut gaps)?;
@@ -463,17 +524,17 @@ pub fn run(subject: &dyn Subject, options: &Options) -> Checked {
     log.line("every four fragments", &gaps.lender);
     adapters::by_hand(&mut gaps)?;
     log.line("fixed traces of two adapters", &gaps.lender);
-    changes(&mut gaps, &mut rng)?;
+    changes(&mut gaps, &mut rng, &datalinks())?;
     log.line("every beginning and one-byte changes of traces with every sign", &gaps.lender);
     import::short(&mut gaps, &mut rng)?;
     log.line("short files and every beginning of good ones", &gaps.lender);
-    long(&mut gaps)?;
+    long(&mut gaps, &datalinks())?;
     import::large(&mut gaps, &mut rng)?;
     log.line("traces of about 1,048,576 bytes", &gaps.lender);
     if !options.quiet {
-        gaps.tally.print();
+        gaps.tally.print("gaps");
     }
-    law(subject, &mut rng, size / 10)?;
+    law(subject, Container::Btsnoop, &mut rng, size / 10)?;
     if !options.quiet {
         println!("gaps: the law of starts: {} files", size / 10 * 4);
     }
@@ -486,11 +547,11 @@ pub fn run_made(subject: &dyn Subject, options: &Options) -> Checked {
 }
 
 pub fn run_mixtures(subject: &dyn Subject, options: &Options) -> Checked {
-    mixtures(&mut Gaps::new(subject), &mut Rng::new(options.seed))
+    mixtures(&mut Gaps::new(subject), &mut Rng::new(options.seed), &datalinks())
 }
 
 pub fn run_packets(subject: &dyn Subject, _: &Options) -> Checked {
-    packets(&mut Gaps::new(subject))
+    packets(&mut Gaps::new(subject), &datalinks())
 }
 
 pub fn run_fragments(subject: &dyn Subject, _: &Options) -> Checked {
@@ -504,9 +565,9 @@ pub fn run_by_hand(subject: &dyn Subject, _: &Options) -> Checked {
 pub fn run_long(subject: &dyn Subject, options: &Options) -> Checked {
     let mut gaps = Gaps::new(subject);
     import::large(&mut gaps, &mut Rng::new(options.seed))?;
-    long(&mut gaps)
+    long(&mut gaps, &datalinks())
 }
 
 pub fn run_law(subject: &dyn Subject, options: &Options) -> Checked {
-    law(subject, &mut Rng::new(options.seed), options.size.unwrap_or(50_000) / 10)
+    law(subject, Container::Btsnoop, &mut Rng::new(options.seed), options.size.unwrap_or(50_000) / 10)
 }

@@ -2,10 +2,11 @@
 
 use std::collections::BTreeMap;
 
-use crate::answer::Answer;
+use crate::answer::{Answer, Container};
 use crate::expected;
 use crate::mistaken;
 use crate::model::{self, Reading, RIGHT};
+use crate::pcap;
 use crate::rng::Rng;
 use crate::trace;
 use crate::Options;
@@ -30,6 +31,9 @@ struct Stats {
     /// Files of more than one adapter, and of those the ones that show each place where import keys on a link.
     adapters: u64,
     keys: BTreeMap<&'static str, u64>,
+    /// Of pcap files, how many there are of each form, and what their records are.
+    forms: BTreeMap<String, u64>,
+    records: BTreeMap<&'static str, u64>,
 }
 
 /// 0, 1, 2, 3, then the power of two at or under.
@@ -42,23 +46,31 @@ fn class(n: usize) -> usize {
 }
 
 impl Stats {
-    fn add(&mut self, file: &[u8], channel: u32) {
-        let answer = expected::import_strict(file, channel);
+    fn add(&mut self, container: Container, file: &[u8], channel: u32) {
+        let answer = match container {
+            Container::Btsnoop => expected::import_strict(file, channel),
+            Container::Pcap => expected::import_pcap(file, channel).by(false),
+        };
         self.files += 1;
         self.bytes += file.len() as u64;
         *self.numbers.entry(answer.number).or_default() += 1;
-        let differs = |reading| model::import(file, 8 * file.len(), channel, false, reading) != answer;
+        let differs =
+            |reading| model::import_from(container, file, 8 * file.len(), (channel, false), reading) != answer;
         self.excess += u64::from(differs(Reading { excess_dropped: false, ..RIGHT }));
         self.tried_too += u64::from(differs(Reading { request_ends: false, ..RIGHT }));
-        self.adapters += u64::from(expected::adapters(file) > 1);
-        for (what, keys) in mistaken::by_handle_alone() {
-            *self.keys.entry(what).or_default() += u64::from(differs(Reading { keys, ..RIGHT }));
+        match container {
+            Container::Btsnoop => {
+                self.adapters += u64::from(expected::adapters(file) > 1);
+                for (what, keys) in mistaken::by_handle_alone() {
+                    *self.keys.entry(what).or_default() += u64::from(differs(Reading { keys, ..RIGHT }));
+                }
+            }
+            Container::Pcap => self.add_records(file),
         }
         if ![0, 6].contains(&answer.number) {
             return;
         }
-        let datalink = u64::from(u32::from_be_bytes(file[12..16].try_into().unwrap()));
-        let pdus = model::pdus(datalink, &model::records(&file[16..]).0, RIGHT);
+        let pdus = model::pdus(&model::packets(container, file, RIGHT).0, RIGHT);
         let pieces = model::pieces(&pdus, RIGHT);
         let (admitted, named) = model::channels(&pdus, RIGHT);
         self.admitted += u64::from(!admitted.is_empty());
@@ -68,6 +80,24 @@ impl Stats {
         *self.dlcis.entry(model::dlcis(&pieces).len()).or_default() += 1;
         if answer.number == 0 {
             self.chosen(&answer, &pieces);
+        }
+    }
+
+    /// What the records of a pcap file are.
+    fn add_records(&mut self, file: &[u8]) {
+        let form = (pcap::RIGHT.form)(file).map_or("none".into(), |form| format!("{form:?}"));
+        *self.forms.entry(form).or_default() += 1;
+        for record in pcap::read(file, pcap::RIGHT).0 {
+            let what = match (record.received, record.acl) {
+                (_, Some(_)) => "ACL data",
+                (Some(_), None) if record.packet().len() > 4 => "another type",
+                (Some(_), None) => "no type",
+                _ if record.packet().len() < 4 => "no direction",
+                _ => "another direction",
+            };
+            *self.records.entry(what).or_default() += 1;
+            let over = record.form.number(record.bytes, 4) >= 1000 * record.form.parts();
+            *self.records.entry("over a second of fractions").or_default() += u64::from(over);
         }
     }
 
@@ -93,7 +123,11 @@ impl Stats {
             "  files that show that excess is dropped {}, that a PSM 3 request is not tried {}",
             self.excess, self.tried_too
         );
-        println!("  files of more than one adapter {}; that show: {:?}", self.adapters, self.keys);
+        if self.forms.is_empty() {
+            println!("  files of more than one adapter {}; that show: {:?}", self.adapters, self.keys);
+        } else {
+            println!("  forms: {:?}; records: {:?}", self.forms, self.records);
+        }
         println!("  DLCIs with pieces: {:?}", self.dlcis);
         println!("  of those answered, buffers of the DLCI: {:?}", self.stretches);
         println!("  spans (from): {:?}; with one that does not unpack {}", self.spans, self.broken);
@@ -101,13 +135,14 @@ impl Stats {
     }
 }
 
-pub fn import(options: &Options) {
+/// The random traces of a container.
+pub fn import(options: &Options, container: Container) {
     let mut rng = Rng::new(options.seed);
     let (mut random, mut damaged) = (Stats::default(), Stats::default());
     for _ in 0..options.size.unwrap_or(20_000) {
-        let (trace, channel) = trace::structured(&mut rng, 60);
-        random.add(&trace.file, channel);
-        damaged.add(&trace::damaged(&mut rng, &trace), channel);
+        let (trace, channel) = trace::structured_in(&mut rng, container, 60);
+        random.add(container, &trace.file, channel);
+        damaged.add(container, &trace::damaged(&mut rng, &trace), channel);
     }
     random.print("random traces");
     damaged.print("damaged traces");

@@ -1,25 +1,29 @@
 //! Import under the tolerant rule: every cut of honest recordings against what is
 //! known to be left, and all that strict import is compared on.
 
-use crate::answer::{Answer, Checked, Difference, Subject};
+use crate::answer::{Answer, Checked, Container, Difference, Subject};
 use crate::expected;
 use crate::honest::{self, Honest, Scale};
 use crate::import::{self, Import, Rule, Taker};
+use crate::pcap::HEAD;
 use crate::rng::Rng;
 use crate::Options;
 
 /// The cuts of a recording that are tried: all, or if it is long, those about the
 /// records' ends and a few more.
 fn cuts(rng: &mut Rng, recording: &Honest) -> Vec<usize> {
-    let length = recording.file.len();
+    let (head, length) = (recording.head, recording.file.len());
     if length <= 3000 {
-        return (16..=length).collect();
+        return (head..=length).collect();
     }
-    let mut cuts: Vec<usize> = (0..40).map(|_| rng.within(16, length)).collect();
-    cuts.extend([16, length]);
+    let mut cuts: Vec<usize> = (0..40).map(|_| rng.within(head, length)).collect();
+    cuts.extend([head, length]);
     let step = recording.ends.len() / 40 + 1;
     for &end in recording.ends.iter().step_by(step) {
         cuts.extend([end - 1, end, (end + 1).min(length), (end + 24).min(length)]);
+        if head == HEAD {
+            cuts.extend([4, 8, 16].map(|more| (end + more).min(length)));
+        }
     }
     cuts
 }
@@ -31,16 +35,19 @@ const SCALES: [Scale; 4] = [
     Scale { links: 2, frames: 6, payload: 900, piece: 300, fragment: 200 },
 ];
 
+/// What is called with a recording and a cut of it.
+type Cut<'a> = dyn FnMut(&Honest, usize) -> Checked + 'a;
+
 /// Calls `f` with recordings and each of their cuts.
-pub fn each_cut(rng: &mut Rng, size: u64, f: &mut dyn FnMut(&Honest, usize) -> Checked) -> Checked {
+pub fn each_cut(rng: &mut Rng, container: Container, size: u64, f: &mut Cut) -> Checked {
     for i in 0..size {
         let recording = if i % 50 == 49 {
-            honest::longest(rng)
+            honest::longest(rng, container)
         } else if i % 250 == 124 {
-            honest::large(rng)
+            honest::large(rng, container)
         } else {
             let scale = if i % 4 == 0 { rng.pick(&SCALES) } else { honest::SMALL };
-            honest::recording(rng, scale)
+            honest::recording_in(rng, container, scale)
         };
         for n in cuts(rng, &recording) {
             f(&recording, n)?;
@@ -52,7 +59,7 @@ pub fn each_cut(rng: &mut Rng, size: u64, f: &mut dyn FnMut(&Honest, usize) -> C
 /// The rule on the size of frames is needed: a recording that breaks only it loses its
 /// frame. Import answers as the oracle does.
 fn size_rule(import: &mut Import, rng: &mut Rng) -> Checked {
-    let recording = honest::too_long(rng);
+    let recording = honest::too_long(rng, Container::Btsnoop);
     let (left, found) =
         (recording.left(recording.file.len()), expected::import_tolerant(&recording.file, recording.channel()));
     assert!((left.number, found.number) == (0, 6), "a frame over 65,536 bytes is left, and is not found");
@@ -62,13 +69,22 @@ fn size_rule(import: &mut Import, rng: &mut Rng) -> Checked {
 /// The makers of honest recordings against the oracle alone: what is said to be left
 /// is what strict import of the whole records finds.
 pub fn check_makers(options: &Options) -> Checked {
+    [("honest", Container::Btsnoop), ("honest, pcap", Container::Pcap)]
+        .into_iter()
+        .try_for_each(|(label, container)| check_maker(options, label, container))
+}
+
+fn check_maker(options: &Options, label: &str, container: Container) -> Checked {
     let mut rng = Rng::new(options.seed);
     let (mut cuts, mut none, mut spans, mut unfinished, mut recordings) = (0u64, 0u64, 0u64, 0u64, 0u64);
-    each_cut(&mut rng, options.size.unwrap_or(50_000) / 100, &mut |recording, n| {
+    each_cut(&mut rng, container, options.size.unwrap_or(50_000) / 100, &mut |recording, n| {
         let left = recording.left(n);
-        let found = expected::import_tolerant(&recording.file[..n], recording.channel());
+        let found = match container {
+            Container::Btsnoop => expected::import_tolerant(&recording.file[..n], recording.channel()),
+            Container::Pcap => expected::import_pcap(&recording.file[..n], recording.channel()).by(true),
+        };
         cuts += 1;
-        recordings += u64::from(n == 16);
+        recordings += u64::from(n == recording.head);
         none += u64::from(left.number == 6);
         if left.number == 0 {
             spans += left.values[1];
@@ -79,14 +95,14 @@ pub fn check_makers(options: &Options) -> Checked {
         }
         let shown = |a: &Answer| format!("number {}, values {:?}", a.number, a.values);
         Err(Box::new(Difference {
-            call: format!("honest recording, DLCI {}, cut at {n}", recording.dlci),
+            call: format!("{label} recording, DLCI {}, cut at {n}", recording.dlci),
             inputs: vec![("file", recording.file[..n].to_vec())],
             lent: "nothing".into(),
             expected: shown(&left),
             got: shown(&found),
         }))
     })?;
-    println!("honest: {recordings} recordings, {cuts} cuts, {none} with nothing left, {unfinished} with a frame under way, {spans} frames left in all");
+    println!("{label}: {recordings} recordings, {cuts} cuts, {none} with nothing left, {unfinished} with a frame under way, {spans} frames left in all");
     Ok(())
 }
 
@@ -105,7 +121,9 @@ pub fn run(subject: &dyn Subject, options: &Options) -> Checked {
 
 /// Every cut of honest recordings, held to what is left.
 fn honest_cuts(import: &mut Import, rng: &mut Rng, size: u64) -> Checked {
-    each_cut(rng, size, &mut |recording, n| import.held(&recording.file[..n], recording.channel(), &recording.left(n)))
+    each_cut(rng, Container::Btsnoop, size, &mut |recording, n| {
+        import.held(&recording.file[..n], recording.channel(), &recording.left(n))
+    })
 }
 
 /// The honest recordings alone; in a short run more of them.

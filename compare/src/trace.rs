@@ -3,9 +3,10 @@
 
 use std::collections::{BTreeMap, VecDeque};
 
-use crate::answer::NO_CHANNEL;
+use crate::answer::{Container, NO_CHANNEL};
 use crate::codec;
 use crate::model::packed;
+use crate::pcap::{Form, FORMS, HEAD, LINK, ROW};
 use crate::rng::Rng;
 use oracle::capture::Direction::{self, Rx, Tx};
 use oracle::capture::BTSNOOP_EPOCH_DELTA_US as EPOCH;
@@ -15,7 +16,10 @@ pub const DATALINKS: [u32; 3] = [1001, 1002, 2001];
 /// A trace under construction.
 #[derive(Clone)]
 pub struct Trace {
+    /// Of a pcap file its link type, which no datalink has.
     pub datalink: u32,
+    /// Of a pcap file how it is written.
+    pub form: Option<Form>,
     /// The upper 16 flag bits of the next ACL packets: in 2001 their adapter's index, in 1001 and 1002 nothing.
     pub index: u16,
     pub file: Vec<u8>,
@@ -27,7 +31,42 @@ impl Trace {
     pub fn new(datalink: u32) -> Trace {
         let mut file = b"btsnoop\0\0\0\0\x01".to_vec();
         file.extend(datalink.to_be_bytes());
-        Trace { datalink, index: 0, file, ends: Vec::new() }
+        Trace { datalink, form: None, index: 0, file, ends: Vec::new() }
+    }
+
+    /// A pcap file, with what recorders write where nobody looks: version 2.4, no time zone, and a snap length.
+    pub fn pcap(form: Form) -> Trace {
+        let [snap, link] = [262_144, LINK].map(|number| form.bytes(number));
+        let version: [u8; 4] = if form.big { [0, 2, 0, 4] } else { [2, 0, 4, 0] };
+        let file = [form.magic(), version, [0; 4], [0; 4], snap, link].concat();
+        Trace { datalink: LINK, form: Some(form), index: 0, file, ends: Vec::new() }
+    }
+
+    /// An empty trace of a container, of any datalink or form. What nobody looks at in the header of a pcap file is left to
+    /// chance.
+    pub fn any(rng: &mut Rng, container: Container) -> Trace {
+        match container {
+            Container::Btsnoop => Trace::new(rng.pick(&DATALINKS)),
+            Container::Pcap => {
+                let mut trace = Trace::pcap(rng.pick(&FORMS));
+                if rng.percent(70) {
+                    let other = rng.mixed(16, &[0, 1, 2, 4, 0x7F, 0xFF], 50);
+                    trace.file[4..20].copy_from_slice(&other);
+                }
+                if let (Some(form), true) = (trace.form, rng.percent(30)) {
+                    trace.file[16..20].copy_from_slice(&form.bytes(rng.pick(&[0, 1, 25, 40])));
+                }
+                trace
+            }
+        }
+    }
+
+    /// The lengths of the file's header and of a record's.
+    pub fn heads(&self) -> (usize, usize) {
+        match self.form {
+            None => (16, 24),
+            Some(_) => (HEAD, ROW),
+        }
     }
 
     /// The trace, with the next ACL packets of this adapter.
@@ -43,8 +82,13 @@ impl Trace {
         self.row(original, flags, (stamp as u32).rotate_left(7), stamp, packet);
     }
 
-    /// A record of these fields; the included length is the packet's.
+    /// A record of these fields; the included length is the packet's. In a pcap file the flags are the direction, which
+    /// both lengths count, and there are no drops.
     pub fn row(&mut self, original: u32, flags: u32, drops: u32, stamp: u64, packet: &[u8]) {
+        if self.form.is_some() {
+            let directed = [&flags.to_be_bytes()[..], packet].concat();
+            return self.captured(original.wrapping_add(4), stamp, &directed);
+        }
         for word in [original, packet.len() as u32, flags, drops] {
             self.file.extend(word.to_be_bytes());
         }
@@ -53,12 +97,42 @@ impl Trace {
         self.ends.push(self.file.len());
     }
 
+    /// A record of a pcap file, of these bytes.
+    pub fn captured(&mut self, original: u32, stamp: u64, bytes: &[u8]) {
+        let form = self.form.expect("a pcap file");
+        let (seconds, fraction) = time(form, stamp);
+        for number in [seconds, fraction, bytes.len() as u32, original] {
+            self.file.extend(form.bytes(number));
+        }
+        self.file.extend(bytes);
+        self.ends.push(self.file.len());
+    }
+
+    /// A record of zeros and nothing else.
+    pub fn zeros(&mut self) {
+        let (_, row) = self.heads();
+        self.file.extend(vec![0; row]);
+        self.ends.push(self.file.len());
+    }
+
+    /// The milliseconds of a record with this stamp.
+    pub fn ms(&self, stamp: u64) -> u64 {
+        match self.form {
+            None => stamp.saturating_sub(EPOCH) / 1000,
+            Some(form) => {
+                let (seconds, fraction) = time(form, stamp);
+                1000 * u64::from(seconds) + u64::from(fraction) / form.parts()
+            }
+        }
+    }
+
     /// An ACL packet in its record. `extra` are flag bits that mean nothing; 2001 has none.
     pub fn acl(&mut self, direction: Direction, stamp: u64, extra: u32, bytes: &[u8]) {
         let upper = u32::from(self.index) << 16;
         let way = u32::from(direction == Rx);
         match self.datalink {
             2001 => self.record(upper | 4 | way, stamp, bytes),
+            LINK => self.record(way, stamp, &[&[2], bytes].concat()),
             1002 => self.record(upper | extra << 2 | way, stamp, &[&[2], bytes].concat()),
             _ => self.record(upper | extra << 2 | way, stamp, bytes),
         }
@@ -71,6 +145,21 @@ impl Trace {
     /// A PDU in one fragment.
     pub fn pdu(&mut self, direction: Direction, stamp: u64, handle: u16, cid: u16, payload: &[u8]) {
         self.fragment(direction, stamp, handle, 2, &l2cap(cid, payload));
+    }
+}
+
+/// Seconds and fraction of a stamp: mostly those of its time. At times there are too many fractions for a second, and at
+/// times the seconds are the last that there are.
+fn time(form: Form, stamp: u64) -> (u32, u32) {
+    let mixed = stamp.wrapping_mul(0x9E37_79B9_7F4A_7C15).rotate_left(29);
+    let us = stamp.wrapping_sub(EPOCH);
+    let fraction = us % 1_000_000;
+    let fraction = if form.nano { fraction * 1000 + mixed % 1000 } else { fraction };
+    let seconds = us / 1_000_000;
+    match mixed >> 32 & 15 {
+        0 => (seconds as u32, (mixed >> 36) as u32),
+        1 => (u32::MAX - (mixed >> 60) as u32, fraction as u32),
+        _ => (seconds as u32, fraction as u32),
     }
 }
 
@@ -363,19 +452,23 @@ type Side = ((u16, u16), bool);
 /// A random trace whose parts meet, and a channel to import it by. `events` bounds
 /// the number of PDUs.
 pub fn structured(rng: &mut Rng, events: usize) -> (Trace, u32) {
+    structured_in(rng, Container::Btsnoop, events)
+}
+
+pub fn structured_in(rng: &mut Rng, container: Container, events: usize) -> (Trace, u32) {
     let odd = rng.pick(&[0, 3, 10, 30]);
-    with_odd(rng, events, odd)
+    with_odd(rng, container, events, odd)
 }
 
 /// The same without PDUs that look like more than they are. The samples are made of it.
 pub fn plain(rng: &mut Rng, events: usize) -> (Trace, u32) {
-    with_odd(rng, events, 0)
+    with_odd(rng, Container::Btsnoop, events, 0)
 }
 
 /// `odd` is how often, in a hundred, a PDU is one that CID 1 carries as a channel too, or has
 /// another behind it in excess.
-fn with_odd(rng: &mut Rng, events: usize, odd: usize) -> (Trace, u32) {
-    let mut trace = Trace::new(rng.pick(&DATALINKS));
+fn with_odd(rng: &mut Rng, container: Container, events: usize, odd: usize) -> (Trace, u32) {
+    let mut trace = Trace::any(rng, container);
     let pools = Pools::new(rng, trace.datalink);
     let mut streams: BTreeMap<(Side, u8), VecDeque<u8>> = BTreeMap::new();
     let mut queues: BTreeMap<Side, VecDeque<Packet>> = BTreeMap::new();
@@ -487,6 +580,12 @@ fn emit(
     let key = keys[rng.below(keys.len())];
     let Some((direction, packet)) = queues.get_mut(&key).and_then(VecDeque::pop_front) else { return false };
     *now = if rng.percent(5) { stamp(rng) } else { now.wrapping_add(rng.below(3000) as u64) };
+    if trace.form.is_some() && rng.percent(5) {
+        // The same with another direction or type.
+        let (other, kind) =
+            if rng.percent(60) { (rng.pick(&OTHERS), 2) } else { (rng.below(2) as u32, other_type(rng)) };
+        trace.record(other, *now, &[&[kind], &packet[..]].concat());
+    }
     let extra = if rng.percent(20) { rng.next() as u32 } else { 0 };
     trace.on(key.0 .0).acl(direction, *now, extra, &packet);
     true
@@ -499,6 +598,7 @@ pub fn noise(rng: &mut Rng, trace: &mut Trace) {
     let stamp = stamp(rng);
     match trace.datalink {
         2001 => trace.record(rng.pick(&[0, 1, 2, 3, 6, 7, 0x1_0003, 0x4_0006, 0x5_0000]), stamp, &packet),
+        LINK => undirected(rng, trace, stamp, packet),
         1002 => {
             let command = rng.percent(50);
             if !command && !packet.is_empty() {
@@ -510,10 +610,36 @@ pub fn noise(rng: &mut Rng, trace: &mut Trace) {
     }
 }
 
+/// Directions that are neither of the two.
+pub const OTHERS: [u32; 9] = [2, 3, 0xFF, 0x100, 0x101, 0x1_0000, 0x0100_0000, 0x8000_0000, u32::MAX];
+
+/// An H4 type other than ACL data's.
+pub fn other_type(rng: &mut Rng) -> u8 {
+    rng.pick(&[0, 1, 3, 4, 5, 0x12, 0x82])
+}
+
+/// A record of a pcap file that is no ACL packet: of another direction, of another type, or too short for either.
+fn undirected(rng: &mut Rng, trace: &mut Trace, stamp: u64, mut packet: Vec<u8>) {
+    match rng.below(3) {
+        0 => trace.captured(rng.pick(&[0, 1, 4, 5, 300]), stamp, &packet[..packet.len().min(4)]),
+        1 => {
+            packet.insert(0, 2);
+            trace.record(rng.pick(&OTHERS), stamp, &packet);
+        }
+        _ => {
+            if let Some(kind) = packet.first_mut() {
+                *kind = other_type(rng);
+            }
+            trace.record(rng.below(2) as u32, stamp, &packet);
+        }
+    }
+}
+
 /// Random damage to a whole file: bytes, records, cuts.
 pub fn damaged(rng: &mut Rng, trace: &Trace) -> Vec<u8> {
     let mut file = trace.file.clone();
-    let bounds: Vec<usize> = std::iter::once(16).chain(trace.ends.iter().copied()).collect();
+    let (head, row) = trace.heads();
+    let bounds: Vec<usize> = std::iter::once(head).chain(trace.ends.iter().copied()).collect();
     match rng.below(8) {
         0 => file.truncate(rng.below(file.len() + 1)),
         1 if bounds.len() > 2 => {
@@ -531,7 +657,7 @@ pub fn damaged(rng: &mut Rng, trace: &Trace) -> Vec<u8> {
             for _ in 0..rng.within(1, 4) {
                 // After the record's own header most damage goes deeper.
                 let i = rng.below(bounds.len());
-                let low = (bounds[i] + 24).min(file.len() - 1);
+                let low = (bounds[i] + row).min(file.len() - 1);
                 let high = bounds.get(i + 1).copied().unwrap_or(file.len()).min(file.len());
                 let at = if low < high && rng.percent(85) { rng.within(low, high - 1) } else { rng.below(file.len()) };
                 file[at] = match rng.below(3) {

@@ -4,7 +4,7 @@
 use std::collections::BTreeMap;
 use std::path::PathBuf;
 
-use crate::answer::{Answer, Checked, Difference, Subject, NO_CHANNEL};
+use crate::answer::{Answer, Checked, Container, Difference, Subject, NO_CHANNEL};
 use crate::expected;
 use crate::import::{Import, Rule};
 use crate::model::{self, RIGHT};
@@ -30,8 +30,7 @@ const FILES: [&str; 12] = [
 type Asks = fn(&Line) -> bool;
 
 /// What the calls do not do: a case that asks for it is passed over.
-const LATER: [(&str, Asks); 4] = [
-    ("pcap", |line| line.has("box", &["pcap"])),
+const LATER: [(&str, Asks); 3] = [
     ("FCS checked", |line| line.has("fcs", &["on", "yes"])),
     ("the strict channel rule", |line| line.has("rule", &["strict"])),
     ("heads before wires", |line| line.has("heads", &["yes"])),
@@ -85,6 +84,15 @@ impl<'a> Line<'a> {
         LATER.iter().find(|(_, asks)| asks(self)).map(|(what, _)| what.to_string())
     }
 
+    /// What the file is asked for as.
+    fn container(&self) -> Container {
+        match self.get("box") {
+            None | Some("btsnoop") => Container::Btsnoop,
+            Some("pcap") => Container::Pcap,
+            Some(other) => panic!("{} line {}: no container: {other}", self.file, self.number),
+        }
+    }
+
     fn tolerant(&self) -> bool {
         self.has("tail", &["tolerant"]) || self.has("tolerant", &["yes"])
     }
@@ -124,22 +132,29 @@ fn answer(line: &Line) -> Answer {
     }
 }
 
-/// How many cases were run, and passed over by reason.
+/// How many cases were run, of which pcap, and passed over by reason.
 #[derive(Default)]
 struct Tally {
     run: BTreeMap<&'static str, u64>,
+    pcap: u64,
+    /// How many told the number of records.
+    records: u64,
     passed: BTreeMap<String, u64>,
 }
 
 /// The calls held to the cases.
 struct Vectors<'a> {
-    imports: [Import<'a>; 3],
+    subject: &'a dyn Subject,
+    imports: Vec<Import<'a>>,
     tally: Tally,
 }
 
 impl Vectors<'_> {
     fn case(&mut self, line: &Line) -> Checked {
-        if let Some(why) = line.later() {
+        self.records(line)?;
+        let asked = (line.container(), line.tolerant());
+        let linked = self.imports.iter().any(|import| (import.container(), import.tolerant()) == asked);
+        if let Some(why) = line.later().or((!linked).then(|| "built without `pcap`".into())) {
             *self.tally.passed.entry(why).or_default() += 1;
             return Ok(());
         }
@@ -149,7 +164,8 @@ impl Vectors<'_> {
         let channel = line.number_of("channel").map_or(NO_CHANNEL, |channel| channel as u32);
         let lent = (line.number_of("work_len"), line.number_of("out_len"));
         readings(line, &file, channel, &expected, lent)?;
-        for import in self.imports.iter_mut().filter(|import| import.tolerant() == line.tolerant()) {
+        self.tally.pcap += u64::from(line.container() == Container::Pcap);
+        for import in self.imports.iter_mut().filter(|import| (import.container(), import.tolerant()) == asked) {
             let checked = match lent {
                 (None, None) => import.held(&file, channel, &expected),
                 (work, out) => import.lent(&file, channel, &expected, work, out),
@@ -157,6 +173,35 @@ impl Vectors<'_> {
             checked.map_err(|found| line.differs(&found.call, found.expected, found.got))?;
         }
         Ok(())
+    }
+}
+
+impl Vectors<'_> {
+    /// Where a case of import tells how many records the file has, or a refusal that does not ask for work, the records are
+    /// held to it, whatever else the case asks for.
+    fn records(&mut self, line: &Line) -> Checked {
+        if line.call != "import" || !self.subject.takes_container() {
+            return Ok(());
+        }
+        let words: Vec<&str> = line.answer.split(' ').collect();
+        let number = |word: &str| word.parse::<u64>().expect("a number");
+        let expected = match (words[0], words.iter().position(|word| *word == "sizes")) {
+            ("ok", Some(sizes)) => (0, vec![number(words[sizes + 2]), number(words[4])]),
+            ("refused", _) if ["1", "3", "4", "21", "22"].contains(&words[1]) => {
+                (number(words[1]) as u32, words[2..].iter().map(|word| number(word)).collect())
+            }
+            _ => return Ok(()),
+        };
+        let file = bytes(line.get("file").expect("a file"));
+        let container = u64::from(line.container() == Container::Pcap);
+        let mut values = [u64::MAX; 2];
+        let found = self.subject.records_with(&file, &mut [], &[256, 0, container], &mut values);
+        let found = (found, values[..expected.1.len()].to_vec());
+        self.tally.records += 1;
+        if found == expected {
+            return Ok(());
+        }
+        Err(line.differs("records_with", format!("{expected:?}"), format!("{found:?}")))
     }
 }
 
@@ -168,10 +213,14 @@ fn readings(
     expected: &Answer,
     (work, out): (Option<usize>, Option<usize>),
 ) -> Checked {
-    let tolerant = line.tolerant();
-    let rust = if tolerant { expected::import_tolerant } else { expected::import_strict };
-    let model = model::import(file, work.unwrap_or(usize::MAX), channel, tolerant, RIGHT);
-    for (what, found) in [("the Rust", rust(file, channel)), ("the model", model)] {
+    let (container, tolerant) = (line.container(), line.tolerant());
+    let rust = match (container, tolerant) {
+        (Container::Pcap, _) => expected::import_pcap(file, channel).by(tolerant),
+        (_, true) => expected::import_tolerant(file, channel),
+        (_, false) => expected::import_strict(file, channel),
+    };
+    let model = model::import_from(container, file, work.unwrap_or(usize::MAX), (channel, tolerant), RIGHT);
+    for (what, found) in [("the Rust", rust), ("the model", model)] {
         let found = found.within(out.unwrap_or(usize::MAX));
         if *found != *expected && (work.is_none() || what == "the model") {
             return Err(line.differs(what, format!("{expected:?}"), format!("{found:?}")));
@@ -200,8 +249,14 @@ fn unusable(expected: &str, got: String) -> Box<Difference> {
 }
 
 pub fn run(subject: &dyn Subject, options: &Options) -> Checked {
-    let imports = [Rule::Strict, Rule::NotTolerant, Rule::Tolerant].map(|rule| Import::new(subject, rule));
-    let mut vectors = Vectors { imports, tally: Tally::default() };
+    let mut imports: Vec<Import> =
+        [Rule::Strict, Rule::NotTolerant, Rule::Tolerant].map(|rule| Import::new(subject, rule)).into();
+    if subject.takes_container() {
+        for container in [Container::Btsnoop, Container::Pcap] {
+            imports.extend([Rule::Strict, Rule::Tolerant].map(|rule| Import::by_container(subject, rule, container)));
+        }
+    }
+    let mut vectors = Vectors { subject, imports, tally: Tally::default() };
     for file in FILES {
         let path = directory().join(file);
         let text = std::fs::read_to_string(&path)
@@ -218,14 +273,18 @@ pub fn run(subject: &dyn Subject, options: &Options) -> Checked {
             name = UNNAMED;
         }
     }
-    let Tally { run, passed } = vectors.tally;
+    let Tally { run, pcap, records, passed } = vectors.tally;
     if run.is_empty() {
         return Err(unusable("cases to run", "none".into()));
     }
     if !options.quiet {
         let shown = |counts: Vec<String>| counts.join(", ");
         let total: u64 = run.values().sum();
-        println!("vectors: {total} cases run: {}", shown(run.iter().map(|(file, n)| format!("{file} {n}")).collect()));
+        println!("vectors: records as {records} cases of import tell them");
+        println!(
+            "vectors: {total} cases run, {pcap} of them of pcap: {}",
+            shown(run.iter().map(|(file, n)| format!("{file} {n}")).collect())
+        );
         let total: u64 = passed.values().sum();
         let reasons = passed.iter().map(|(why, n)| format!("{why} {n}")).collect();
         println!("vectors: {total} passed over: {}", shown(reasons));

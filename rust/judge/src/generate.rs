@@ -8,11 +8,13 @@
 use std::collections::VecDeque;
 
 use crate::rng::Rng;
+use crate::trace::pcap::{self, Form};
 use crate::trace::{control, pdu, signal, uih, Trace};
-use lumbryth::pack;
 use lumbryth::Direction::{self, Rx, Tx};
+use lumbryth::{pack, Container};
 
 pub struct Generated {
+    pub container: Container,
     pub file: Vec<u8>,
     pub starts: Vec<usize>,
     /// The DLCIs in use, no two of one channel.
@@ -258,5 +260,15 @@ pub fn trace(rng: &mut Rng, datalink: u32) -> Generated {
             maker.noise();
         }
     }
-    Generated { file: maker.trace.file, starts: maker.trace.starts, dlcis }
+    Generated { container: Container::Btsnoop, file: maker.trace.file, starts: maker.trace.starts, dlcis }
+}
+
+/// The packets of a trace of datalink 1002 in pcap, with the same times. Its directions are 0 and 1, and every packet has one: tshark
+/// takes others by their low bit, and gives up a file at a packet without one.
+pub fn in_pcap(rng: &mut Rng, form: Form) -> Generated {
+    let made = trace(rng, 1002);
+    let file = pcap::twin(&made.file, form);
+    // A record's header is 24 bytes in btsnoop; in pcap 16, and 4 for the direction.
+    let starts = made.starts.iter().enumerate().map(|(i, start)| start - 16 - 24 * i + 24 + 20 * i).collect();
+    Generated { container: Container::Pcap, file, starts, dlcis: made.dlcis }
 }

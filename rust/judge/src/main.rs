@@ -6,6 +6,10 @@
 //! those of a plain reader here; the information, scanned for frames, to what the library imports for each DLCI: every span's
 //! bytes, direction and time, in order, and how many are under way at the end. Cuts of the trace are held to what tshark
 //! found in the records that are left. Then faults are planted in what our side reads, and each of them has to show.
+//!
+//! The traces are btsnoop files of each datalink and pcap files of each form. What tshark reads otherwise than the documents have it
+//! is in none of them: directions other than 0 and 1, packets too short for one, packets over 262,144 bytes. But a pcap file with
+//! microseconds that is cut 4 or 8 bytes into its second record is among the cuts: tshark takes it for a file of another kind.
 
 #![forbid(unsafe_code)]
 
@@ -23,8 +27,9 @@ use std::{env, fs, process};
 
 use generate::Generated;
 use judged::{spans, Piece, Seen};
-use lumbryth::{import, records, unpack, Refusal, TailRule};
+use lumbryth::{import_with, records_with, unpack, Container, Options, Refusal, TailRule};
 use rng::Rng;
+use trace::pcap::{Form, FORMS};
 
 /// How many cuts of each trace are judged.
 const CUTS: usize = 40;
@@ -42,11 +47,20 @@ struct Tally {
     dlcis: usize,
     cuts: usize,
     faults: usize,
+    /// Traces in pcap; cuts into a second record; and of these, those that only the library reads as they were written.
+    pcap: usize,
+    second: usize,
+    misread: usize,
+}
+
+/// The tolerant rule, for a file of this container.
+fn tolerant(container: Container) -> Options {
+    Options::default().with_tail(TailRule::Tolerant).with_container(container)
 }
 
 /// Holds the PDUs that a plain reader finds in a file to those of tshark. The difference in words, if there is one.
-fn judge_pdus(seen: &Seen, file: &[u8], tally: &mut Tally) -> Result<(), String> {
-    let ours = reader::read(file);
+fn judge_pdus(seen: &Seen, container: Container, file: &[u8], tally: &mut Tally) -> Result<(), String> {
+    let ours = reader::read(container, file);
     if ours.records != seen.records {
         return Err(format!("{} records here, {} there", ours.records, seen.records));
     }
@@ -66,7 +80,8 @@ fn judge_pdus(seen: &Seen, file: &[u8], tally: &mut Tally) -> Result<(), String>
 
 /// Holds what the library imports for each DLCI, and without a channel, to what tshark found on it. A file that was cut
 /// ends at the tail.
-fn judge_spans(pieces: &[Piece], file: &[u8], tail: usize, dlcis: &[u8], tally: &mut Tally) -> Result<(), String> {
+fn judge_spans(pieces: &[Piece], made: &Generated, file: &[u8], tail: usize, tally: &mut Tally) -> Result<(), String> {
+    let dlcis = &made.dlcis;
     if let Some(piece) = pieces.iter().find(|piece| !dlcis.contains(&piece.dlci)) {
         return Err(format!("record {}: DLCI {} is not in use", piece.record, piece.dlci));
     }
@@ -75,7 +90,8 @@ fn judge_spans(pieces: &[Piece], file: &[u8], tail: usize, dlcis: &[u8], tally: 
     let first = pieces.iter().map(|piece| piece.dlci).find(|&dlci| carries(dlci));
     let wanted = dlcis.iter().map(|&dlci| (Some(dlci / 2), Some(dlci).filter(|&dlci| carries(dlci))));
     for (channel, dlci) in wanted.chain([(None, first)]) {
-        let imported = import(file, channel, TailRule::Tolerant);
+        let options = channel.iter().fold(tolerant(made.container), |options, channel| options.with_channel(*channel));
+        let imported = import_with(file, &options);
         let Some(dlci) = dlci else {
             if imported != Err(Refusal::NoStream) {
                 return Err(format!("channel {channel:?}: nothing there unpacks; here {imported:?}"));
@@ -104,8 +120,8 @@ fn judge_spans(pieces: &[Piece], file: &[u8], tail: usize, dlcis: &[u8], tally: 
 }
 
 /// The library's records are those that were made, and as many as tshark shows.
-fn judge_records(shown: usize, starts: &[usize], file: &[u8], tail: usize) -> Result<(), String> {
-    let found = records(file);
+fn judge_records(shown: usize, container: Container, starts: &[usize], file: &[u8], tail: usize) -> Result<(), String> {
+    let found = records_with(file, &tolerant(container));
     if shown != starts.len() || found.as_ref().map(|found| (&found.starts[..], found.tail)) != Ok((starts, tail)) {
         return Err(format!("{shown} records there, {} made, here {found:?}", starts.len()));
     }
@@ -116,11 +132,32 @@ fn judge_records(shown: usize, starts: &[usize], file: &[u8], tail: usize) -> Re
 fn judge_cut(seen: &Seen, generated: &Generated, n: usize) -> Result<(), String> {
     let ends: Vec<usize> = generated.starts[1..].iter().copied().chain([generated.file.len()]).collect();
     let left = ends.iter().filter(|&&end| end <= n).count();
-    let tail = if left == 0 { 16 } else { ends[left - 1] };
-    judge_records(left, &generated.starts[..left], &generated.file[..n], tail)?;
+    let tail = if left == 0 { generated.container.header() } else { ends[left - 1] };
+    judge_records(left, generated.container, &generated.starts[..left], &generated.file[..n], tail)?;
     let pieces = seen.pieces.iter().filter(|piece| piece.record <= left).cloned().collect::<Vec<_>>();
-    judge_spans(&pieces, &generated.file[..n], tail, &generated.dlcis, &mut Tally::default())
+    judge_spans(&pieces, generated, &generated.file[..n], tail, &mut Tally::default())
         .map_err(|words| format!("cut at {n}: {words}"))
+}
+
+/// The cuts 4, 8 and 9 bytes into the second record. The library has to read them as they were written. How many of the first two
+/// tshark reads otherwise than the whole file, of whose first record all is there; the third it has to read alike.
+fn judge_misread(path: &Path, seen: &Seen, made: &Generated) -> Result<usize, String> {
+    let whole = tshark::packets(path)?;
+    let mut misread = 0;
+    for more in [4, 8, 9] {
+        let n = made.starts[1] + more;
+        judge_cut(seen, made, n)?;
+        let cut = path.with_extension(format!("cut-{more}"));
+        fs::write(&cut, &made.file[..n]).map_err(|error| error.to_string())?;
+        let alike = tshark::packets(&cut)? == whole[..1];
+        fs::remove_file(&cut).map_err(|error| error.to_string())?;
+        match (more, alike) {
+            (_, true) => (),
+            (9, false) => return Err("tshark reads another first record where the second is cut after 9 bytes".into()),
+            (_, false) => misread += 1,
+        }
+    }
+    Ok(misread)
 }
 
 /// Where the last record starts and ends that completes a piece which ends a span, with the span's last byte in it.
@@ -134,8 +171,9 @@ fn closing(seen: &Seen, generated: &Generated) -> Option<(usize, usize)> {
         let dlci = seen.pieces[i].dlci;
         let more = spans(&seen.pieces[..=i], dlci).0.len() > spans(&seen.pieces[..i], dlci).0.len();
         let (start, end) = bounds(i);
-        // The record's header, at most 5 bytes before the data, the 3C and the FCS.
-        more && seen.pieces[i].information.last() == Some(&0x3C) && end - start >= 24 + 5 + 2
+        // The record's header, at most 9 bytes before the data, the 3C and the FCS.
+        let least = generated.container.record_header() + 9 + 2;
+        more && seen.pieces[i].information.last() == Some(&0x3C) && end - start >= least
     };
     (0..seen.pieces.len()).rev().find(closes).map(bounds)
 }
@@ -149,17 +187,22 @@ fn plant(seen: &Seen, generated: &Generated) -> Result<usize, String> {
         copy[at] ^= bits;
         copy
     };
+    // The last byte of a direction; and a byte of a time that is 65,536 microseconds, or seconds in either byte order.
+    let (time, direction) = match generated.container {
+        Container::Pcap => (start + if file[0] == 0xA1 { 2 } else { 1 }, start + 16 + 3),
+        _ => (start + 21, start + 11),
+    };
     let faults = [
         // The last byte is the FCS; information comes before it.
         ("a byte of information", changed(end - 2, 0x01)),
-        ("a time", changed(start + 21, 0x01)),
-        ("a direction", changed(start + 11, 0x01)),
+        ("a time", changed(time, 0x01)),
+        ("a direction", changed(direction, 0x01)),
         ("a record that is lost", [&file[..start], &file[end..]].concat()),
     ];
     for (name, copy) in &faults {
         let tally = &mut Tally::default();
-        if judge_pdus(seen, copy, tally).is_ok()
-            || judge_spans(&seen.pieces, copy, copy.len(), &generated.dlcis, tally).is_ok()
+        if judge_pdus(seen, generated.container, copy, tally).is_ok()
+            || judge_spans(&seen.pieces, generated, copy, copy.len(), tally).is_ok()
         {
             return Err(format!("a planted fault went unseen: {name}"));
         }
@@ -171,14 +214,23 @@ fn plant(seen: &Seen, generated: &Generated) -> Result<usize, String> {
 fn judge(path: &Path, made: &Generated, rng: &mut Rng, tally: &mut Tally) -> Result<(), String> {
     let file = &made.file;
     let seen = tshark::read(path)?;
-    judge_records(seen.records, &made.starts, file, file.len())?;
-    judge_pdus(&seen, file, tally)?;
-    judge_spans(&seen.pieces, file, file.len(), &made.dlcis, tally)?;
-    if import(file, None, TailRule::Strict) != import(file, None, TailRule::Tolerant) {
+    judge_records(seen.records, made.container, &made.starts, file, file.len())?;
+    judge_pdus(&seen, made.container, file, tally)?;
+    judge_spans(&seen.pieces, made, file, file.len(), tally)?;
+    let tolerant = tolerant(made.container);
+    if import_with(file, &tolerant.with_tail(TailRule::Strict)) != import_with(file, &tolerant) {
         return Err("the strict rule finds something else than the tolerant".to_string());
     }
     for _ in 0..CUTS {
-        judge_cut(&seen, made, rng.within(16, file.len()))?;
+        judge_cut(&seen, made, rng.within(made.container.header(), file.len()))?;
+    }
+    if made.container == Container::Pcap {
+        tally.pcap += 1;
+        // One file of each form is enough.
+        if tally.pcap <= FORMS.len() {
+            tally.second += 2;
+            tally.misread += judge_misread(path, &seen, made)?;
+        }
     }
     tally.pieces += seen.pieces.len();
     tally.cuts += CUTS;
@@ -187,34 +239,52 @@ fn judge(path: &Path, made: &Generated, rng: &mut Rng, tally: &mut Tally) -> Res
     Ok(())
 }
 
-/// The trace that is shipped as an example.
-fn shipped(path: &Path) -> Result<Generated, String> {
+/// A trace that is shipped as an example.
+fn shipped(path: &Path, container: Container) -> Result<Generated, String> {
     let file = fs::read(path).map_err(|error| format!("{}: {error}", path.display()))?;
-    let found = records(&file).map_err(|refusal| refusal.to_string())?;
-    Ok(Generated { file, starts: found.starts, dlcis: vec![18] })
+    let found = records_with(&file, &tolerant(container)).map_err(|refusal| refusal.to_string())?;
+    Ok(Generated { container, file, starts: found.starts, dlcis: vec![18] })
+}
+
+/// A btsnoop file of this datalink, or a pcap file of this form.
+#[derive(Debug, Clone, Copy)]
+enum Kind {
+    Datalink(u32),
+    Pcap(Form),
 }
 
 fn run(traces: usize, seed: u64, dir: &Path) -> Result<Tally, String> {
     let mut rng = Rng::new(seed);
     let mut tally = Tally::default();
+    let kinds: Vec<Kind> = [1001, 1002, 2001].map(Kind::Datalink).into_iter().chain(FORMS.map(Kind::Pcap)).collect();
     for i in 0..traces {
-        let datalink = [1001, 1002, 2001][i % 3];
-        let made = generate::trace(&mut rng, datalink);
-        let path = dir.join(format!("{i}.btsnoop"));
+        let kind = kinds[i % kinds.len()];
+        let (made, extension) = match kind {
+            Kind::Datalink(datalink) => (generate::trace(&mut rng, datalink), "btsnoop"),
+            Kind::Pcap(form) => (generate::in_pcap(&mut rng, form), "pcap"),
+        };
+        let path = dir.join(format!("{i}.{extension}"));
         fs::write(&path, &made.file).map_err(|error| format!("{}: {error}", path.display()))?;
         judge(&path, &made, &mut rng, &mut tally).map_err(|words| {
-            format!("trace {i}, datalink {datalink}, seed {seed}: {words}\nthe trace is kept: {}", path.display())
+            format!("trace {i}, {kind:?}, seed {seed}: {words}\nthe trace is kept: {}", path.display())
         })?;
         fs::remove_file(&path).map_err(|error| error.to_string())?;
     }
-    let example = Path::new(env!("CARGO_MANIFEST_DIR")).join("../../examples/headset.btsnoop");
-    judge(&example, &shipped(&example)?, &mut rng, &mut tally).map_err(|words| format!("the example: {words}"))?;
+    let examples = Path::new(env!("CARGO_MANIFEST_DIR")).join("../../examples");
+    for (name, container) in [("headset.btsnoop", Container::Btsnoop), ("headset.pcap", Container::Pcap)] {
+        // A copy, as cuts of it are put beside it.
+        let example = shipped(&examples.join(name), container)?;
+        let path = dir.join(name);
+        fs::write(&path, &example.file).map_err(|error| error.to_string())?;
+        judge(&path, &example, &mut rng, &mut tally).map_err(|words| format!("{name}: {words}"))?;
+        fs::remove_file(&path).map_err(|error| error.to_string())?;
+    }
     Ok(tally)
 }
 
 fn main() -> ExitCode {
     let number = |i, otherwise| env::args().nth(i).map_or(Ok(otherwise), |arg| arg.parse::<u64>());
-    let (Ok(traces), Ok(seed)) = (number(1, 48), number(2, 1)) else {
+    let (Ok(traces), Ok(seed)) = (number(1, 70), number(2, 1)) else {
         eprintln!("usage: judge [TRACES [SEED]]");
         return ExitCode::from(2);
     };
@@ -224,9 +294,10 @@ fn main() -> ExitCode {
         Ok(tally) => {
             let _ = fs::remove_dir(&dir);
             println!(
-                "tshark and the library agree on {} traces, one of them the example: {} records, {} PDUs ({} of them in fragments), {} pieces on {} \
-                 DLCIs, {} spans, {} unfinished; and on {} cuts of them; {} planted faults, each seen",
+                "tshark and the library agree on {} traces, {} of them in pcap and two of them the examples: {} records, {} PDUs ({} of them in \
+                 fragments), {} pieces on {} DLCIs, {} spans, {} unfinished; and on {} cuts of them; {} planted faults, each seen",
                 tally.traces,
+                tally.pcap,
                 tally.records,
                 tally.pdus,
                 tally.joined,
@@ -236,6 +307,12 @@ fn main() -> ExitCode {
                 tally.unfinished,
                 tally.cuts,
                 tally.faults
+            );
+            println!(
+                "of {} pcap files that are cut 4 or 8 bytes into the second record, the library reads the first as it was written; tshark does \
+                 not in {}",
+                tally.second,
+                tally.misread
             );
             ExitCode::SUCCESS
         }

@@ -1,20 +1,32 @@
 //! What tshark finds in a trace.
 
 use std::path::Path;
-use std::process::Command;
+use std::process::{Command, Output};
 
 use crate::judged::{Pdu, Piece, Seen};
 use lumbryth::Direction;
 
-/// Runs tshark, and gives what it shows of each record.
-pub fn read(path: &Path) -> Result<Seen, String> {
-    let output = Command::new("tshark")
+/// Runs tshark on a trace.
+fn run(path: &Path) -> Result<Output, String> {
+    Command::new("tshark")
         .args(["-n", "-T", "json", "-x", "-J", "frame hci_mon bthci_acl btl2cap btrfcomm data", "-r"])
         .arg(path)
         // No one's own settings.
         .env("WIRESHARK_CONFIG_DIR", std::env::temp_dir().join("lumbryth-judge-no-settings"))
         .output()
-        .map_err(|error| format!("tshark cannot be run: {error}"))?;
+        .map_err(|error| format!("tshark cannot be run: {error}"))
+}
+
+/// The bytes that tshark takes for the packet of each record, up to where it finds a file cut.
+pub fn packets(path: &Path) -> Result<Vec<Vec<u8>>, String> {
+    let text = String::from_utf8(run(path)?.stdout).map_err(|error| error.to_string())?;
+    let packet = |record| raw(record, "frame_raw").map(Option::unwrap_or_default);
+    text.split("\"_index\":").skip(1).map(packet).collect()
+}
+
+/// Runs tshark, and gives what it shows of each record.
+pub fn read(path: &Path) -> Result<Seen, String> {
+    let output = run(path)?;
     if !output.status.success() {
         return Err(format!("tshark failed: {}", String::from_utf8_lossy(&output.stderr)));
     }
