@@ -1,5 +1,5 @@
 -- Reading the packet of one record.
-use Prim.Native.Nat.{ℕ, _+_, _-_, _/_, _%_, _<_, _≤_}
+use Prim.Native.Nat.{ℕ, _+_, _-_, _/_, _%_, _<_}
 use mathlib.Core.Path.{_≡_, sym, _∙_}
 use mathlib.Core.List.{List}
 use native.Mathlib.Omega.{arith}
@@ -9,7 +9,7 @@ use Rattle.laws.specs.Numbers.{be32}
 use Rattle.acl.proofs.Parts.{be32-part, drop-part}
 use Rattle.acl.specs.Reading.{AclIs, AclPre, H4Is, between, shown}
 use Rattle.acl.specs.declared.Acl.{Acl}
-use Rattle.acl.specs.declared.Acl.the-variants.{Packet as Read, Skipped}
+use Rattle.acl.specs.declared.Acl.the-variants.{Skipped}
 use Rattle.btsnoop.specs.Packets.{milliseconds, hciPacket, monitorPacket, packetOf}
 use Rattle.btsnoop.specs.Reading.{HciIs, MonitorIs, RecordIs, RecordPre}
 

@@ -6,7 +6,7 @@ use mathlib.Core.List.{List, [], _∷_}
 use native.Mathlib.Omega.{arith}
 use lib.ListN.{length}
 use Rattle.laws.proofs.Choice.{no-way}
-use Rattle.laws.specs.Answers.{accepted, refused, refuses, Meets}
+use Rattle.laws.specs.Answers.{accepted, refused, Meets}
 use Rattle.laws.proofs.Answers.{meets-refused, meets-as}
 use Rattle.trace.specs.Formats.{containerOf, formatOf}
 use Rattle.trace.specs.Headers.{toldRefusal}
@@ -29,7 +29,7 @@ use Rattle.streams.specs.declared.Stream.{Stream}
 use Rattle.outcome.specs.Import.{read, given, fits, workSuffices, imported}
 use Rattle.outcome.specs.Import as import
 use Rattle.cut.proofs.Theorem.{cut-claim}
-use Rattle.opening.specs.Opening.{opened, toldOpened, Opens}
+use Rattle.opening.specs.Opening.{opened, Opens}
 use Rattle.opening.proofs.AsImport.{orGiven, import-opened, opened-sized}
 use Rattle.opening.specs.declared.Opened.{Opened}
 use Rattle.opening.specs.declared.Opened.the-variants.{Read, Refused as Unread}

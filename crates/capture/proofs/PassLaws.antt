@@ -4,14 +4,14 @@ use mathlib.Core.Path.{_≡_, _∙_}
 use mathlib.Core.List.{List}
 use lib.ListN.{length}
 use Rattle.container.specs.Container.{packetsIn}
-use Rattle.trace.specs.Formats.{containerOf, formatOf}
+use Rattle.trace.specs.Formats.{containerOf}
 use Rattle.trace.proofs.Formats.{packets-of, tail-of}
 use Rattle.trace.specs.declared.Format.{Format}
-use Rattle.packets.specs.PacketTable.{packetsFrom, Tabled}
+use Rattle.packets.specs.PacketTable.{Tabled}
 use Rattle.packets.specs.Adding.{ReadTo}
 use Rattle.packets.specs.declared.Packets.{Packets}
 use Rattle.l2cap.specs.Pdus.{pdus}
-use Rattle.l2cap.specs.PduTable.{pdusFrom, Reassembled}
+use Rattle.l2cap.specs.PduTable.{pdusFrom}
 use Rattle.channels.specs.Passing.{ReadChannels}
 use Rattle.channels.specs.Tried.{source}
 use Rattle.rfcomm.specs.Pieces.{judged}

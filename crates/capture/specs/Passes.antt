@@ -1,6 +1,5 @@
 -- The five passes of import, the first of which opens the trace, in order, and what they promise together. Each finds in work what the one before it left there.
 use Prim.Native.Nat.{ℕ}
-use mathlib.Core.Path.{_≡_}
 use mathlib.Core.List.{List}
 use Rattle.laws.specs.Answers.{Meets}
 use Rattle.trace.specs.Formats.{containerOf, formatOf}

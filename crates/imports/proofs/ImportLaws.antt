@@ -1,6 +1,6 @@
 -- From the code's answer to what a caller gets.
 use Prim.Native.Nat.{ℕ}
-use mathlib.Core.Path.{_≡_, subst}
+use mathlib.Core.Path.{subst}
 use mathlib.Core.List.{List, [], _∷_}
 use lib.ListN.{length}
 use Rattle.trace.specs.Formats.{containerOf}

@@ -1,16 +1,15 @@
 -- Each refusal, and what is read where none is met.
 use Prim.Native.Nat.{ℕ, _*_, _<_, _≤_}
-use mathlib.Core.Path.{_≡_, refl, sym, ap, _∙_}
-use mathlib.Core.Bool.{Bool, true, false, not, _&&_}
+use mathlib.Core.Path.{_≡_, refl, sym, _∙_}
+use mathlib.Core.Bool.{Bool, true, false, not}
 use mathlib.Core.List.{List, [], _∷_}
 use native.Mathlib.Omega.{arith}
 use lib.ListN.{length}
 use lib.Dec.{eqb}
 use borrow.Author.Tests.{le-leb, lt-leb}
 use Rattle.laws.proofs.Choice.{no-way}
-use Rattle.laws.specs.Answers.{Answer, accepted, refused}
-use Rattle.container.specs.Container as container
-use Rattle.trace.specs.Formats.{containerOf, formatOf, fileHead, tailBy}
+use Rattle.laws.specs.Answers.{accepted, refused}
+use Rattle.trace.specs.Formats.{containerOf, formatOf, tailBy}
 use Rattle.trace.specs.Headers.{headed, HeaderIs}
 use Rattle.trace.proofs.Formats.{lawful, head-of, tail-of}
 use Rattle.trace.proofs.Headers.{header-as}
@@ -24,7 +23,7 @@ use Rattle.packets.specs.Adding.{ReadPre, ReadTo}
 use Rattle.packets.specs.declared.Packets.{Packets}
 use Rattle.outcome.specs.Import.{endsWell, fits, workSuffices}
 use Rattle.outcome.specs.Import as import
-use Rattle.opening.specs.Opening.{ends, heads, opened, tailOf, toldOpened, Reads, Opens, Sized, HeaderOpens, endsBy, RecordsOpen, truncates}
+use Rattle.opening.specs.Opening.{ends, heads, opened, tailOf, Reads, Opens, Sized, HeaderOpens, endsBy, RecordsOpen, truncates}
 use Rattle.opening.specs.declared.Tail.{Tail}
 use Rattle.opening.specs.declared.Tail.the-variants.{Strict, Tolerant}
 use Rattle.opening.specs.declared.Opened.{Opened}

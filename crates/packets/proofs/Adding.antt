@@ -1,6 +1,6 @@
 -- The table of packets, one packet more, and the loop over the records.
 use Prim.Native.Nat.{ℕ, suc, _+_, _-_, _*_, _<_, _≤_}
-use mathlib.Core.Path.{_≡_, refl, sym, ap, _∙_}
+use mathlib.Core.Path.{_≡_, refl, sym, _∙_}
 use mathlib.Core.Bool.{Bool, true, false}
 use mathlib.Core.List.{List, [], _++_, append-assoc, append-nil}
 use mathlib.Core.Option.{Option, none, some}
@@ -27,7 +27,7 @@ use Rattle.btsnoop.specs.Packets as btsnoop-packets
 use Rattle.pcap.specs.Reading as pcap-reading
 use Rattle.pcap.specs.Packets as pcap-packets
 use Rattle.pcap.specs.declared.Encoding.{Encoding}
-use Rattle.trace.specs.Formats.{fileHead, recordHead, sizeBy, timeBy, packetBy, recordsFrom, packetsBy}
+use Rattle.trace.specs.Formats.{fileHead, recordHead, sizeBy, timeBy, packetBy, recordsFrom}
 use Rattle.trace.proofs.Formats.{head-least, head-most, file-head-least, size-least, packet-room, packet-none, time-part}
 use Rattle.trace.specs.Walk.{RecordAt, RecordPre, isEmpty}
 use Rattle.trace.proofs.Walk.{flat-step}

@@ -4,16 +4,15 @@ use mathlib.Core.Path.{_≡_, sym, _∙_}
 use mathlib.Core.Bool.{Bool, true, false, cond}
 use mathlib.Core.List.{List, _++_}
 use native.Mathlib.Omega.{arith}
-use lib.ListN.{length, take, drop, length-drop}
+use lib.ListN.{length, drop, length-drop}
 use lib.Seq.{length-take-le}
 use borrow.Author.Tests.{eq-eqb, ne-eqb}
 use Rattle.laws.proofs.Choice.{split≤}
 use Rattle.laws.specs.Numbers.{be32}
-use Rattle.container.specs.Packets.{h4Packet}
 use Rattle.acl.proofs.Parts.{be32-part, be32-drop, le32-drop, drop-part}
 use Rattle.acl.specs.Reading.{AclPre, H4Is, between, shown}
 use Rattle.acl.specs.declared.Acl.{Acl}
-use Rattle.acl.specs.declared.Acl.the-variants.{Packet as Known, Skipped}
+use Rattle.acl.specs.declared.Acl.the-variants.{Skipped}
 use Rattle.pcap.specs.Header.{number}
 use Rattle.pcap.specs.Records.{recordSize}
 use Rattle.pcap.specs.Packets.{milliseconds, directedPacket}

@@ -1,21 +1,17 @@
 -- Laws of formats, for both containers at once: sizes, fronts, packets; and what a file's header says reads it as its container does.
 use Prim.Native.Nat.{ℕ, _+_, _-_, _<_, _≤_}
 use mathlib.Core.Path.{_≡_, refl, sym, ap, _∙_}
-use mathlib.Core.Bool.{Bool, true, false}
-use mathlib.Core.List.{List, [], _∷_, _++_}
+use mathlib.Core.List.{List, _++_}
 use mathlib.Core.Option.{Option, none, some}
 use native.Mathlib.Omega.{arith}
 use lib.ListN.{length, take, drop, length-drop, take-append-drop}
 use lib.Seq.{length-take-le}
-use Rattle.laws.specs.Lists.{flat}
 use Rattle.container.specs.Container as container
 use Rattle.container.specs.Packets.{Packet}
 use Rattle.btsnoop.specs.Records as btsnoop-records
-use Rattle.btsnoop.specs.Packets as btsnoop-packets
 use Rattle.btsnoop.proofs.Laws as btsnoop-laws
 use Rattle.btsnoop.proofs.Records as btsnoop-times
 use Rattle.pcap.specs.Records as pcap-records
-use Rattle.pcap.specs.Packets as pcap-packets
 use Rattle.pcap.specs.declared.Encoding.{Encoding}
 use Rattle.pcap.proofs.Laws as pcap-laws
 use Rattle.pcap.proofs.Reading as pcap-times

@@ -1,8 +1,8 @@
 -- What reading a header answers.
 use Prim.Native.Nat.{ℕ}
-use mathlib.Core.Path.{_≡_, refl, sym, _∙_}
-use mathlib.Core.List.{List, [], _∷_}
-use Rattle.laws.specs.Answers.{Answer, refused}
+use mathlib.Core.Path.{_≡_, sym, _∙_}
+use mathlib.Core.List.{List}
+use Rattle.laws.specs.Answers.{refused}
 use Rattle.btsnoop.specs.Headers as btsnoop-headers
 use Rattle.btsnoop.proofs.Headers as btsnoop-read
 use Rattle.btsnoop.specs.declared.Header as btsnoop-header
@@ -12,7 +12,7 @@ use Rattle.pcap.proofs.Headers as pcap-read
 use Rattle.pcap.specs.declared.Encoding.{Encoding}
 use Rattle.pcap.specs.declared.Header as pcap-header
 use Rattle.pcap.specs.declared.Header.the-variants as pcap-says
-use Rattle.trace.specs.Headers.{toldRefusal, headed, HeaderOf, HeaderIs}
+use Rattle.trace.specs.Headers.{headed, HeaderOf, HeaderIs}
 use Rattle.trace.specs.declared.Container.{Container}
 use Rattle.trace.specs.declared.Container.the-variants.{Btsnoop, Pcap}
 use Rattle.trace.specs.declared.Format.the-variants.{Btsnoop as ByDatalink, Pcap as ByEncoding}

@@ -9,7 +9,7 @@ use lib.ListN.{length, getD, set, take, drop, length-drop, length-set}
 use lib.Seq.{sets, length-take-le, drop-drop}
 use borrow.Author.Tests.{le-leb, lt-leb}
 use Rattle.laws.proofs.Choice.{splitB}
-use Rattle.laws.specs.Answers.{accepted, refused}
+use Rattle.laws.specs.Answers.{accepted}
 use Rattle.container.specs.Container as container
 use Rattle.trace.specs.Formats.{containerOf, formatOf, fileHead, sizeBy, recordsFrom, recordsBy, tailBy}
 use Rattle.trace.specs.Headers.{toldRefusal, headed, HeaderIs}

@@ -12,7 +12,6 @@ use denote.Ref.{RefT, now}
 use Rattle.laws.proofs.Choice.{splitB, split≤, no-way}
 use Rattle.laws.specs.Lists.{flat}
 use Rattle.container.specs.Container.{isWhole, recordsIn}
-use Rattle.container.proofs.Records as container-records
 use Rattle.acl.specs.Reading.{between}
 use Rattle.trace.specs.Formats.{fileHead, recordHead, sizeBy, recordsFrom, tailBy}
 use Rattle.trace.specs.Walk.{RecordAt, isEmpty}

@@ -3,11 +3,10 @@ use Prim.Native.Nat.{ℕ}
 use mathlib.Core.Path.{_≡_}
 use mathlib.Core.Bool.{true, cond}
 use mathlib.Core.List.{List, [], _∷_}
-use Rattle.laws.specs.Answers.{Answer, accepted, refused}
+use Rattle.laws.specs.Answers.{Answer, refused}
 use Rattle.container.specs.Container as container
 use Rattle.trace.specs.Formats.{containerOf, formatOf}
 use Rattle.trace.specs.declared.Container.{Container}
-use Rattle.trace.specs.declared.Format.{Format}
 use Rattle.trace.specs.declared.Refusal.{Refusal}
 use Rattle.trace.specs.declared.Refusal.the-variants.{FileLong, WorkShort, NotBtsnoop, Datalink, NotPcap, LinkType, Truncated}
 use Rattle.trace.specs.declared.Header.{Header}
