@@ -76,14 +76,6 @@ bigNanos-tested : testedBy source bigNanos ≡ passed-all
 unfolding rules every once ends headerTest wholeTest smallTest dlciTest dynamicTest channelTest channelsTest informationTest sizesTest beginningsTest settledIn settledTest aloneIn aloneTest handlesTest dataTest markTest fragmentsTest leftFrom recordsLeft sent dataOf dataLeft pdusIn markedPdus withMarks judgedIn isDataOf toData afterData adds carriesOn file isPcap isBig isLittle isNano number linkOf isLink eqK recordSize be32 be64 le16 le32 packetsIn packets packetOf directedPacket milliseconds timeOf fragment h4Packet pdus run after of joined isComplete stillOpen pduOf completed commandSize isCommand commands chop chopFrom body signalOf signalsIn pduSignals signals any names named asksFor admits admittedAfter admitted isTried asksRfcomm asksSession isSabm isUih shortLength infoLength infoStart creditOf frameOf uihKind frameKind kindBy triedBy judgedFrom judgedBy rxOf packed bodyOf summedOf headOf checksumOf within
 bigNanos-tested = refl
 
-big-tested : testedBy source big ≡ passed-all
-unfolding rules every once ends headerTest wholeTest smallTest dlciTest dynamicTest channelTest channelsTest informationTest sizesTest beginningsTest settledIn settledTest aloneIn aloneTest handlesTest dataTest markTest fragmentsTest leftFrom recordsLeft sent dataOf dataLeft pdusIn markedPdus withMarks judgedIn isDataOf toData afterData adds carriesOn file isPcap isBig isLittle isNano number linkOf isLink eqK recordSize be32 be64 le16 le32 packetsIn packets packetOf directedPacket milliseconds timeOf fragment h4Packet pdus run after of joined isComplete stillOpen pduOf completed commandSize isCommand commands chop chopFrom body signalOf signalsIn pduSignals signals any names named asksFor admits admittedAfter admitted isTried asksRfcomm asksSession isSabm isUih shortLength infoLength infoStart creditOf frameOf uihKind frameKind kindBy triedBy judgedFrom judgedBy rxOf packed bodyOf summedOf headOf checksumOf within
-big-tested = refl
-
-littleNanos-tested : testedBy source littleNanos ≡ passed-all
-unfolding rules every once ends headerTest wholeTest smallTest dlciTest dynamicTest channelTest channelsTest informationTest sizesTest beginningsTest settledIn settledTest aloneIn aloneTest handlesTest dataTest markTest fragmentsTest leftFrom recordsLeft sent dataOf dataLeft pdusIn markedPdus withMarks judgedIn isDataOf toData afterData adds carriesOn file isPcap isBig isLittle isNano number linkOf isLink eqK recordSize be32 be64 le16 le32 packetsIn packets packetOf directedPacket milliseconds timeOf fragment h4Packet pdus run after of joined isComplete stillOpen pduOf completed commandSize isCommand commands chop chopFrom body signalOf signalsIn pduSignals signals any names named asksFor admits admittedAfter admitted isTried asksRfcomm asksSession isSabm isUih shortLength infoLength infoStart creditOf frameOf uihKind frameKind kindBy triedBy judgedFrom judgedBy rxOf packed bodyOf summedOf headOf checksumOf within
-littleNanos-tested = refl
-
 reused-tested : testedBy core littleReused ≡ passed-all
 unfolding openTest holds holdsAfter events eventsAfter eventsOf bothHold latest coreSignals pduCoreSignals coreSignalsIn coreSignalOf rules every once ends headerTest wholeTest smallTest dlciTest dynamicTest channelTest channelsTest informationTest sizesTest beginningsTest settledIn settledTest aloneIn aloneTest handlesTest dataTest markTest fragmentsTest leftFrom recordsLeft sent dataOf dataLeft pdusIn markedPdus withMarks judgedIn isDataOf toData afterData adds carriesOn file isPcap isBig isLittle isNano number linkOf isLink eqK recordSize be32 be64 le16 le32 packetsIn packets packetOf directedPacket milliseconds timeOf fragment h4Packet pdus run after of joined isComplete stillOpen pduOf completed commandSize isCommand commands chop chopFrom body signalOf signalsIn pduSignals signals any names named asksFor admits admittedAfter admitted isTried asksRfcomm asksSession isSabm isUih shortLength infoLength infoStart creditOf frameOf uihKind frameKind kindBy triedBy judgedFrom judgedBy rxOf packed bodyOf summedOf headOf checksumOf within
 reused-tested = refl
@@ -91,12 +83,6 @@ reused-tested = refl
 -- so the claim for pcap is not empty
 pub little-honest : Honest source little
 little-honest = honest lawful source packedChecked (λ l t. unended) little little-tested
-
-pub big-honest : Honest source big
-big-honest = honest lawful source packedChecked (λ l t. unended) big big-tested
-
-pub littleNanos-honest : Honest source littleNanos
-littleNanos-honest = honest lawful source packedChecked (λ l t. unended) littleNanos littleNanos-tested
 
 pub bigNanos-honest : Honest source bigNanos
 bigNanos-honest = honest lawful source packedChecked (λ l t. unended) bigNanos bigNanos-tested

@@ -1,0 +1,1 @@
+// An honest pcap recording in two more encodings, computed: proofs only.
