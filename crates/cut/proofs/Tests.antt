@@ -26,7 +26,7 @@ use Rattle.channels.specs.Signals.{triple, signals}
 use Rattle.channels.specs.Channels.{any, named, admitted, channelOf}
 use Rattle.channels.specs.Core.{holds}
 use Rattle.channels.specs.Tried.{ChannelRule, source, core}
-use Rattle.rfcomm.specs.Frames.{frameOf}
+use Rattle.uih.specs.Frames.{frameOf}
 use Rattle.rfcomm.specs.Pieces.{Kind, asks, opens, carries, passed, frameKind, Judged, judgedBy}
 use Rattle.cut.specs.Recording.{wire, Framing, packedFrames, LinkOf, Mark, free, part, last, Record, RecordingOf, file}
 use Rattle.cut.specs.Left.{leftFrom, recordsLeft, Sent, sentIn, Data, dataKey, linkKey, informationOf, dataOf, dataLeft, directionOf, wires}

@@ -21,8 +21,8 @@ use Rattle.channels.specs.Signals.{triple, signals}
 use Rattle.channels.specs.Channels.{named, admitted, channelOf}
 use Rattle.channels.specs.Core.{holds}
 use Rattle.channels.specs.Tried.{ChannelRule, source, core}
-use Rattle.rfcomm.specs.Frames.{frameOf}
-use Rattle.rfcomm.specs.Pieces.{Kind, asks, opens, carries, passed, Judged, frameKind, judgedBy}
+use Rattle.uih.specs.Frames.{isRight, frameOf}
+use Rattle.rfcomm.specs.Pieces.{Kind, asks, opens, carries, wrong, passed, frameKind, Judging, Judged, judgedBy}
 use Rattle.cut.specs.Recording.{LinkOf, Mark, free, part, last, Record, RecordingOf, rows, file, Framing}
 use Rattle.cut.specs.Left.{recordsLeft, Sent, sentIn, dataKey, linkKey, informationOf, dataOf, dataLeft, wires}
 
@@ -64,8 +64,8 @@ withMarks (j ∷ js) [] = []
 withMarks (j ∷ js) (q ∷ qs) = record { pdu = j .pdu; kind = j .kind; mark = q .mark } ∷ withMarks js qs
 
 -- the PDUs of some records, each judged at its place by these records alone: tried or not
-unfoldable pub judgedIn : {C : Container} {S : Framing} → ChannelRule → RecordingOf C S → List Record → List JudgedPdu
-judgedIn rule R rs = withMarks (judgedBy rule (pdusIn R rs)) (markedPdus (sentIn R rs))
+unfoldable pub judgedIn : {C : Container} {S : Framing} → Judging → RecordingOf C S → List Record → List JudgedPdu
+judgedIn by R rs = withMarks (judgedBy by (pdusIn R rs)) (markedPdus (sentIn R rs))
 
 unfoldable pub isDataOf : ℕ → Packet → Mark → Bool
 isDataOf h p free = false
@@ -78,21 +78,23 @@ toData h [] = []
 toData h (x ∷ xs) = cond (isDataOf h (x .packet) (x .mark)) (x ∷ []) (x ∷ toData h xs)
 
 -- the PDUs of some records, but those that are complete with a handle's first data fragment
-unfoldable pub afterData : {C : Container} {S : Framing} → ChannelRule → RecordingOf C S → List Record → ℕ → List JudgedPdu
-afterData rule R rs h = drop (length (markedPdus (toData h (sentIn R rs)))) (judgedIn rule R rs)
+unfoldable pub afterData : {C : Container} {S : Framing} → Judging → RecordingOf C S → List Record → ℕ → List JudgedPdu
+afterData by R rs h = drop (length (markedPdus (toData h (sentIn R rs)))) (judgedIn by R rs)
 
 -- it adds to the sessions, or to the links on d
 unfoldable pub adds : ℕ → Kind → Bool
 adds d asks = true
 adds d (opens e) = eqb e 0 || eqb e d
 adds d (carries e i) = false
+adds d (wrong e) = false
 adds d passed = false
 
--- it is UIH with data on d or on the other DLCI of its channel. (DLCI 0 is never one that carries.)
+-- it is UIH with data on d or on the other DLCI of its channel. (DLCI 0 is never one that carries; a wrong FCS that is checked carries nothing.)
 unfoldable pub carriesOn : ℕ → Kind → Bool
 carriesOn d asks = false
 carriesOn d (opens e) = false
 carriesOn d (carries e i) = eqb (e / 2) (d / 2)
+carriesOn d (wrong e) = false
 carriesOn d passed = false
 
 -- ---- fragments
@@ -102,7 +104,7 @@ pub data Joins (p : Packet) : Option (List ℕ) → List ℕ → Type 0 where
   first : p .start ≡ true → 1 ≤ length (p .bytes) → Joins p none (p .bytes)
   further : {b : List ℕ} → p .start ≡ false → 1 ≤ length (p .bytes) → Joins p (some b) (b ++ p .bytes)
 
--- a data PDU of a link: on its CID of the direction, UIH on d with the information i
+-- a data PDU of a link: on its CID of the direction, UIH on d with the information i, its FCS right or not
 pub record DataPdu {C : Container} {S : Framing} (R : RecordingOf C S) (p : Pdu) (i : List ℕ) : Type 0 where
   pub link : LinkOf S
   pub direction : Direction
@@ -110,7 +112,7 @@ pub record DataPdu {C : Container} {S : Framing} (R : RecordingOf C S) (p : Pdu)
   pub handle : p .link ≡ link .handle
   pub way : p .rx ≡ rxOf direction
   pub channel : p .cid ≡ link .cid direction
-  pub uih : frameKind (frameOf (p .payload)) ≡ carries (R .d) i
+  pub uih : frameKind false (frameOf (p .payload)) ≡ carries (R .d) i
 
 -- the packets with their marks, from the bytes so far of the data PDU under way for each handle and direction. Packets that lack a field are not among them.
 pub data Fragments {C : Container} {S : Framing} (R : RecordingOf C S) : (Key → Option (List ℕ)) → List Sent → Type 0 where
@@ -171,8 +173,8 @@ pub record Beginning (S : Framing) (b : List ℕ) : Type 0 where
   pub short : count < length (S .onWire frame)
   pub is : b ≡ take count (S .onWire frame)
 
--- honest by a channel rule, in whichever container and of whichever frames
-pub record Honest {C : Container} {S : Framing} (rule : ChannelRule) (R : RecordingOf C S) : Type 0 where
+-- honest by a channel rule, and with FCS checked or not, in whichever container and of whichever frames
+pub record Honest {C : Container} {S : Framing} (by : Judging) (R : RecordingOf C S) : Type 0 where
   -- A header that 3 and 4 (pcap: 21 and 22) do not refuse,
   pub header : (length (R .header) ≡ C .head) × (C .isFile (R .header) ≡ true) × (C .isTaken (C .linkType (R .header)) ≡ true)
   -- and whole records,
@@ -186,10 +188,12 @@ pub record Honest {C : Container} {S : Framing} (rule : ChannelRule) (R : Record
   -- Each link has one CID of at least 0x40 per direction.
   pub dynamic : All (λ l. (t : Direction) → 0x40 ≤ l .cid t) (R .links)
   -- Its data come when the rule has its channels open.
-  pub channels : Channels R rule
+  pub channels : Channels R (by .rule)
   -- Its data PDUs are UIH on d with information, sent in fragments of at least 1 byte: the first with flag other than 1, the rest 1,
   -- ending with the PDU, no other packet of that handle and direction between. (The file may end before a data PDU does.)
   pub fragments : Fragments R nothingOpen (sentIn R (R .records))
+  -- With FCS checked, its data PDUs also have correct FCS bytes. (Nothing is asked of other frames.)
+  pub checks : by .fcs ≡ true → AtData R (λ upTo p. isRight (p .payload) ≡ true)
   -- Each direction's information is packed frames, one after another; the last may be partial,
   pub information : All (λ l. (t : Direction) → informationOf (linkKey l t) (dataOf (sentIn R (R .records))) ≡ flat (wires l t) ++ l .partial t) (R .links)
   -- of at most 65,536 wire bytes;
@@ -198,6 +202,6 @@ pub record Honest {C : Container} {S : Framing} (rule : ChannelRule) (R : Record
   pub beginnings : All (λ l. (t : Direction) → Beginning S (l .partial t)) (R .links)
   -- After a handle's first data fragment, nothing adds to its sessions, nor to its links on d:
   -- no PDU that a later record completes, tried in the file or any cut of it that has the PDU.
-  pub settled : (n h : ℕ) → All (λ q. q .pdu .link ≡ h → adds (R .d) (q .kind) ≡ false) (afterData rule R (recordsLeft R n) h)
+  pub settled : (n h : ℕ) → All (λ q. q .pdu .link ≡ h → adds (R .d) (q .kind) ≡ false) (afterData by R (recordsLeft R n) h)
   -- No other tried PDU is UIH with data on d or on the other DLCI of its channel, tried in the file or any cut of it that has the PDU.
-  pub alone : (n : ℕ) → All (λ q. q .mark ≡ free → carriesOn (R .d) (q .kind) ≡ false) (judgedIn rule R (recordsLeft R n))
+  pub alone : (n : ℕ) → All (λ q. q .mark ≡ free → carriesOn (R .d) (q .kind) ≡ false) (judgedIn by R (recordsLeft R n))

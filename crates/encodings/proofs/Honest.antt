@@ -18,7 +18,7 @@ use Rattle.l2cap.specs.Pdus.{joined, isComplete, stillOpen, pduOf, completed, p
 use Rattle.channels.specs.Signals.{commandSize, isCommand, commands, body, signalOf, signalsIn, pduSignals, signals}
 use Rattle.channels.specs.Channels.{any, names, named, asksFor, admits, admittedAfter, admitted, isTried, asksRfcomm, asksSession}
 use Rattle.channels.specs.Tried.{source, triedBy}
-use Rattle.rfcomm.specs.Frames.{isSabm, isUih, shortLength, infoLength, infoStart, creditOf, frameOf}
+use Rattle.uih.specs.Frames.{isSabm, isUih, shortLength, infoLength, infoStart, creditOf, frameOf}
 use Rattle.rfcomm.specs.Pieces.{uihKind, frameKind, kindBy, judgedFrom, judgedBy}
 use Rattle.btsnoop.specs.Packets.{milliseconds as timeOf}
 use Rattle.pcap.proofs.Laws.{lawful}

@@ -1,4 +1,4 @@
--- Import: the DLCI chosen, its spans, how many buffers are unfinished, and the tail offset; or a refusal.
+-- Import: the DLCI chosen, its spans, how many buffers are unfinished, the tail offset, and its frames with a wrong FCS; or a refusal.
 use Prim.Native.Nat.{ℕ, _*_, _/_}
 use mathlib.Core.Bool.{Bool, true, false, cond, _&&_}
 use mathlib.Core.List.{List, [], _∷_, map}
@@ -11,8 +11,8 @@ use Rattle.mdr.specs.Frame.{unpacksOf}
 use Rattle.container.specs.Container.{Container, tailOffset, packetsIn}
 use Rattle.l2cap.specs.Pdus.{pdus}
 use Rattle.channels.specs.Channels.{any}
-use Rattle.channels.specs.Tried.{ChannelRule, source}
-use Rattle.rfcomm.specs.Pieces.{Piece, judgedBy, pieces}
+use Rattle.channels.specs.Tried.{source}
+use Rattle.rfcomm.specs.Pieces.{Judging, unchecked, Judged, judgedBy, kinds, wrongOn, Piece, pieces}
 use Rattle.spans.specs.Spans.{spans, unfinished, onDlci}
 
 pub data Tail : Type 0 where
@@ -24,12 +24,12 @@ pub record Options : Type 0 where
   pub channel : Option ℕ
   -- a tail rule (strict or tolerant)
   pub tail : Tail
-  -- a channel rule (the source's, or Bluetooth Core's: document 02, job 10)
-  pub rule : ChannelRule
+  -- a channel rule (the source's, or Bluetooth Core's: document 02, job 10), and a switch (job 3): whether FCS is checked
+  pub judging : Judging
 
--- document 01's import: by the source's channel rule
+-- document 01's import: by the source's channel rule, FCS unchecked
 abbrev pub bySource : Option ℕ → Tail → Options
-bySource channel tail = record { channel = channel; tail = tail; rule = source }
+bySource channel tail = record { channel = channel; tail = tail; judging = unchecked source }
 
 -- a given channel is the DLCI divided by 2
 unfoldable pub onChannel : Option ℕ → ℕ → Bool
@@ -48,25 +48,42 @@ hasFrame ps d = any (λ s. unpacksOf (s .wire)) (spans (onDlci d ps))
 unfoldable pub chosen : Option ℕ → List Piece → Option ℕ
 chosen channel ps = first (λ d. onChannel channel d && hasFrame ps d) (map (λ p. p .dlci) ps)
 
+-- what is found on the DLCI chosen
+pub record Finding : Type 0 where
+  pub dlci : ℕ
+  pub spans : List Span
+  pub unfinished : ℕ
+  -- the tail offset
+  pub tail : ℕ
+  -- UIH frames with a wrong FCS, where it is checked
+  pub wrong : ℕ
+
 pub data Found : Type 0 where
-  -- DLCI, spans, unfinished, tail offset
-  found : ℕ → List Span → ℕ → ℕ → Found
+  found : Finding → Found
   missing : ℕ → List ℕ → Found
 
--- 6 where no DLCI is chosen
-unfoldable pub listed : List Piece → ℕ → Option ℕ → Found
-listed ps tail none = missing 6 []
-listed ps tail (some d) = found d (spans (onDlci d ps)) (unfinished (onDlci d ps)) tail
+-- of these pieces, with so many wrong frames on each DLCI; 6 where no DLCI is chosen
+unfoldable pub listed : List Piece → (ℕ → ℕ) → ℕ → Option ℕ → Found
+listed ps wrongs tail none = missing 6 []
+listed ps wrongs tail (some d) = found (record { dlci = d; spans = spans (onDlci d ps); unfinished = unfinished (onDlci d ps); tail = tail; wrong = wrongs d })
 
 -- ---- a file of a container
 
 module _ (C : Container) where
-  -- the pieces that a file's whole records bring, by a channel rule
-  unfoldable pub filePieces : ChannelRule → List ℕ → List Piece
-  filePieces rule f = pieces (judgedBy rule (pdus (packetsIn C f)))
+  -- the PDUs that a file's whole records bring, judged
+  unfoldable pub fileJudged : Judging → List ℕ → List Judged
+  fileJudged by f = judgedBy by (pdus (packetsIn C f))
+
+  -- the pieces of them
+  unfoldable pub filePieces : Judging → List ℕ → List Piece
+  filePieces by f = pieces (fileJudged by f)
+
+  -- how many of them are UIH frames with a wrong FCS, on a DLCI
+  unfoldable pub fileWrong : Judging → List ℕ → ℕ → ℕ
+  fileWrong by f d = wrongOn d (kinds (fileJudged by f))
 
   unfoldable pub read : List ℕ → Options → Found
-  read f o = listed (filePieces (o .rule) f) (tailOffset C f) (chosen (o .channel) (filePieces (o .rule) f))
+  read f o = listed (filePieces (o .judging) f) (fileWrong (o .judging) f) (tailOffset C f) (chosen (o .channel) (filePieces (o .judging) f))
 
   -- 5, strict only: a record passes the end
   unfoldable pub endsWell : Tail → List ℕ → Bool
@@ -82,8 +99,9 @@ module _ (C : Container) where
       (missing (C .untaken) (C .linkType f ∷ [])))
       (missing (C .foreign) [])
 
+-- DLCI, frames, unfinished, tail offset, bytes written, frames with a wrong FCS; and the list
 unfoldable pub given : Found → Outcome
-given (found d ss u tail) = gives (d ∷ length ss ∷ u ∷ tail ∷ length (spanList ss) ∷ []) (spanList ss)
+given (found x) = gives (x .dlci ∷ length (x .spans) ∷ x .unfinished ∷ x .tail ∷ length (spanList (x .spans)) ∷ x .wrong ∷ []) (spanList (x .spans))
 given (missing n vs) = refuses n vs
 
 -- 1: over 1,048,576 bytes

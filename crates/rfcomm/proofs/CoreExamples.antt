@@ -10,8 +10,8 @@ use Rattle.channels.specs.Signals.{commandSize, isCommand, commands, body, sign
 use Rattle.channels.specs.Channels.{any, names, named, asksFor, admits, admittedAfter, admitted, isTried, asksRfcomm, asksSession}
 use Rattle.channels.specs.Core.{coreSignalOf, coreSignalsIn, pduCoreSignals, coreSignals, latest, bothHold, eventsOf, eventsAfter, events, holdsAfter, holds}
 use Rattle.channels.specs.Tried.{ChannelRule, source, core, triedBy}
-use Rattle.rfcomm.specs.Frames.{isSabm, isUih, shortLength, infoLength, infoStart, creditOf, frameOf}
-use Rattle.rfcomm.specs.Pieces.{Kind, asks, opens, passed, uihKind, frameKind, kindBy, judgedFrom, judgedBy}
+use Rattle.uih.specs.Frames.{isSabm, isUih, shortLength, infoLength, infoStart, creditOf, frameOf}
+use Rattle.rfcomm.specs.Pieces.{Kind, asks, opens, passed, uihKind, frameKind, unchecked, kindBy, judgedFrom, judgedBy}
 
 -- on one handle: direction, CID, payload
 abbrev on : ℕ → ℕ → List ℕ → Pdu
@@ -31,14 +31,14 @@ x cid = on 1 1 (0x07 ∷ 0x3F ∷ 4 ∷ 0 ∷ 0x42 ∷ 0 ∷ cid ∷ 0 ∷ [])
 abbrev m : Pdu
 m = on 1 0x41 (0x4B ∷ 0x3F ∷ 1 ∷ 0x1C ∷ [])
 
-abbrev kinds : ChannelRule → List Pdu → List Kind
-kinds rule ps = map (λ j. j .kind) (judgedBy rule ps)
+abbrev kindsBy : ChannelRule → List Pdu → List Kind
+kindsBy rule ps = map (λ j. j .kind) (judgedBy (unchecked rule) ps)
 
 pub places :
     -- before the request, before the success, between success and end, after the end
-    (kinds core (m ∷ q 0x41 ∷ m ∷ s 0x41 ∷ m ∷ x 0x41 ∷ m ∷ []) ≡ passed ∷ asks ∷ passed ∷ passed ∷ opens 18 ∷ passed ∷ passed ∷ []) ×
-    (kinds source (m ∷ q 0x41 ∷ m ∷ s 0x41 ∷ m ∷ x 0x41 ∷ m ∷ []) ≡ opens 18 ∷ asks ∷ opens 18 ∷ passed ∷ opens 18 ∷ passed ∷ opens 18 ∷ []) ×
+    (kindsBy core (m ∷ q 0x41 ∷ m ∷ s 0x41 ∷ m ∷ x 0x41 ∷ m ∷ []) ≡ passed ∷ asks ∷ passed ∷ passed ∷ opens 18 ∷ passed ∷ passed ∷ []) ×
+    (kindsBy source (m ∷ q 0x41 ∷ m ∷ s 0x41 ∷ m ∷ x 0x41 ∷ m ∷ []) ≡ opens 18 ∷ asks ∷ opens 18 ∷ passed ∷ opens 18 ∷ passed ∷ opens 18 ∷ []) ×
     -- its own commands counted: on CID 1 the success's own PDU is tried, the end's own no longer
-    (kinds core (q 1 ∷ s 1 ∷ x 1 ∷ []) ≡ asks ∷ opens 0 ∷ passed ∷ []) × (kinds source (q 1 ∷ s 1 ∷ x 1 ∷ []) ≡ asks ∷ opens 0 ∷ opens 1 ∷ [])
+    (kindsBy core (q 1 ∷ s 1 ∷ x 1 ∷ []) ≡ asks ∷ opens 0 ∷ passed ∷ []) × (kindsBy source (q 1 ∷ s 1 ∷ x 1 ∷ []) ≡ asks ∷ opens 0 ∷ opens 1 ∷ [])
 unfolding judgedBy judgedFrom kindBy frameKind uihKind frameOf creditOf infoStart infoLength shortLength isUih isSabm triedBy holds holdsAfter events eventsAfter eventsOf bothHold latest coreSignals pduCoreSignals coreSignalsIn coreSignalOf isTried admitted admittedAfter admits asksFor asksSession asksRfcomm named names any signals pduSignals signalsIn signalOf commands body isCommand commandSize chop chopFrom eqK le16
 places = (refl, refl, refl, refl)

@@ -5,9 +5,11 @@ use mathlib.Core.Bool.{Bool, true, false, cond}
 use mathlib.Core.List.{List, [], _∷_, _++_, append-assoc, append-nil}
 use native.Mathlib.Omega.{arith}
 use native.Mathlib.Numerals.{add-one}
-use lib.ListN.{length, take, drop}
+use lib.ListN.{length, getD, set, replicate, take, drop, List·getD-eq-default}
+use lib.Seq.{set-out, getD-set-same, getD-set-other}
 use lib.Dec.{eqb}
-use Rattle.laws.proofs.Choice.{split≤}
+use borrow.Author.Tests.{eq-eqb, ne-eqb}
+use Rattle.laws.proofs.Choice.{split≤, split≡}
 use Rattle.laws.specs.Keys.{Key}
 use Rattle.laws.specs.Keyed.{put, run}
 use Rattle.words.specs.Words.{word, long}
@@ -24,7 +26,7 @@ use Rattle.channels.specs.Signals.{Signal, signals}
 use Rattle.channels.specs.ChannelTable.{Tells}
 use Rattle.channels.specs.Passing.{Signalled}
 use Rattle.channels.proofs.Passing.{signalled-front}
-use Rattle.rfcomm.specs.Pieces.{Kind, asks, opens, passed, kindOf, judged, Counts, counted, pieceOf, brought, noCounts, pieces}
+use Rattle.rfcomm.specs.Pieces.{Kind, asks, opens, wrong, passed, kindOf, judged, told, kinds, isWrong, wrongOn, Counts, counted, pieceOf, brought, noCounts, pieces}
 use Rattle.rfcomm.proofs.Pieces.{judged-is}
 use Rattle.rfcomm.specs.PieceTable.{pieceAt, piecesFrom, infosOf, Within, Pieced}
 use Rattle.tree.specs.Tree.{Indexed, Entered, Stands, ClearPre, Cleared}
@@ -42,7 +44,8 @@ use Rattle.rfcomm.specs.declared.Info.{Info}
 use Rattle.rfcomm.specs.declared.Near.{Near}
 use Rattle.rfcomm.specs.declared.Taken.{Taken}
 use Rattle.rfcomm.specs.declared.Verdict.{Verdict}
-use Rattle.rfcomm.specs.declared.Verdict.the-variants.{Asks, Opens, Carries, Passed}
+use Rattle.rfcomm.specs.declared.Gathered.{Gathered}
+use Rattle.rfcomm.specs.declared.Verdict.the-variants.{Asks, Opens, Carries, Wrong, Passed}
 use Rattle.rfcomm.specs.Gathering.{partOf, TakePre, Ready, TakenIn, PiecesPre, PiecesBegun, ReadPieces, Gathering}
 
 pub part-is : (w : List ℕ) (row b n : ℕ) (i : Info) (side k₁ k₂ s l cid start len : ℕ) → side ≡ word w row → k₁ ≡ 64 * (side / 2) + 0 → s ≡ valueOf (lookup w b n k₁) → k₂ ≡ 64 * (side / 2) + i .dlci → l ≡ valueOf (lookup w b n k₂) →
@@ -58,14 +61,25 @@ take-put w row b n i at p t e = rw e (record { room = t .room; sessions = t .few
 pub row-put : (w : List ℕ) (row b n : ℕ) (i : Info) (at : ℕ) (p : Part) (time : ℕ) (u : List ℕ) → p ≡ partOf w row b n i → time ≡ long w (row + 5) → u ≡ putWords w at (rowOf p time) → u ≡ putWords w at (rowOf (partOf w row b n i) (long w (row + 5)))
 row-put w row b n i at p time u ep et eu = eu ∙ rw (ep, et)
 
-pub judge-pre : (f w : List ℕ) (q rows : ℕ) (t : Taken) (j : ℕ) → Ready f w q rows t j → JudgePre f w (2 * q + 7 * j) q rows
-judge-pre f w q rows t j r = record { lent = r .lent; tries = r .tries }
+pub judge-pre : (f w : List ℕ) (q rows : ℕ) (t : Taken) (j : ℕ) (a : List ℕ) → Ready f w q rows t j a → JudgePre f w (2 * q + 7 * j) q rows
+judge-pre f w q rows t j a r = record { lent = r .lent; tries = r .tries }
 
 link-is : (f w : List ℕ) (at : ℕ) → pduAt f w at .link ≡ word w at / 2
 unfolding pduAt
 link-is f w at = refl
 
-module _ (f w : List ℕ) (q rows : ℕ) (t : Taken) (j : ℕ) (r : Ready f w q rows t j) where
+-- one more on a DLCI, of the frames with a wrong FCS that v counts
+module _ (v : List ℕ) (d : ℕ) where
+  pub note-past : length v ≤ d → v ≡ set v d (getD v d 0 + 1)
+  note-past h = sym (set-out v d (getD v d 0 + 1) h)
+
+  wrong-more : (e : ℕ) → e < length v → getD (set v d (getD v d 0 + 1)) e 0 ≡ getD v e 0 + cond (isWrong e (wrong d)) 1 0
+  unfolding isWrong
+  wrong-more e h = split≡ e d
+      (λ q. let l : d < length v = rw q at h in rw (q, eq-eqb d d refl) (getD-set-same v d (getD v d 0 + 1) 0 l))
+      (λ q. rw (ne-eqb d e (λ z. q (sym z))) (getD-set-other v d e (getD v d 0 + 1) 0 q ∙ omega arith))
+
+module _ (f w : List ℕ) (q rows : ℕ) (t : Taken) (j : ℕ) (a : List ℕ) (r : Ready f w q rows t j a) where
   stands : Stands w (countIndex (6 * q)) (t .counts + 1)
   unfolding countIndex
   stands = record { rows = omega (arith, r .counts, r .few, r .quarter); room = omega (arith, r .counts, r .few, r .quarter, r .room); few = omega (arith, r .counts, r .few, r .small) }
@@ -104,20 +118,31 @@ module _ (f w : List ℕ) (q rows : ℕ) (t : Taken) (j : ℕ) (r : Ready f w q 
     joined-small : i .joined ≤ 1
     joined-small = rw (c .joined) (bit (eqb (word w (2 * q + 7 * j + 2)) 1))
 
-  pub piece-pre : (v : Verdict) (i : Info) → VerdictIs f w (2 * q + 7 * j) (3 * q) rows v → v ≡ Carries i → TakePre w (2 * q + 7 * j) (6 * q) (t .counts) i (5 * q + 8 * t .pieces)
-  piece-pre v i is e = take-pre i (carries-held f w (2 * q + 7 * j) (3 * q) rows v is i e)
+  pub piece-pre : (fcs : Bool) (v : Verdict) (i : Info) → VerdictIs fcs f w (2 * q + 7 * j) (3 * q) rows v → v ≡ Carries i → TakePre w (2 * q + 7 * j) (6 * q) (t .counts) i (5 * q + 8 * t .pieces)
+  piece-pre fcs v i is e = take-pre i (carries-held fcs f w (2 * q + 7 * j) (3 * q) rows v is i e)
 
-  -- ---- the four ways
+  -- the counts of frames with a wrong FCS can grow
+  pub wrong-small : (d : ℕ) → getD a d 0 < 4294967295
+  wrong-small d = omega (arith, r .wrongs d, r .few, r .small)
 
-  module _ (v : Verdict) (is : VerdictIs f w (2 * q + 7 * j) (3 * q) rows v) where
-    kind-as : (y : Verdict) → v ≡ y → (ss : List Signal) → Tells ss w (3 * q) rows → kindOf ss (pduAt f w (2 * q + 7 * j)) ≡ kindShown f w y
+  -- ---- the five ways
+
+  module _ (fcs : Bool) (v : Verdict) (is : VerdictIs fcs f w (2 * q + 7 * j) (3 * q) rows v) where
+    kind-as : (y : Verdict) → v ≡ y → (ss : List Signal) → Tells ss w (3 * q) rows → kindOf fcs ss (pduAt f w (2 * q + 7 * j)) ≡ kindShown f w y
     kind-as y e ss x = is .shows ss x ∙ rw e
 
-    pub taken-passed : v ≡ Passed → TakenIn f w q rows t j w t
-    unfolding kindShown counted brought
-    taken-passed e = record {
-      counts = λ m ss x c. rw (kind-as Passed e ss x) (counted-none m w (6 * q) (t .counts) j c (pduAt f w (2 * q + 7 * j) .link) passed refl);
-      list = λ m ss x c. rw (kind-as Passed e ss x, append-nil);
+    -- a kind that no DLCI has a wrong frame by
+    none-wrong : (y : Verdict) (k : Kind) → v ≡ y → kindShown f w y ≡ k → ((d : ℕ) → isWrong d k ≡ false) → (ss : List Signal) → Tells ss w (3 * q) rows → (e : ℕ) → e < length a →
+        getD a e 0 ≡ getD a e 0 + cond (isWrong e (kindOf fcs ss (pduAt f w (2 * q + 7 * j)))) 1 0
+    none-wrong y k e ek n ss x d h = rw (kind-as y e ss x ∙ ek, n d) (omega arith)
+
+    -- nothing in work changes
+    taken-nothing : (y : Verdict) (k : Kind) → v ≡ y → kindShown f w y ≡ k → ((c : Counts) → counted c k ≡ c) → ((c : Counts) (p : Pdu) → brought c p k ≡ []) →
+        (a′ : List ℕ) → ((e : ℕ) → e < length a → getD a′ e 0 ≡ getD a e 0 + cond (isWrong e k) 1 0) → TakenIn fcs f w q rows t j a w t a′
+    taken-nothing y k e ek same nothing a′ ea = record {
+      counts = λ m ss x c. rw (kind-as y e ss x ∙ ek) (counted-none m w (6 * q) (t .counts) j c (pduAt f w (2 * q + 7 * j) .link) k (same (m (pduAt f w (2 * q + 7 * j) .link ∷ []))));
+      list = λ m ss x c. rw (kind-as y e ss x ∙ ek, nothing (m (pduAt f w (2 * q + 7 * j) .link ∷ [])) (pduAt f w (2 * q + 7 * j)), append-nil);
+      wrongs = λ ss x d h. rw (kind-as y e ss x ∙ ek) (ea d h);
       within = r .within;
       few = omega arith;
       indexed = r .indexed;
@@ -127,6 +152,14 @@ module _ (f w : List ℕ) (q rows : ℕ) (t : Taken) (j : ℕ) (r : Ready f w q 
       above = λ n h. refl;
       size = refl;
     }
+
+    pub taken-passed : v ≡ Passed → TakenIn fcs f w q rows t j a w t a
+    unfolding kindShown counted brought isWrong
+    taken-passed e = taken-nothing Passed passed e refl (λ c. refl) (λ c p. refl) a (λ d h. omega arith)
+
+    pub taken-wrong : (d : ℕ) → v ≡ Wrong d → (a′ : List ℕ) → a′ ≡ set a d (getD a d 0 + 1) → TakenIn fcs f w q rows t j a w t a′
+    unfolding kindShown counted brought
+    taken-wrong d e a′ ea = taken-nothing (Wrong d) (wrong d) e refl (λ c. refl) (λ c p. refl) a′ (λ i h. rw ea (wrong-more a d i h))
 
     module _ (side link : ℕ) (es : side ≡ word w (2 * q + 7 * j)) (el : link ≡ side / 2) (key : ℕ) (u : List ℕ) (sat : Seating) (up : CountedUp w (6 * q) (t .counts) key u sat) (near : Near) where
       at : Entered w (countIndex (6 * q)) (t .counts) key (valueOf (lookup w (6 * q) (t .counts) key) + 1) (up .other) u (sat .rows)
@@ -152,10 +185,11 @@ module _ (f w : List ℕ) (q rows : ℕ) (t : Taken) (j : ℕ) (r : Ready f w q 
       unfolding countIndex
       beyond i h = at .beyond i (omega (arith, h, r .counts, r .few, r .quarter))
 
-      counted-way : (y : Verdict) (k : Kind) → v ≡ y → kindShown f w y ≡ k → ((c : Counts) (p : Pdu) → brought c p k ≡ []) →
+      counted-way : (y : Verdict) (k : Kind) → v ≡ y → kindShown f w y ≡ k → ((d : ℕ) → isWrong d k ≡ false) → ((c : Counts) (p : Pdu) → brought c p k ≡ []) →
           ((m : Key → Counts) → Counted m w (6 * q) (t .counts) j → Counted (put m (link ∷ []) (counted (m (link ∷ [])) k)) u (6 * q) (sat .rows) (j + 1)) →
-          TakenIn f w q rows t j u (record { counts = sat .rows; pieces = t .pieces; near = near })
-      counted-way y k e ek nothing does = record {
+          TakenIn fcs f w q rows t j a u (record { counts = sat .rows; pieces = t .pieces; near = near }) a
+      counted-way y k e ek right nothing does = record {
+        wrongs = none-wrong y k e ek right;
         counts = λ m ss x c. rw (kind-as y e ss x ∙ ek, my-link) (does m c);
         list = λ m ss x c. rw (kind-as y e ss x ∙ ek, kept-pieces, nothing (m (pduAt f w (2 * q + 7 * j) .link ∷ [])) (pduAt f w (2 * q + 7 * j)), append-nil);
         within = λ i h. within-front (24 * q) f u w (5 * q + 8 * i) (8 * q) (omega (arith, pieces-room)) counts-front (r .within i h);
@@ -168,22 +202,22 @@ module _ (f w : List ℕ) (q rows : ℕ) (t : Taken) (j : ℕ) (r : Ready f w q 
         size = s .size;
       }
 
-      pub taken-asks : v ≡ Asks → key ≡ 64 * link + 0 → TakenIn f w q rows t j u (record { counts = sat .rows; pieces = t .pieces; near = near })
-      unfolding kindShown counted brought
-      taken-asks e ek = counted-way Asks asks e refl (λ c p. refl) (λ m c. counted-session m w (6 * q) (t .counts) j c link u (sat .rows) key (up .other) s (counted (m (link ∷ [])) asks) refl refl (omega arith))
+      pub taken-asks : v ≡ Asks → key ≡ 64 * link + 0 → TakenIn fcs f w q rows t j a u (record { counts = sat .rows; pieces = t .pieces; near = near }) a
+      unfolding kindShown counted brought isWrong
+      taken-asks e ek = counted-way Asks asks e refl (λ d. refl) (λ c p. refl) (λ m c. counted-session m w (6 * q) (t .counts) j c link u (sat .rows) key (up .other) s (counted (m (link ∷ [])) asks) refl refl (omega arith))
 
-      opens-zero : (d : ℕ) → d ≡ 0 → v ≡ Opens d → key ≡ 64 * link + d → TakenIn f w q rows t j u (record { counts = sat .rows; pieces = t .pieces; near = near })
-      unfolding kindShown counted brought
-      opens-zero d z e ek = counted-way (Opens d) (opens zero) e (rw z) (λ c p. refl) (λ m c. counted-session m w (6 * q) (t .counts) j c link u (sat .rows) key (up .other) s (counted (m (link ∷ [])) (opens zero)) refl refl (omega arith))
+      opens-zero : (d : ℕ) → d ≡ 0 → v ≡ Opens d → key ≡ 64 * link + d → TakenIn fcs f w q rows t j a u (record { counts = sat .rows; pieces = t .pieces; near = near }) a
+      unfolding kindShown counted brought isWrong
+      opens-zero d z e ek = counted-way (Opens d) (opens zero) e (rw z) (λ i. refl) (λ c p. refl) (λ m c. counted-session m w (6 * q) (t .counts) j c link u (sat .rows) key (up .other) s (counted (m (link ∷ [])) (opens zero)) refl refl (omega arith))
 
-      opens-more : (d e′ : ℕ) → d ≡ suc e′ → v ≡ Opens d → key ≡ 64 * link + d → TakenIn f w q rows t j u (record { counts = sat .rows; pieces = t .pieces; near = near })
-      unfolding kindShown counted brought
+      opens-more : (d e′ : ℕ) → d ≡ suc e′ → v ≡ Opens d → key ≡ 64 * link + d → TakenIn fcs f w q rows t j a u (record { counts = sat .rows; pieces = t .pieces; near = near }) a
+      unfolding kindShown counted brought isWrong
       opens-more d e′ z e ek =
           let h : d < 64 = rw e at (is .borne) in
-          counted-way (Opens d) (opens (suc e′)) e (rw z) (λ c p. refl)
+          counted-way (Opens d) (opens (suc e′)) e (rw z) (λ i. refl) (λ c p. refl)
           (λ m c. counted-link m w (6 * q) (t .counts) j c link u (sat .rows) key (up .other) s (suc e′) (omega arith) (omega arith) (counted (m (link ∷ [])) (opens (suc e′))) refl (λ i. refl) (omega arith))
 
-      pub taken-opens : (d : ℕ) → v ≡ Opens d → key ≡ 64 * link + d → TakenIn f w q rows t j u (record { counts = sat .rows; pieces = t .pieces; near = near })
+      pub taken-opens : (d : ℕ) → v ≡ Opens d → key ≡ 64 * link + d → TakenIn fcs f w q rows t j a u (record { counts = sat .rows; pieces = t .pieces; near = near }) a
       taken-opens zero e ek = opens-zero zero refl e ek
       taken-opens (suc d) e ek = opens-more (suc d) d refl e ek
 
@@ -254,9 +288,10 @@ module _ (f w : List ℕ) (q rows : ℕ) (t : Taken) (j : ℕ) (r : Ready f w q 
       unfolding part partOf
       row-in = row-within f w (5 * q + 8 * t .pieces) part (long w (2 * q + 7 * j + 5)) pre u eu′ (8 * q) inside (held .least) (held .most)
 
-      pub taken-piece : (near : Near) → TakenIn f w q rows t j u (record { counts = t .counts; pieces = t .pieces + 1; near = near })
-      unfolding kindShown counted brought infosOf
+      pub taken-piece : (near : Near) → TakenIn fcs f w q rows t j a u (record { counts = t .counts; pieces = t .pieces + 1; near = near }) a
+      unfolding kindShown counted brought infosOf isWrong
       taken-piece near = record {
+        wrongs = none-wrong (Carries i) (kindShown f w (Carries i)) e refl (λ d. refl);
         counts = λ m ss x c.
             rw (kind-as (Carries i) e ss x)
             (counted-agree (put m (pduAt f w (2 * q + 7 * j) .link ∷ []) (m (pduAt f w (2 * q + 7 * j) .link ∷ []))) u w (6 * q) (t .counts) (j + 1) counts-kept
@@ -274,10 +309,15 @@ module _ (f w : List ℕ) (q rows : ℕ) (t : Taken) (j : ℕ) (r : Ready f w q 
         size = rw eu (length-puts (rowOf (partOf w (2 * q + 7 * j) (6 * q) (t .counts) i) (long w (2 * q + 7 * j + 5))) w (5 * q + 8 * t .pieces));
       }
 
-pub gather-start : (f w : List ℕ) (made rows : ℕ) (near : Near) → PiecesBegun f w made rows →
-    Gathering f (pdusFrom f w (2 * (length f / 4)) 0 made) w w made rows (record { counts = 0; pieces = 0; near = near }) 0
+getD-zeros : (n e : ℕ) → getD (replicate {0} {A = ℕ} n 0) e 0 ≡ 0
+getD-zeros zero e = refl
+getD-zeros (suc n) zero = refl
+getD-zeros (suc n) (suc e) = getD-zeros n e
+
+pub gather-start : (fcs : Bool) (f w : List ℕ) (made rows : ℕ) (near : Near) → PiecesBegun f w made rows →
+    Gathering fcs f (pdusFrom f w (2 * (length f / 4)) 0 made) w w made rows (record { counts = 0; pieces = 0; near = near }) 0 (replicate {0} {A = ℕ} 64 0)
 unfolding piecesFrom infosOf paysOf pieces
-gather-start f w made rows near p =
+gather-start fcs f w made rows near p =
     let z : made - 0 ≡ made = omega arith in
     record {
       all = omega arith;
@@ -289,12 +329,15 @@ gather-start f w made rows near p =
       took = omega arith;
       within = λ i h. absurd (omega arith);
       few = omega arith;
-      same = rw (z, judged-is (pdusFrom f w (2 * (length f / 4)) 0 made));
+      same = rw (z, judged-is fcs (pdusFrom f w (2 * (length f / 4)) 0 made));
+      long = refl;
+      rare = λ e. omega (arith, getD-zeros 64 e);
+      wrongs = λ e h. rw (z, getD-zeros 64 e, judged-is fcs (pdusFrom f w (2 * (length f / 4)) 0 made)) (omega arith);
       size = refl;
     }
 
-module _ (f : List ℕ) (ps : List Pdu) (w₀ w : List ℕ) (made rows : ℕ) (t : Taken) (j : ℕ) (g : Gathering f ps w₀ w made rows t j) where
-  pub gather-ready : j < made → (q : ℕ) → q ≡ length f / 4 → Ready f w q rows t j
+module _ (fcs : Bool) (f : List ℕ) (ps : List Pdu) (w₀ w : List ℕ) (made rows : ℕ) (t : Taken) (j : ℕ) (v : List ℕ) (g : Gathering fcs f ps w₀ w made rows t j v) where
+  pub gather-ready : j < made → (q : ℕ) → q ≡ length f / 4 → Ready f w q rows t j v
   gather-ready h q e = rw e (record {
     quarter = refl;
     lent = reassembled-lent f w made ps (g .signalled .pdus) j h;
@@ -310,10 +353,11 @@ module _ (f : List ℕ) (ps : List Pdu) (w₀ w : List ℕ) (made rows : ℕ) (t
     values = g .counted .few;
     indexed = g .indexed;
     within = g .within;
+    wrongs = g .rare;
   })
 
-  module _ (h : j < made) (q : ℕ) (e : q ≡ length f / 4) (u : List ℕ) (r : Taken) (k : TakenIn f w q rows t j u r) where
-    taken : TakenIn f w (length f / 4) rows t j u r
+  module _ (h : j < made) (q : ℕ) (e : q ≡ length f / 4) (u : List ℕ) (r : Taken) (v′ : List ℕ) (k : TakenIn fcs f w q rows t j v u r v′) where
+    taken : TakenIn fcs f w (length f / 4) rows t j v u r v′
     taken = rw e at k
 
     rows-kept : Agree (2 * (length f / 4)) (2 * (length f / 4) + 7 * made) u w
@@ -325,14 +369,17 @@ module _ (f : List ℕ) (ps : List Pdu) (w₀ w : List ℕ) (made rows : ℕ) (t
     pays-kept : paysOf u (2 * (length f / 4)) (j + 1) ≡ paysOf w (2 * (length f / 4)) j + word w (2 * (length f / 4) + 7 * j + 4)
     pays-kept = pays-agree u w (2 * (length f / 4)) (j + 1) (λ n lo hi. rows-kept n lo (omega arith)) ∙ pays-next w (2 * (length f / 4)) j
 
-    pub gather-turn : Gathering f ps w₀ u made rows r (j + 1)
-    unfolding run
-    gather-turn =
+    wrongs-at : (e : ℕ) → e < 64 → getD v′ e 0 ≡ getD v e 0 + cond (isWrong e (kindOf fcs (signals ps) (pduAt f w (2 * (length f / 4) + 7 * j)))) 1 0
+    wrongs-at e l = taken .wrongs (signals ps) (g .signalled .tells) e (omega (arith, g .long))
+
+    pub gather-turn : length v′ ≡ length v → Gathering fcs f ps w₀ u made rows r (j + 1) v′
+    unfolding run wrongOn
+    gather-turn lv =
         let p : Pdu = pduAt f w (2 * (length f / 4) + 7 * j) in
         record {
           all = omega arith;
           signalled = signalled-front f u w made ps rows (taken .front) (taken .above) (taken .size) (g .signalled);
-          states = put (g .states) (pduAt f w (2 * (length f / 4) + 7 * j) .link ∷ []) (counted (g .states (pduAt f w (2 * (length f / 4) + 7 * j) .link ∷ [])) (kindOf (signals ps) (pduAt f w (2 * (length f / 4) + 7 * j))));
+          states = put (g .states) (pduAt f w (2 * (length f / 4) + 7 * j) .link ∷ []) (counted (g .states (pduAt f w (2 * (length f / 4) + 7 * j) .link ∷ [])) (kindOf fcs (signals ps) (pduAt f w (2 * (length f / 4) + 7 * j))));
           counted = taken .counts (g .states) (signals ps) (g .signalled .tells) (g .counted);
           indexed = taken .indexed;
           counts = omega (arith, taken .more, g .counts);
@@ -340,10 +387,19 @@ module _ (f : List ℕ) (ps : List Pdu) (w₀ w : List ℕ) (made rows : ℕ) (t
           within = taken .within;
           few = omega (arith, taken .few, g .few, pays-kept);
           same = rw (taken .list (g .states) (signals ps) (g .signalled .tells) (g .counted), rest-kept, append-assoc) (rw (pdus-next f w (2 * (length f / 4)) j made h) at (g .same));
+          long = lv ∙ g .long;
+          rare = λ e. split≤ 64 e (λ l. let o : length v′ ≤ e = omega (arith, lv, g .long) in rw (List·getD-eq-default v′ 0 o) (omega arith)) (λ l. rw (wrongs-at e l) (most (isWrong e (kindOf fcs (signals ps) (pduAt f w (2 * (length f / 4) + 7 * j)))) (g .rare e)));
+          wrongs = λ e l. rw (wrongs-at e l, rest-kept) (sum (getD v e 0) (cond (isWrong e (kindOf fcs (signals ps) (pduAt f w (2 * (length f / 4) + 7 * j)))) 1 0) _ _ (rw (pdus-next f w (2 * (length f / 4)) j made h) at (g .wrongs e l)));
           size = taken .size ∙ g .size;
-        }
+        } where
+          most : (b : Bool) {n : ℕ} → n ≤ j → n + cond b 1 0 ≤ j + 1
+          most true l = omega arith
+          most false l = omega arith
 
-  pub gather-end : made ≤ j → Pieced f w (t .pieces) (pieces (judged ps))
+          sum : (a b c n : ℕ) → a + (b + c) ≡ n → a + b + c ≡ n
+          sum a b c n e = omega arith
+
+  pub gather-end : made ≤ j → Pieced f w (t .pieces) (pieces (judged fcs ps))
   unfolding run
   gather-end h =
       let z : j ≡ made = omega (arith, g .all) in
@@ -355,8 +411,17 @@ module _ (f : List ℕ) (ps : List Pdu) (w₀ w : List ℕ) (made rows : ℕ) (t
         room = g .signalled .pdus .room;
       }
 
-pub gathered : (f w₀ w : List ℕ) (made rows : ℕ) (t : Taken) (j : ℕ) → Gathering f (pdusFrom f w₀ (2 * (length f / 4)) 0 made) w₀ w made rows t j → made ≤ j → ReadPieces f w₀ made w (t .pieces)
-gathered f w₀ w made rows t j g h = record { pieced = gather-end f (pdusFrom f w₀ (2 * (length f / 4)) 0 made) w₀ w made rows t j g h; size = g .size }
+  pub gather-wrongs : made ≤ j → (e : ℕ) → e < 64 → getD v e 0 ≡ wrongOn e (kinds (judged fcs ps))
+  unfolding wrongOn
+  gather-wrongs h e l = let z = rw (pdus-none f w (2 * (length f / 4)) j made h) at (g .wrongs e l) in omega (arith, z)
+
+pub gathered : (fcs : Bool) (f w₀ w : List ℕ) (made rows : ℕ) (t : Taken) (j : ℕ) (v : List ℕ) → Gathering fcs f (pdusFrom f w₀ (2 * (length f / 4)) 0 made) w₀ w made rows t j v → made ≤ j →
+    ReadPieces fcs f w₀ made w (record { pieces = t .pieces; wrong = v })
+gathered fcs f w₀ w made rows t j v g h = record {
+  pieced = gather-end fcs f (pdusFrom f w₀ (2 * (length f / 4)) 0 made) w₀ w made rows t j v g h;
+  wrongs = gather-wrongs fcs f (pdusFrom f w₀ (2 * (length f / 4)) 0 made) w₀ w made rows t j v g h;
+  size = g .size;
+}
 
 -- ---- the table of counts empty, and then all PDUs
 
@@ -380,5 +445,5 @@ module _ (f w : List ℕ) (made rows : ℕ) (p : PiecesPre f w made rows) (x : T
     pub pieces-begun : PiecesBegun f v made rows
     pieces-begun = record { pre = record { signalled = rw (kept .pdus .list) kept }; indexed = rw ex at (c .indexed) }
 
-    pub pieces-cleared : (u : List ℕ) (r : ℕ) → ReadPieces f v made u r → ReadPieces f w made u r
-    pieces-cleared u r g = record { pieced = rw (kept .pdus .list) at (g .pieced); size = g .size ∙ c .size }
+    pub pieces-cleared : (fcs : Bool) (u : List ℕ) (r : Gathered) → ReadPieces fcs f v made u r → ReadPieces fcs f w made u r
+    pieces-cleared fcs u r g = record { pieced = rw (kept .pdus .list) at (g .pieced); wrongs = rw (kept .pdus .list) at (g .wrongs); size = g .size ∙ c .size }

@@ -18,16 +18,16 @@ use Rattle.channels.specs.Signals.{Signal}
 use Rattle.channels.specs.Channels.{isTried, asksSession}
 use Rattle.channels.specs.ChannelTable.{Tells}
 use Rattle.channels.specs.Passing.{Judged}
-use Rattle.rfcomm.specs.Frames.{frameOf}
-use Rattle.rfcomm.specs.Pieces.{carries, passed, uihKind, frameKind, kindOf}
-use Rattle.rfcomm.specs.Reading.{uihAt, frameShown, Lies, FrameIs}
-use Rattle.rfcomm.specs.declared.Uih.{Uih}
-use Rattle.rfcomm.specs.declared.Frame.{Frame}
-use Rattle.rfcomm.specs.declared.Frame.the-variants.{Sabm, Uih as Found, Other}
+use Rattle.uih.specs.Frames.{frameOf}
+use Rattle.rfcomm.specs.Pieces.{carries, wrong, passed, uihKind, frameKind, kindOf}
+use Rattle.uih.specs.Reading.{uihAt, frameShown, UihLies, FrameIs}
+use Rattle.uih.specs.declared.Uih.{Uih}
+use Rattle.uih.specs.declared.Frame.{Frame}
+use Rattle.uih.specs.declared.Frame.the-variants.{Sabm, Uih as Found, WrongFcs, Other}
 use Rattle.rfcomm.specs.declared.Info.{Info}
 use Rattle.rfcomm.specs.declared.Verdict.{Verdict}
-use Rattle.rfcomm.specs.declared.Verdict.the-variants.{Asks, Opens, Carries, Passed}
-use Rattle.rfcomm.specs.Judging.{kindShown, Carried, placedUih, FrameVerdict, JudgePre, VerdictIs}
+use Rattle.rfcomm.specs.declared.Verdict.the-variants.{Asks, Opens, Carries, Wrong, Passed}
+use Rattle.rfcomm.specs.Judging.{kindShown, Carried, PlacePre, placedUih, FrameVerdict, JudgePre, VerdictIs}
 
 module _ (w : List ℕ) (row : ℕ) (u : Uih) where
   pub placed-zero : u .dlci ≡ 0 → Passed ≡ placedUih w row u
@@ -42,60 +42,77 @@ module _ (w : List ℕ) (row : ℕ) (u : Uih) where
   unfolding placedUih
   placed-info n m a j p s ea ej ep es = rw (ne-eqb (u .dlci) 0 n, ne-eqb (u .len) 0 m, es, ep, ej, ea)
 
-module _ (f w : List ℕ) (row : ℕ) (l : Lent f w row) (p : List ℕ) (ep : p ≡ pduAt f w row .payload) (x : Frame) (is : FrameIs p x) where
+-- a UIH frame in the payload of a row, that is judged by what it carries
+module _ (fcs : Bool) (f w : List ℕ) (row : ℕ) (l : Lent f w row) (u : Uih) (lies : UihLies (pduAt f w row .payload) u) (shown : frameKind fcs (frameOf (pduAt f w row .payload)) ≡ uihKind (uihAt (pduAt f w row .payload) u)) where
+  info-length : length (take (u .len) (drop (u .start) (pduAt f w row .payload))) ≡ u .len
+  info-length = length-take-le (u .len) (drop (u .start) (pduAt f w row .payload)) (simp length-drop (omega (arith, lies .inside)))
+
+  -- the information, in the file or in work
+  info-is : take (u .len) (drop (u .start) (pduAt f w row .payload)) ≡ take (u .len) (drop (word w (row + 3) + u .start) (cond (eqb (cond (eqb (word w (row + 2)) 1) 1 0) 1) w f))
+  unfolding pduAt
+  info-is =
+      let n : u .start + u .len ≤ word w (row + 4) = omega (arith, lies .inside, payload-length f w row l) in
+      splitB (eqb (word w (row + 2)) 1)
+      (λ t. rw t (part-part w (word w (row + 3)) (word w (row + 4)) (u .start) (u .len) n))
+      (λ t. rw t (part-part f (word w (row + 3)) (word w (row + 4)) (u .start) (u .len) n))
+
+  kind-is : frameKind fcs (frameOf (pduAt f w row .payload)) ≡ cond (ltb 0 (u .dlci) && ltb 0 (u .len)) (carries (u .dlci) (take (u .len) (drop (word w (row + 3) + u .start) (cond (eqb (cond (eqb (word w (row + 2)) 1) 1 0) 1) w f)))) passed
+  unfolding uihKind uihAt
+  kind-is = rw (shown, info-length, info-is)
+
+  verdict-placed : (r : Verdict) → r ≡ placedUih w row u → FrameVerdict fcs f w row r
+  unfolding placedUih kindShown
+  verdict-placed r q =
+      split≡ (u .dlci) 0
+      (λ z. let v : r ≡ Passed = q ∙ rw (eq-eqb (u .dlci) 0 z) in rw v (record { shows = kind-is ∙ rw (le-ltb 0 (u .dlci) (omega arith)); borne = tt }))
+      (λ z. split≡ (u .len) 0
+      (λ y. let v : r ≡ Passed = q ∙ rw (ne-eqb (u .dlci) 0 z, eq-eqb (u .len) 0 y) in rw v (record { shows = kind-is ∙ rw (lt-ltb 0 (u .dlci) (pos (u .dlci) z), le-ltb 0 (u .len) (omega arith)); borne = tt }))
+      (λ y.
+      let v : r ≡ Carries (record { dlci = u .dlci; start = word w (row + 3) + u .start; len = u .len; joined = cond (eqb (word w (row + 2)) 1) 1 0 }) = q ∙ rw (ne-eqb (u .dlci) 0 z, ne-eqb (u .len) 0 y) in
+      rw v (record {
+        shows = kind-is ∙ rw (lt-ltb 0 (u .dlci) (pos (u .dlci) z), lt-ltb 0 (u .len) (pos (u .len) y));
+        borne = record { least = pos (u .dlci) z; most = lies .dlci; few = lies .few; inside = omega (arith, lies .inside, payload-length f w row l); less = omega (arith, lies .first, lies .inside, payload-length f w row l); joined = refl };
+      }))) where
+        pos : (n : ℕ) → (n ≡ 0 → ⊥) → 0 < n
+        pos zero h = absurd (h refl)
+        pos (suc n) h = omega arith
+
+module _ (fcs : Bool) (f w : List ℕ) (row : ℕ) (l : Lent f w row) (p : List ℕ) (ep : p ≡ pduAt f w row .payload) (x : Frame) (is : FrameIs p x) where
   frame-as : (y : Frame) → x ≡ y → FrameIs (pduAt f w row .payload) y
   frame-as y e = rw (ep, e) at is
 
-  pub verdict-sabm : (d : ℕ) → x ≡ Sabm d → FrameVerdict f w row (Opens d)
+  pub verdict-sabm : (d : ℕ) → x ≡ Sabm d → FrameVerdict fcs f w row (Opens d)
   unfolding frameShown kindShown frameKind
   verdict-sabm d e = let i = frame-as (Sabm d) e in record { shows = rw (i .shows); borne = i .lies }
 
-  pub verdict-other : x ≡ Other → FrameVerdict f w row Passed
+  pub verdict-other : x ≡ Other → FrameVerdict fcs f w row Passed
   unfolding frameShown kindShown frameKind
   verdict-other e = let i = frame-as Other e in record { shows = rw (i .shows); borne = tt }
 
-  module _ (u : Uih) (e : x ≡ Found u) where
-    lies : Lies (pduAt f w row .payload) (Found u)
-    lies = frame-as (Found u) e .lies
+  module _ (u : Uih) where
+    pub verdict-uih : x ≡ Found u → (r : Verdict) → r ≡ placedUih w row u → FrameVerdict fcs f w row r
+    unfolding frameShown frameKind
+    verdict-uih e = let i = frame-as (Found u) e in verdict-placed fcs f w row l u (i .lies) (rw (i .shows))
 
-    pub verdict-start : u .start ≤ 5
-    verdict-start = lies .4
+    module _ (e : x ≡ WrongFcs u) where
+      pub verdict-unchecked : fcs ≡ false → (r : Verdict) → r ≡ placedUih w row u → FrameVerdict fcs f w row r
+      unfolding frameShown frameKind
+      verdict-unchecked z = let i = frame-as (WrongFcs u) e in verdict-placed fcs f w row l u (i .lies) (rw (i .shows, z))
 
-    info-length : length (take (u .len) (drop (u .start) (pduAt f w row .payload))) ≡ u .len
-    info-length = length-take-le (u .len) (drop (u .start) (pduAt f w row .payload)) (simp length-drop (omega (arith, lies .2)))
+      pub verdict-wrong : fcs ≡ true → FrameVerdict fcs f w row (Wrong (u .dlci))
+      unfolding frameShown kindShown frameKind uihAt
+      verdict-wrong z = let i = frame-as (WrongFcs u) e in record { shows = rw (i .shows, z); borne = tt }
 
-    -- the information, in the file or in work
-    info-is : take (u .len) (drop (u .start) (pduAt f w row .payload)) ≡ take (u .len) (drop (word w (row + 3) + u .start) (cond (eqb (cond (eqb (word w (row + 2)) 1) 1 0) 1) w f))
-    unfolding pduAt
-    info-is =
-        let n : u .start + u .len ≤ word w (row + 4) = omega (arith, lies .2, payload-length f w row l) in
-        splitB (eqb (word w (row + 2)) 1)
-        (λ t. rw t (part-part w (word w (row + 3)) (word w (row + 4)) (u .start) (u .len) n))
-        (λ t. rw t (part-part f (word w (row + 3)) (word w (row + 4)) (u .start) (u .len) n))
+-- where the information of a frame starts
+module _ (f w : List ℕ) (row : ℕ) (l : Lent f w row) (p : List ℕ) (ep : p ≡ pduAt f w row .payload) (x : Frame) (is : FrameIs p x) (u : Uih) where
+  pub place-right : x ≡ Found u → PlacePre w row u
+  place-right e = record { whole = l .room; start = (rw e at is) .lies .start }
 
-    kind-is : frameKind (frameOf (pduAt f w row .payload)) ≡ cond (ltb 0 (u .dlci) && ltb 0 (u .len)) (carries (u .dlci) (take (u .len) (drop (word w (row + 3) + u .start) (cond (eqb (cond (eqb (word w (row + 2)) 1) 1 0) 1) w f)))) passed
-    unfolding frameShown frameKind uihKind uihAt
-    kind-is = rw (frame-as (Found u) e .shows, info-length, info-is)
+  pub place-wrong : x ≡ WrongFcs u → PlacePre w row u
+  place-wrong e = record { whole = l .room; start = (rw e at is) .lies .start }
 
-    pub verdict-uih : (r : Verdict) → r ≡ placedUih w row u → FrameVerdict f w row r
-    unfolding placedUih kindShown
-    verdict-uih r q =
-        split≡ (u .dlci) 0
-        (λ z. let v : r ≡ Passed = q ∙ rw (eq-eqb (u .dlci) 0 z) in rw v (record { shows = kind-is ∙ rw (le-ltb 0 (u .dlci) (omega arith)); borne = tt }))
-        (λ z. split≡ (u .len) 0
-        (λ y. let v : r ≡ Passed = q ∙ rw (ne-eqb (u .dlci) 0 z, eq-eqb (u .len) 0 y) in rw v (record { shows = kind-is ∙ rw (lt-ltb 0 (u .dlci) (pos (u .dlci) z), le-ltb 0 (u .len) (omega arith)); borne = tt }))
-        (λ y.
-        let v : r ≡ Carries (record { dlci = u .dlci; start = word w (row + 3) + u .start; len = u .len; joined = cond (eqb (word w (row + 2)) 1) 1 0 }) = q ∙ rw (ne-eqb (u .dlci) 0 z, ne-eqb (u .len) 0 y) in
-        rw v (record {
-          shows = kind-is ∙ rw (lt-ltb 0 (u .dlci) (pos (u .dlci) z), lt-ltb 0 (u .len) (pos (u .len) y));
-          borne = record { least = pos (u .dlci) z; most = lies .0; few = lies .3; inside = omega (arith, lies .2, payload-length f w row l); less = omega (arith, lies .1, lies .2, payload-length f w row l); joined = refl };
-        }))) where
-          pos : (n : ℕ) → (n ≡ 0 → ⊥) → 0 < n
-          pos zero h = absurd (h refl)
-          pos (suc n) h = omega arith
-
-module _ (f w : List ℕ) (row q n : ℕ) (pre : JudgePre f w row q n) (t : Bool) (e : t ≡ asksSession (pduAt f w row)) where
-  pub judged-asks : t ≡ true → VerdictIs f w row (3 * q) n Asks
+module _ (fcs : Bool) (f w : List ℕ) (row q n : ℕ) (pre : JudgePre f w row q n) (t : Bool) (e : t ≡ asksSession (pduAt f w row)) where
+  pub judged-asks : t ≡ true → VerdictIs fcs f w row (3 * q) n Asks
   unfolding kindOf kindShown
   judged-asks z = record { shows = λ ss x. rw (sym e ∙ z); borne = tt }
 
@@ -103,16 +120,16 @@ module _ (f w : List ℕ) (row q n : ℕ) (pre : JudgePre f w row q n) (t : Bool
     tried : (ss : List Signal) → Tells ss w (3 * q) n → s ≡ isTried ss (pduAt f w row)
     tried ss x = j .right ss (pduAt f w row) x (link-at f w row ∙ rw es) (rx-at f w row ∙ rw es) (cid-at f w row ∙ rw ec) (rw ec (pre .lent .inside .cid))
 
-    pub judged-passed : s ≡ false → VerdictIs f w row (3 * q) n Passed
+    pub judged-passed : s ≡ false → VerdictIs fcs f w row (3 * q) n Passed
     unfolding kindOf kindShown
     judged-passed z = record { shows = λ ss x. rw (sym e ∙ z₀, sym (tried ss x) ∙ z); borne = tt }
 
-    pub judged-frame : s ≡ true → (r : Verdict) → FrameVerdict f w row r → VerdictIs f w row (3 * q) n r
+    pub judged-frame : s ≡ true → (r : Verdict) → FrameVerdict fcs f w row r → VerdictIs fcs f w row (3 * q) n r
     unfolding kindOf
     judged-frame z r v = record { shows = λ ss x. rw (sym e ∙ z₀, sym (tried ss x) ∙ z) (v .shows); borne = v .borne }
 
 -- what a verdict says of its numbers
-module _ (f w : List ℕ) (row b n : ℕ) (v : Verdict) (is : VerdictIs f w row b n v) where
+module _ (fcs : Bool) (f w : List ℕ) (row b n : ℕ) (v : Verdict) (is : VerdictIs fcs f w row b n v) where
   pub opens-small : (d : ℕ) → v ≡ Opens d → d < 64
   opens-small d e = rw e at (is .borne)
 

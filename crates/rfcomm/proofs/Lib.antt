@@ -3,6 +3,5 @@ pub mod Pieces
 pub mod Judging
 pub mod Gathering
 pub mod CountTable
-pub mod Reading
 pub mod Replay
 pub mod CoreExamples

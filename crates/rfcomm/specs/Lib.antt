@@ -1,8 +1,6 @@
-pub mod Frames
 pub mod Pieces
 pub mod Replay
 pub mod PieceTable
-pub mod Reading
 pub mod CountTable
 pub mod PieceRows
 pub mod Judging

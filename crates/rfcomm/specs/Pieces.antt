@@ -1,7 +1,7 @@
 -- Sessions and links for each handle of an adapter (a PDU's `link`), and the pieces of information with the stretch that each belongs to.
 use Prim.Native.Nat.{ℕ, zero, suc, _+_}
-use mathlib.Core.Bool.{cond, _&&_}
-use mathlib.Core.List.{List, [], _∷_, _++_}
+use mathlib.Core.Bool.{Bool, true, false, cond, _&&_}
+use mathlib.Core.List.{List, [], _∷_, _++_, map}
 use lib.ListN.{length}
 use lib.Dec.{ltb, eqb}
 use Rattle.laws.specs.Keys.{Key}
@@ -10,7 +10,7 @@ use Rattle.l2cap.specs.Pdus.{Pdu}
 use Rattle.channels.specs.Signals.{Signal, signals}
 use Rattle.channels.specs.Channels.{isTried, asksSession}
 use Rattle.channels.specs.Tried.{ChannelRule, source, triedBy}
-use Rattle.rfcomm.specs.Frames.{Uih, Frame, sabm, uih, other, frameOf}
+use Rattle.uih.specs.Frames.{Uih, Frame, sabm, uih, wrongFcs, other, frameOf}
 
 -- what a PDU is once it is judged
 pub data Kind : Type 0 where
@@ -20,45 +20,76 @@ pub data Kind : Type 0 where
   opens : ℕ → Kind
   -- UIH with information on a DLCI that is not 0
   carries : ℕ → List ℕ → Kind
+  -- UIH with a wrong FCS on a DLCI, with information or without; only where FCS is checked
+  wrong : ℕ → Kind
   passed : Kind
 
 -- DLCI 0 and empty information are passed over
 unfoldable pub uihKind : Uih → Kind
 uihKind u = cond (ltb 0 (u .dlci) && ltb 0 (length (u .information))) (carries (u .dlci) (u .information)) passed
 
-unfoldable pub frameKind : Frame → Kind
-frameKind (sabm e) = opens e
-frameKind (uih u) = uihKind u
-frameKind other = passed
+-- where FCS is checked, frames with a wrong one are passed over, but counted; else it makes no difference
+unfoldable pub frameKind : Bool → Frame → Kind
+frameKind fcs (sabm e) = opens e
+frameKind fcs (uih u) = uihKind u
+frameKind fcs (wrongFcs u) = cond fcs (wrong (u .dlci)) (uihKind u)
+frameKind fcs other = passed
+
+-- what PDUs are judged by: a channel rule, and whether FCS is checked
+pub record Judging : Type 0 where
+  pub rule : ChannelRule
+  pub fcs : Bool
+
+abbrev pub unchecked : ChannelRule → Judging
+unchecked rule = record { rule = rule; fcs = false }
 
 -- what a PDU is by the PDUs up to and with it, and by all
-unfoldable pub kindBy : ChannelRule → List Pdu → List Pdu → Pdu → Kind
-kindBy rule upTo all p = cond (asksSession p) asks (cond (triedBy rule upTo all p) (frameKind (frameOf (p .payload))) passed)
+unfoldable pub kindBy : Judging → List Pdu → List Pdu → Pdu → Kind
+kindBy by upTo all p = cond (asksSession p) asks (cond (triedBy (by .rule) upTo all p) (frameKind (by .fcs) (frameOf (p .payload))) passed)
 
 pub record Judged : Type 0 where
   pub pdu : Pdu
   pub kind : Kind
 
 -- each PDU at its place, after those before
-unfoldable pub judgedFrom : ChannelRule → List Pdu → List Pdu → List Pdu → List Judged
-judgedFrom rule all before [] = []
-judgedFrom rule all before (p ∷ ps) = record { pdu = p; kind = kindBy rule (before ++ (p ∷ [])) all p } ∷ judgedFrom rule all (before ++ (p ∷ [])) ps
+unfoldable pub judgedFrom : Judging → List Pdu → List Pdu → List Pdu → List Judged
+judgedFrom by all before [] = []
+judgedFrom by all before (p ∷ ps) = record { pdu = p; kind = kindBy by (before ++ (p ∷ [])) all p } ∷ judgedFrom by all (before ++ (p ∷ [])) ps
 
 -- a file's PDUs, judged
-unfoldable pub judgedBy : ChannelRule → List Pdu → List Judged
-judgedBy rule ps = judgedFrom rule ps [] ps
+unfoldable pub judgedBy : Judging → List Pdu → List Judged
+judgedBy by ps = judgedFrom by ps [] ps
 
--- by the source's rule
-unfoldable pub judged : List Pdu → List Judged
-judged ps = judgedBy source ps
+-- by the source's rule, with FCS checked or not
+unfoldable pub judged : Bool → List Pdu → List Judged
+judged fcs ps = judgedBy (record { rule = source; fcs = fcs }) ps
 
 -- ---- by the source's rule the place of a PDU does not matter, only the signals of the whole file
 
-unfoldable pub kindOf : List Signal → Pdu → Kind
-kindOf ss p = cond (asksSession p) asks (cond (isTried ss p) (frameKind (frameOf (p .payload))) passed)
+unfoldable pub kindOf : Bool → List Signal → Pdu → Kind
+kindOf fcs ss p = cond (asksSession p) asks (cond (isTried ss p) (frameKind fcs (frameOf (p .payload))) passed)
 
-abbrev pub told : List Signal → Pdu → Judged
-told ss p = record { pdu = p; kind = kindOf ss p }
+abbrev pub told : Bool → List Signal → Pdu → Judged
+told fcs ss p = record { pdu = p; kind = kindOf fcs ss p }
+
+-- ---- frames with a wrong FCS
+
+abbrev pub kinds : List Judged → List Kind
+kinds js = map (λ j. j .kind) js
+
+unfoldable pub isWrong : ℕ → Kind → Bool
+isWrong d asks = false
+isWrong d (opens e) = false
+isWrong d (carries e i) = false
+isWrong d (wrong e) = eqb e d
+isWrong d passed = false
+
+-- how many there are on a DLCI
+unfoldable pub wrongOn : ℕ → List Kind → ℕ
+wrongOn d [] = 0
+wrongOn d (k ∷ ks) = cond (isWrong d k) 1 0 + wrongOn d ks
+
+-- ---- sessions and links
 
 -- sessions of a handle of an adapter, and links of it for each DLCI
 pub record Counts : Type 0 where
@@ -70,6 +101,7 @@ counted c asks = record { sessions = suc (c .sessions); links = c .links }
 counted c (opens zero) = record { sessions = suc (c .sessions); links = c .links }
 counted c (opens (suc e)) = record { sessions = c .sessions; links = λ j. cond (eqb j (suc e)) (suc (c .links j)) (c .links j) }
 counted c (carries e i) = c
+counted c (wrong e) = c
 counted c passed = c
 
 pub record Piece : Type 0 where
@@ -87,6 +119,7 @@ unfoldable pub brought : Counts → Pdu → Kind → List Piece
 brought c p asks = []
 brought c p (opens e) = []
 brought c p (carries e i) = pieceOf c p e i ∷ []
+brought c p (wrong e) = []
 brought c p passed = []
 
 abbrev pub counting : Machine Judged Piece

@@ -1,13 +1,11 @@
-// RFCOMM: SABM and UIH frames, sessions and links, and the pieces of information they carry.
+// RFCOMM: sessions and links, the pieces of information that UIH frames carry, and how many of these have a wrong FCS.
 ghost use mathlib.Core.Path.{_≡_};
 ghost use mathlib.Core.Bool.{cond};
 ghost use Prim.Native.Nat.{_+_, _-_, _*_, _/_, _%_, _≤_, _<_};
 ghost use lib.Dec.{eqb};
-ghost use lib.ListN.{length};
-ghost use Rattle.rfcomm.specs.Frames.{isSabm, isUih};
-ghost use Rattle.rfcomm.specs.Reading.{UihPre, FrameIs, LengthIs};
+ghost use lib.ListN.{length, getD, set};
 ghost use Rattle.rfcomm.specs.CountTable.{valueOf, countIndex, CountPre, UpPre, CountedUp};
-ghost use Rattle.rfcomm.specs.Judging.{placedUih, FrameVerdict, JudgePre, VerdictIs};
+ghost use Rattle.rfcomm.specs.Judging.{PlacePre, placedUih, FrameVerdict, JudgePre, VerdictIs};
 ghost use Rattle.l2cap.specs.PduFrames.{Lent};
 ghost use Rattle.rfcomm.specs.PieceRows.{stretchOf, bytesOf, rowOf, PutPre};
 ghost use Rattle.table.specs.Table.{lookup};
@@ -23,6 +21,9 @@ use tree::Tree;
 use tree::clear;
 use tree::seat;
 use tree::seek_near;
+use uih::Frame;
+use uih::Uih;
+use uih::read_frame;
 use words::get32;
 use words::get64;
 use words::narrow;
@@ -30,120 +31,6 @@ use words::put32;
 use words::put64;
 use words::wide;
 use words::wide32;
-
-// A UIH frame in a payload: its DLCI, where its information starts, and its length.
-pub struct Uih {
-    pub dlci: u32,
-    pub start: usize,
-    pub len: usize,
-}
-
-pub enum Frame {
-    // the DLCI
-    Sabm(u32),
-    Uih(Uih),
-    Other,
-}
-
-// 0x2F, or 0x3F with the P/F bit.
-fn is_sabm(control: u8) -> bool
-    ensures { λ r. ⌜ r ≡ isSabm control ⌝ }
-{
-    if control == 0x2F {
-        return true;
-    }
-    control == 0x3F
-}
-
-// 0xEF, or 0xFF with the P/F bit.
-fn is_uih(control: u8) -> bool
-    ensures { λ r. ⌜ r ≡ isUih control ⌝ }
-{
-    if control == 0xEF {
-        return true;
-    }
-    control == 0xFF
-}
-
-// A length field: how many bytes it has, and its value.
-struct Length {
-    width: usize,
-    value: usize,
-}
-
-// The length field, of one byte or two.
-fn read_length(p: &[u8]) -> Length
-    requires { ⌜ 4 ≤ length (now p) ⌝ }
-    ensures { λ r. ⌜ LengthIs (now (p .entry)) r ⌝ }
-{
-    let first = wide(p[2]);
-    if first % 2 == 1 {
-        return Length {
-            width: 1,
-            value: first / 2,
-        };
-    }
-    Length {
-        width: 2,
-        value: first / 2 + 128 * wide(p[3]),
-    }
-}
-
-// The DLCI of an address byte.
-fn dlci_of(address: u8) -> u32
-    ensures { λ r. ⌜ (r ≡ address / 4) × (r < 64) ⌝ }
-{
-    (address / 4) as u32
-}
-
-// The credit byte that a control of 0xFF has.
-fn credit_width(control: u8) -> usize
-    ensures { λ r. ⌜ (r ≡ cond (eqb control 0xFF) 1 0) × (r ≤ 1) ⌝ }
-{
-    if control == 0xFF {
-        return 1;
-    }
-    0
-}
-
-// Reads a UIH frame, whose information and FCS must be there.
-fn read_uih(p: &[u8]) -> Frame
-    requires { ⌜ UihPre (now p) ⌝ }
-    ensures { λ r. ⌜ FrameIs (now (p .entry)) r ⌝ }
-{
-    if p.len() < 4 {
-        return Frame::Other;
-    }
-    let l = read_length(p);
-    let start = 2 + l.width + credit_width(p[1]);
-    let len = l.value;
-    if p.len() <= start + len {
-        return Frame::Other;
-    }
-    let u = Uih {
-        dlci: dlci_of(p[0]),
-        start,
-        len,
-    };
-    Frame::Uih(u)
-}
-
-// Reads an RFCOMM frame.
-pub fn read_frame(p: &[u8]) -> Frame
-    ensures { λ r. ⌜ FrameIs (now (p .entry)) r ⌝ }
-{
-    if p.len() < 2 {
-        return Frame::Other;
-    }
-    let control = p[1];
-    if is_sabm(control) {
-        return Frame::Sabm(dlci_of(p[0]));
-    }
-    if is_uih(control) {
-        return read_uih(p);
-    }
-    Frame::Other
-}
 
 // Where the counts from word base on have their links: base is 6 areas, and rows and links share the seventh, but for the last
 // seventh of it, where the index of the channels begins.
@@ -264,6 +151,8 @@ pub enum Verdict {
     Opens(u32),
     // UIH with information
     Carries(Info),
+    // UIH with a wrong FCS, where it is checked: the DLCI
+    Wrong(u32),
     Passed,
 }
 
@@ -279,7 +168,7 @@ fn joined_of(place: u32) -> u32
 
 // The information of a UIH frame in the payload of a row. DLCI 0 and empty information are passed over.
 fn place_uih(w: &[u8], row: usize, u: Uih) -> Verdict
-    requires { ⌜ (4 * row + 28 ≤ length (now w)) × (u .start ≤ 5) ⌝ }
+    requires { ⌜ PlacePre (now w) row u ⌝ }
     ensures { λ r. ⌜ r ≡ placedUih (now (w .entry)) row u ⌝ }
 {
     let dlci = u.dlci;
@@ -301,29 +190,35 @@ fn place_uih(w: &[u8], row: usize, u: Uih) -> Verdict
     Verdict::Carries(i)
 }
 
-// What the frame in the payload of a row is.
-fn judge_frame<'a>(file: &'a [u8], w: &'a [u8], row: usize) -> Verdict
+// What the frame in the payload of a row is, with FCS checked or not.
+fn judge_frame<'a>(file: &'a [u8], w: &'a [u8], row: usize, fcs: bool) -> Verdict
     requires { ⌜ Lent (now file) (now w) row ⌝ }
-    ensures { λ r. ⌜ FrameVerdict (now (file .entry)) (now (w .entry)) row r ⌝ }
+    ensures { λ r. ⌜ FrameVerdict fcs (now (file .entry)) (now (w .entry)) row r ⌝ }
 {
     let x = read_frame(payload(file, w, row));
     match x {
         Frame::Sabm(d) => Verdict::Opens(d),
         Frame::Uih(u) => place_uih(w, row, u),
+        Frame::WrongFcs(u) => {
+            if fcs {
+                return Verdict::Wrong(u.dlci);
+            }
+            place_uih(w, row, u)
+        }
         Frame::Other => Verdict::Passed,
     }
 }
 
 // What the PDU of a row is, by the channels of the whole file. q is a quarter of the file's length.
-fn judge<'a>(file: &'a [u8], w: &'a [u8], row: usize, q: usize, rows: usize) -> Verdict
+fn judge<'a>(file: &'a [u8], w: &'a [u8], row: usize, q: usize, rows: usize, fcs: bool) -> Verdict
     requires { ⌜ JudgePre (now file) (now w) row q rows ⌝ }
-    ensures { λ r. ⌜ VerdictIs (now (file .entry)) (now (w .entry)) row (3 * q) rows r ⌝ }
+    ensures { λ r. ⌜ VerdictIs fcs (now (file .entry)) (now (w .entry)) row (3 * q) rows r ⌝ }
 {
     if asks(file, w, row) {
         return Verdict::Asks;
     }
     if is_tried(w, q, rows, get32(w, row), get32(w, row + 1)) {
-        return judge_frame(file, w, row);
+        return judge_frame(file, w, row, fcs);
     }
     Verdict::Passed
 }
@@ -401,16 +296,36 @@ fn take_piece(
     p.near
 }
 
-// Takes in PDU number j: a count, a piece, or nothing.
-fn take_pdu(file: &[u8], w: &mut [u8], q: usize, rows: usize, t: Taken, j: usize) -> Taken
-    requires { ⌜ Ready (now file) (now w) q rows t j ⌝ }
-    ensures { λ r. ⌜ TakenIn (now (file .entry)) (now (w .entry)) q rows t j (now (w .exit)) r ⌝ }
+// Counts one more frame with a wrong FCS on a DLCI.
+fn note_wrong(wrong: &mut [u32], dlci: u32)
+    requires { ⌜ getD (now wrong) dlci 0 < 4294967295 ⌝ }
+    ensures { λ _. ⌜ now (wrong .exit) ≡ set (now (wrong .entry)) dlci (getD (now (wrong .entry)) dlci 0 + 1) ⌝ }
+{
+    let k = dlci as usize;
+    if k < wrong.len() {
+        wrong[k] += 1;
+    }
+}
+
+// Takes in PDU number j: a count, a piece, a frame with a wrong FCS, or nothing.
+fn take_pdu(
+    file: &[u8],
+    w: &mut [u8],
+    q: usize,
+    rows: usize,
+    fcs: bool,
+    wrong: &mut [u32],
+    t: Taken,
+    j: usize,
+) -> Taken
+    requires { ⌜ Ready (now file) (now w) q rows t j (now wrong) ⌝ }
+    ensures { λ r. ⌜ TakenIn fcs (now (file .entry)) (now (w .entry)) q rows t j (now (wrong .entry)) (now (w .exit)) r (now (wrong .exit)) ⌝ }
 {
     let row = 2 * q + 7 * j;
     let counts = t.counts;
     let pieces = t.pieces;
     let near = t.near;
-    let v = judge(file, w, row, q, rows);
+    let v = judge(file, w, row, q, rows, fcs);
     let link = get32(w, row) / 2;
     match v {
         Verdict::Asks => {
@@ -443,16 +358,27 @@ fn take_pdu(file: &[u8], w: &mut [u8], q: usize, rows: usize, t: Taken, j: usize
                 near: found,
             }
         }
+        Verdict::Wrong(d) => {
+            note_wrong(wrong, d);
+            t
+        }
         Verdict::Passed => t,
     }
 }
 
-// Takes in all PDUs, with a table of counts that is empty, and returns how many pieces there are.
-fn take_pdus(file: &[u8], w: &mut [u8], made: usize, rows: usize) -> usize
+// What all PDUs bring: so many pieces, and for each DLCI so many frames with a wrong FCS.
+pub struct Gathered {
+    pub pieces: usize,
+    pub wrong: [u32; 64],
+}
+
+// Takes in all PDUs, with a table of counts that is empty.
+fn take_pdus(file: &[u8], w: &mut [u8], made: usize, rows: usize, fcs: bool) -> Gathered
     requires { ⌜ PiecesBegun (now file) (now w) made rows ⌝ }
-    ensures { λ r. ⌜ ReadPieces (now (file .entry)) (now (w .entry)) made (now (w .exit)) r ⌝ }
+    ensures { λ r. ⌜ ReadPieces fcs (now (file .entry)) (now (w .entry)) made (now (w .exit)) r ⌝ }
 {
     let q = file.len() / 4;
+    let mut wrong = [0u32; 64];
     let mut t = Taken {
         counts: 0,
         pieces: 0,
@@ -463,18 +389,21 @@ fn take_pdus(file: &[u8], w: &mut [u8], made: usize, rows: usize) -> usize
     };
     let mut j = 0;
     while j < made {
-        t = take_pdu(file, w, q, rows, t, j);
+        t = take_pdu(file, w, q, rows, fcs, &mut wrong, t, j);
         j += 1;
     }
-    t.pieces
+    Gathered {
+        pieces: t.pieces,
+        wrong,
+    }
 }
 
-// Reads the pieces of all PDUs into their table, and returns how many there are.
-pub fn read_pieces(file: &[u8], w: &mut [u8], made: usize, rows: usize) -> usize
+// Reads the pieces of all PDUs into their table, with FCS checked or not.
+pub fn read_pieces(file: &[u8], w: &mut [u8], made: usize, rows: usize, fcs: bool) -> Gathered
     requires { ⌜ PiecesPre (now file) (now w) made rows ⌝ }
-    ensures { λ r. ⌜ ReadPieces (now (file .entry)) (now (w .entry)) made (now (w .exit)) r ⌝ }
+    ensures { λ r. ⌜ ReadPieces fcs (now (file .entry)) (now (w .entry)) made (now (w .exit)) r ⌝ }
 {
     let q = file.len() / 4;
     clear(w, index_of(6 * q));
-    take_pdus(file, w, made, rows)
+    take_pdus(file, w, made, rows, fcs)
 }

@@ -1,4 +1,4 @@
-use Rattle.rfcomm.proofs.Judging.{verdict-sabm, verdict-other, verdict-start, verdict-uih}
+use Rattle.rfcomm.proofs.Judging.{verdict-sabm, verdict-other, verdict-uih, verdict-unchecked, verdict-wrong, place-right, place-wrong}
 use native.Mathlib.Omega.{arith}
 use borrow.Author.Needs.{needs}
 use Rattle.rfcomm.proofs.judge_frame.Statement.{statement}
@@ -7,43 +7,59 @@ use Rattle.rfcomm.proofs.judge_frame.Reads as reads
 use Rattle.rfcomm.proofs.judge_frame.Lts as lts
 use Rattle.l2cap.proofs.payload.Reads as payload-reads
 use Rattle.rfcomm.proofs.place_uih.Reads as place-uih-reads
-use Rattle.rfcomm.proofs.read_frame.Reads as read-frame-reads
+use Rattle.uih.proofs.read_frame.Reads as read-frame-reads
 
--- src/lib.rt:277:24
+-- src/lib.rt:198:24
 payload-requires : tie.Need-payload-requires
 payload-requires c κs = search needs
 
--- src/lib.rt:277:9
+-- src/lib.rt:198:9
 read-frame-requires : tie.Need-read-frame-requires
 read-frame-requires c κs = search needs
 
--- src/lib.rt:279:21
+-- src/lib.rt:200:21
 enum-known-x : tie.Need-enum-known-x
 enum-known-x c = search needs
 
--- src/lib.rt:280:20
+-- src/lib.rt:201:20
 enum-known-x-2 : tie.Need-enum-known-x-2
 enum-known-x-2 c = search needs
 
--- src/lib.rt:280:26
+-- src/lib.rt:201:26
 place-uih-requires : tie.Need-place-uih-requires
-place-uih-requires c κs = (c .before .before .before .before .before .before .before .pre .room, verdict-start _ _ _ (c .before .before .before .before .before .before .before .pre) _ (c .before .before .before .before .payload .ensures) _ (c .before .before .before .read-frame .ensures) _ (c .before .x2 .given .1))
+place-uih-requires c κs = search place-right
 
--- src/lib.rt:281:25
+-- src/lib.rt:202:25
+enum-known-x-3 : tie.Need-enum-known-x-3
+enum-known-x-3 c = search needs
+
+-- src/lib.rt:204:17
+returns : tie.Need-returns
+returns c = search verdict-wrong
+
+-- src/lib.rt:206:13
+place-uih-requires-2 : tie.Need-place-uih-requires-2
+place-uih-requires-2 c κs = search place-wrong
+
+-- src/lib.rt:208:25
 enum-told : tie.Need-enum-told
 enum-told c = search needs
 
--- src/lib.rt:273:1
-returns : tie.Need-returns
-returns c = search verdict-sabm
-
--- src/lib.rt:273:1
+-- src/lib.rt:194:1
 returns-2 : tie.Need-returns-2
-returns-2 c = search verdict-uih
+returns-2 c = search verdict-sabm
 
--- src/lib.rt:273:1
+-- src/lib.rt:194:1
 returns-3 : tie.Need-returns-3
-returns-3 c = search verdict-other
+returns-3 c = search verdict-uih
+
+-- src/lib.rt:194:1
+returns-4 : tie.Need-returns-4
+returns-4 c = search verdict-unchecked
+
+-- src/lib.rt:194:1
+returns-5 : tie.Need-returns-5
+returns-5 c = search verdict-other
 
 pub judge-frame-spec : {M : Type 1} → statement M
 judge-frame-spec =
@@ -54,7 +70,11 @@ judge-frame-spec =
     enum-known-x
     enum-known-x-2
     place-uih-requires
-    enum-told
+    enum-known-x-3
     returns
+    place-uih-requires-2
+    enum-told
     returns-2
-    returns-3)
+    returns-3
+    returns-4
+    returns-5)

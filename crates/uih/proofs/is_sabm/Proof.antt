@@ -1,10 +1,10 @@
-use Rattle.rfcomm.proofs.Reading.{sabm-first, sabm-second}
+use Rattle.uih.proofs.Reading.{sabm-first, sabm-second}
 use borrow.Author.Needs.{needs}
 use native.Mathlib.Omega.{arith}
-use Rattle.rfcomm.proofs.is_sabm.Statement.{statement}
-use Rattle.rfcomm.proofs.is_sabm.Tie as tie
-use Rattle.rfcomm.proofs.is_sabm.Reads as reads
-use Rattle.rfcomm.proofs.is_sabm.Lts as lts
+use Rattle.uih.proofs.is_sabm.Statement.{statement}
+use Rattle.uih.proofs.is_sabm.Tie as tie
+use Rattle.uih.proofs.is_sabm.Reads as reads
+use Rattle.uih.proofs.is_sabm.Lts as lts
 
 -- src/lib.rt:30:9
 returns : tie.Need-returns

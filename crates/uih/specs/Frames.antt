@@ -1,9 +1,10 @@
 -- RFCOMM frames: address, control, length, for 0xFF a credit byte, information, FCS.
 use Prim.Native.Nat.{ℕ, _+_, _*_, _/_, _%_}
 use mathlib.Core.Bool.{Bool, cond, _||_}
-use mathlib.Core.List.{List}
+use mathlib.Core.List.{List, [], _∷_}
 use lib.ListN.{length, getD, take, drop}
 use lib.Dec.{ltb, eqb}
+use Rattle.uih.specs.Fcs.{fcsOf}
 
 pub record Uih : Type 0 where
   pub dlci : ℕ
@@ -13,10 +14,12 @@ pub record Uih : Type 0 where
   pub information : List ℕ
   pub fcs : ℕ
 
+-- Reading a UIH frame tells three things apart: good, wrong FCS, not UIH (SABM, or other).
 pub data Frame : Type 0 where
   -- the DLCI
   sabm : ℕ → Frame
   uih : Uih → Frame
+  wrongFcs : Uih → Frame
   other : Frame
 
 abbrev pub address : List ℕ → ℕ
@@ -47,20 +50,28 @@ infoStart b = cond (shortLength b) 3 4 + cond (eqb (control b) 0xFF) 1 0
 unfoldable pub creditOf : List ℕ → ℕ
 creditOf b = cond (eqb (control b) 0xFF) (getD b (cond (shortLength b) 3 4) 0) 0
 
--- Two bytes are enough for SABM. A UIH's information and one FCS byte must be there; FCS is unchecked.
+-- the fields of a UIH frame; its FCS is the byte after the information, and what follows that is ignored
+abbrev pub uihIn : List ℕ → Uih
+uihIn b = record {
+  dlci = address b / 4;
+  control = control b;
+  credit = creditOf b;
+  information = take (infoLength b) (drop (infoStart b) b);
+  fcs = getD b (infoStart b + infoLength b) 0;
+}
+
+-- its FCS is the check over address and control, as they stand
+unfoldable pub isRight : List ℕ → Bool
+isRight b = eqb (uihIn b .fcs) (fcsOf (address b ∷ control b ∷ []))
+
+-- Two bytes are enough for SABM, whose FCS is not looked at. A UIH's information and one FCS byte must be there.
 unfoldable pub frameOf : List ℕ → Frame
 frameOf b =
     cond (ltb 1 (length b))
     (cond (isSabm (control b)) (sabm (address b / 4))
     (cond (isUih (control b))
     (cond (ltb (infoStart b + infoLength b) (length b))
-    (uih (record {
-      dlci = address b / 4;
-      control = control b;
-      credit = creditOf b;
-      information = take (infoLength b) (drop (infoStart b) b);
-      fcs = getD b (infoStart b + infoLength b) 0;
-    }))
+    (cond (isRight b) (uih (uihIn b)) (wrongFcs (uihIn b)))
     other)
     other))
     other

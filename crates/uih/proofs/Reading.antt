@@ -2,16 +2,18 @@
 use Prim.Native.Nat.{ℕ, _+_, _*_, _/_, _%_, _<_, _≤_}
 use mathlib.Core.Path.{_≡_, sym, ap, _∙_}
 use mathlib.Core.Bool.{Bool, true, false, cond}
-use mathlib.Core.List.{List}
+use mathlib.Core.List.{List, [], _∷_}
 use native.Mathlib.Omega.{arith}
 use lib.ListN.{length, getD}
 use lib.Dec.{eqb, ltb}
 use borrow.Author.Tests.{eq-eqb, ne-eqb, lt-ltb, le-ltb}
 use Rattle.laws.proofs.Choice.{splitB}
-use Rattle.rfcomm.specs.Frames.{isSabm, isUih, shortLength, infoLength, infoStart, frameOf}
-use Rattle.rfcomm.specs.declared.Length.{Length}
-use Rattle.rfcomm.specs.declared.Frame.the-variants.{Sabm, Uih as Found, Other}
-use Rattle.rfcomm.specs.Reading.{uihAt, frameShown, FrameIs, LengthIs, UihPre}
+use Rattle.uih.specs.Frames.{isSabm, isUih, shortLength, infoLength, infoStart, uih, wrongFcs, uihIn, isRight, frameOf}
+use Rattle.uih.specs.Fcs.{fcsOf}
+use Rattle.uih.specs.declared.Length.{Length}
+use Rattle.uih.specs.declared.Frame.the-variants.{Sabm, Uih as Found, WrongFcs, Other}
+use Rattle.uih.specs.declared.Uih.{Uih}
+use Rattle.uih.specs.Reading.{uihAt, frameShown, UihLies, FrameIs, LengthIs, UihPre}
 
 pub sabm-first : (c : ℕ) → c ≡ 0x2F → true ≡ isSabm c
 unfolding isSabm
@@ -87,9 +89,28 @@ module _ (b : List ℕ) (pre : UihPre b) where
     pub uih-missing : length b ≤ 2 + l .width + c + l .value → FrameIs b Other
     uih-missing h = uih-none (omega (arith, start-is, is .value))
 
-    pub uih-whole : 2 + l .width + c + l .value < length b → (d : ℕ) → d ≡ getD b 0 0 / 4 → d < 64 → FrameIs b (Found (record { dlci = d; start = 2 + l .width + c; len = l .value }))
-    unfolding frameOf frameShown uihAt
-    uih-whole h d z s = record {
-      shows = rw (there b (pre .some), pre .not, pre .is, lt-ltb (infoStart b + infoLength b) (length b) (omega (arith, start-is, is .value)), start-is, is .value, z);
-      lies = (s, omega (arith, start-is, start-least), h, is .few, omega (arith, is .wide));
-    }
+    module _ (h : 2 + l .width + c + l .value < length b) (d : ℕ) (z : d ≡ getD b 0 0 / 4) (s : d < 64) where
+      lies : UihLies b (record { dlci = d; start = 2 + l .width + c; len = l .value })
+      lies = record { dlci = s; first = omega (arith, start-is, start-least); start = omega (arith, is .wide); inside = h; few = is .few }
+
+      frame-is : (t : Bool) → isRight b ≡ t → frameOf b ≡ cond t (uih (uihIn b)) (wrongFcs (uihIn b))
+      unfolding frameOf
+      frame-is t e = rw (there b (pre .some), pre .not, pre .is, lt-ltb (infoStart b + infoLength b) (length b) (omega (arith, start-is, is .value)), e)
+
+      shown : uihIn b ≡ uihAt b (record { dlci = d; start = 2 + l .width + c; len = l .value })
+      unfolding uihAt
+      shown = rw (start-is, is .value, z)
+
+      -- the byte after the information, and the check
+      module _ (x y : ℕ) (ex : x ≡ getD b (2 + l .width + c + l .value) 0) (ey : y ≡ fcsOf (getD b 0 0 ∷ getD b 1 0 ∷ [])) where
+        right-is : isRight b ≡ eqb x y
+        unfolding isRight
+        right-is = rw (ex, ey, start-is, is .value)
+
+        pub uih-right : x ≡ y → FrameIs b (Found (record { dlci = d; start = 2 + l .width + c; len = l .value }))
+        unfolding frameShown
+        uih-right e = record { shows = frame-is true (right-is ∙ eq-eqb x y e) ∙ ap uih shown; lies = lies }
+
+        pub uih-wrong : (x ≡ y → ⊥) → FrameIs b (WrongFcs (record { dlci = d; start = 2 + l .width + c; len = l .value }))
+        unfolding frameShown
+        uih-wrong e = record { shows = frame-is false (right-is ∙ ne-eqb x y e) ∙ ap wrongFcs shown; lies = lies }

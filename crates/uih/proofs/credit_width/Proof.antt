@@ -1,10 +1,10 @@
 use borrow.Author.Tests.{eq-eqb, ne-eqb}
 use borrow.Author.Needs.{needs}
 use native.Mathlib.Omega.{arith}
-use Rattle.rfcomm.proofs.credit_width.Statement.{statement}
-use Rattle.rfcomm.proofs.credit_width.Tie as tie
-use Rattle.rfcomm.proofs.credit_width.Reads as reads
-use Rattle.rfcomm.proofs.credit_width.Lts as lts
+use Rattle.uih.proofs.credit_width.Statement.{statement}
+use Rattle.uih.proofs.credit_width.Tie as tie
+use Rattle.uih.proofs.credit_width.Reads as reads
+use Rattle.uih.proofs.credit_width.Lts as lts
 
 -- src/lib.rt:75:9
 returns : tie.Need-returns

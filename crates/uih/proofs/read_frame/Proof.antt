@@ -1,14 +1,14 @@
-use Rattle.rfcomm.proofs.Reading.{frame-short, frame-sabm, frame-other, uih-pre}
+use Rattle.uih.proofs.Reading.{frame-short, frame-sabm, frame-other, uih-pre}
 use native.Mathlib.Omega.{arith}
 use borrow.Author.Needs.{needs}
-use Rattle.rfcomm.proofs.read_frame.Statement.{statement}
-use Rattle.rfcomm.proofs.read_frame.Tie as tie
-use Rattle.rfcomm.proofs.read_frame.Reads as reads
-use Rattle.rfcomm.proofs.read_frame.Lts as lts
-use Rattle.rfcomm.proofs.dlci_of.Reads as dlci-of-reads
-use Rattle.rfcomm.proofs.is_sabm.Reads as is-sabm-reads
-use Rattle.rfcomm.proofs.is_uih.Reads as is-uih-reads
-use Rattle.rfcomm.proofs.read_uih.Reads as read-uih-reads
+use Rattle.uih.proofs.read_frame.Statement.{statement}
+use Rattle.uih.proofs.read_frame.Tie as tie
+use Rattle.uih.proofs.read_frame.Reads as reads
+use Rattle.uih.proofs.read_frame.Lts as lts
+use Rattle.uih.proofs.dlci_of.Reads as dlci-of-reads
+use Rattle.uih.proofs.is_sabm.Reads as is-sabm-reads
+use Rattle.uih.proofs.is_uih.Reads as is-uih-reads
+use Rattle.uih.proofs.read_uih.Reads as read-uih-reads
 
 -- src/lib.rt:103:9
 returns : tie.Need-returns

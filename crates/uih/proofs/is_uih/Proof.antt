@@ -1,10 +1,10 @@
-use Rattle.rfcomm.proofs.Reading.{uih-first, uih-second}
+use Rattle.uih.proofs.Reading.{uih-first, uih-second}
 use borrow.Author.Needs.{needs}
 use native.Mathlib.Omega.{arith}
-use Rattle.rfcomm.proofs.is_uih.Statement.{statement}
-use Rattle.rfcomm.proofs.is_uih.Tie as tie
-use Rattle.rfcomm.proofs.is_uih.Reads as reads
-use Rattle.rfcomm.proofs.is_uih.Lts as lts
+use Rattle.uih.proofs.is_uih.Statement.{statement}
+use Rattle.uih.proofs.is_uih.Tie as tie
+use Rattle.uih.proofs.is_uih.Reads as reads
+use Rattle.uih.proofs.is_uih.Lts as lts
 
 -- src/lib.rt:40:9
 returns : tie.Need-returns

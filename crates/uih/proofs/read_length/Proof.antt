@@ -1,10 +1,10 @@
-use Rattle.rfcomm.proofs.Reading.{length-short, length-long}
+use Rattle.uih.proofs.Reading.{length-short, length-long}
 use native.Mathlib.Omega.{arith}
 use borrow.Author.Needs.{needs}
-use Rattle.rfcomm.proofs.read_length.Statement.{statement}
-use Rattle.rfcomm.proofs.read_length.Tie as tie
-use Rattle.rfcomm.proofs.read_length.Reads as reads
-use Rattle.rfcomm.proofs.read_length.Lts as lts
+use Rattle.uih.proofs.read_length.Statement.{statement}
+use Rattle.uih.proofs.read_length.Tie as tie
+use Rattle.uih.proofs.read_length.Reads as reads
+use Rattle.uih.proofs.read_length.Lts as lts
 use Rattle.words.proofs.wide.Reads as wide-reads
 
 -- src/lib.rt:56:22

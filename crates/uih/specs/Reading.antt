@@ -4,11 +4,11 @@ use mathlib.Core.Path.{_≡_}
 use mathlib.Core.Bool.{true, false, cond}
 use mathlib.Core.List.{List}
 use lib.ListN.{length, getD, take, drop}
-use Rattle.rfcomm.specs.Frames.{Uih as UihFrame, Frame as FrameRead, sabm, uih, other, control, isSabm, isUih, shortLength, infoLength, creditOf, frameOf}
-use Rattle.rfcomm.specs.declared.Length.{Length}
-use Rattle.rfcomm.specs.declared.Uih.{Uih}
-use Rattle.rfcomm.specs.declared.Frame.{Frame}
-use Rattle.rfcomm.specs.declared.Frame.the-variants.{Sabm, Uih as Found, Other}
+use Rattle.uih.specs.Frames.{Uih as UihFrame, Frame as FrameRead, sabm, uih, wrongFcs, other, control, isSabm, isUih, shortLength, infoLength, creditOf, frameOf}
+use Rattle.uih.specs.declared.Length.{Length}
+use Rattle.uih.specs.declared.Uih.{Uih}
+use Rattle.uih.specs.declared.Frame.{Frame}
+use Rattle.uih.specs.declared.Frame.the-variants.{Sabm, Uih as Found, WrongFcs, Other}
 
 -- the UIH frame that the places stand for
 unfoldable pub uihAt : List ℕ → Uih → UihFrame
@@ -17,12 +17,21 @@ uihAt b u = record { dlci = u .dlci; control = control b; credit = creditOf b; i
 unfoldable pub frameShown : List ℕ → Frame → FrameRead
 frameShown b (Sabm d) = sabm d
 frameShown b (Found u) = uih (uihAt b u)
+frameShown b (WrongFcs u) = wrongFcs (uihAt b u)
 frameShown b Other = other
 
 -- places inside the payload
+pub record UihLies (b : List ℕ) (u : Uih) : Type 0 where
+  pub dlci : u .dlci < 64
+  pub first : 3 ≤ u .start
+  pub start : u .start ≤ 5
+  pub inside : u .start + u .len < length b
+  pub few : u .len < 32768
+
 abbrev pub Lies : List ℕ → Frame → Type 0
 Lies b (Sabm d) = d < 64
-Lies b (Found u) = (u .dlci < 64) × (3 ≤ u .start) × (u .start + u .len < length b) × (u .len < 32768) × (u .start ≤ 5)
+Lies b (Found u) = UihLies b u
+Lies b (WrongFcs u) = UihLies b u
 Lies b Other = Unit {0}
 
 pub record FrameIs (b : List ℕ) (r : Frame) : Type 0 where

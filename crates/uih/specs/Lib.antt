@@ -1,0 +1,3 @@
+pub mod Fcs
+pub mod Frames
+pub mod Reading
