@@ -30,8 +30,9 @@ use Rattle.l2cap.specs.Pdus.{joined, isComplete, stillOpen, pduOf, completed, p
 use Rattle.channels.specs.Signals.{commandSize, isCommand, commands, body, signalOf, signalsIn, pduSignals, signals}
 use Rattle.channels.specs.Channels.{any, names, named, asksFor, admits, admittedAfter, admitted, isTried, asksRfcomm, asksSession}
 use Rattle.channels.specs.Tried.{source, triedBy}
-use Rattle.uih.specs.Frames.{isSabm, isUih, shortLength, infoLength, infoStart, creditOf, frameOf}
-use Rattle.rfcomm.specs.Pieces.{uihKind, frameKind, kindBy, judgedFrom, judgedBy, counted, pieceOf, brought, pieces}
+use Rattle.uih.specs.Fcs.{shiftOne, shifted, register, fcsOf}
+use Rattle.uih.specs.Frames.{isSabm, isUih, shortLength, infoLength, infoStart, creditOf, frameOf, isRight}
+use Rattle.rfcomm.specs.Pieces.{uihKind, frameKind, kindBy, judgedFrom, judgedBy, counted, pieceOf, brought, pieces, isWrong, wrongOn}
 use Rattle.search.specs.Seek.{seek}
 use Rattle.spans.specs.Scan.{spansN, restN, spansOf, restOf, capped}
 use Rattle.spans.specs.Spans.{spans, unfinished, onDlci}
@@ -72,14 +73,14 @@ module _ (ρ : ℕ → ℕ) (C : Container) (L : Lawful C) where
 -- ---- honest by the handle alone
 
 torn-tested : testedBy source tornByHandle ≡ passed-all
-unfolding ifThere rules every once ends headerTest wholeTest smallTest dlciTest dynamicTest channelTest channelsTest informationTest sizesTest beginningsTest settledIn settledTest aloneIn aloneTest handlesTest dataTest markTest fragmentsTest leftFrom recordsLeft sent dataOf dataLeft pdusIn markedPdus withMarks judgedIn isDataOf toData afterData adds carriesOn file isBtsnoop datalink isDatalink eqK recordSize be32 be64 le16 packetsIn packets packetOf milliseconds fragment monitorPacket pdus run after of joined isComplete stillOpen pduOf completed commandSize isCommand commands chop chopFrom body signalOf signalsIn pduSignals signals any names named asksFor admits admittedAfter admitted isTried asksRfcomm asksSession isSabm isUih shortLength infoLength infoStart creditOf frameOf uihKind frameKind kindBy triedBy judgedFrom judgedBy rxOf packed bodyOf summedOf headOf checksumOf within
+unfolding ifThere rules every once ends headerTest wholeTest smallTest dlciTest dynamicTest channelTest channelsTest informationTest sizesTest beginningsTest settledIn settledTest aloneIn aloneTest handlesTest dataTest markTest fragmentsTest leftFrom recordsLeft sent dataOf dataLeft pdusIn markedPdus withMarks judgedIn isDataOf toData afterData adds carriesOn file isBtsnoop datalink isDatalink eqK recordSize be32 be64 le16 packetsIn packets packetOf milliseconds fragment monitorPacket pdus run after of joined isComplete stillOpen pduOf completed commandSize isCommand commands chop chopFrom body signalOf signalsIn pduSignals signals any names named asksFor admits admittedAfter admitted isTried asksRfcomm asksSession isSabm isUih shortLength infoLength infoStart creditOf isRight fcsOf register shifted shiftOne frameOf uihKind frameKind kindBy triedBy judgedFrom judgedBy rxOf packed bodyOf summedOf headOf checksumOf within
 torn-tested = refl
 
 pub torn-honest : Honest source tornByHandle
 torn-honest = honest (relinking-lawful _ btsnoop lawful) source packedChecked (λ l t. unended) tornByHandle torn-tested
 
 tornFrame-tested : testedBy source tornFrameByHandle ≡ passed-all
-unfolding ifThere rules every once ends headerTest wholeTest smallTest dlciTest dynamicTest channelTest channelsTest informationTest sizesTest beginningsTest settledIn settledTest aloneIn aloneTest handlesTest dataTest markTest fragmentsTest leftFrom recordsLeft sent dataOf dataLeft pdusIn markedPdus withMarks judgedIn isDataOf toData afterData adds carriesOn file isBtsnoop datalink isDatalink eqK recordSize be32 be64 le16 packetsIn packets packetOf milliseconds fragment monitorPacket pdus run after of joined isComplete stillOpen pduOf completed commandSize isCommand commands chop chopFrom body signalOf signalsIn pduSignals signals any names named asksFor admits admittedAfter admitted isTried asksRfcomm asksSession isSabm isUih shortLength infoLength infoStart creditOf frameOf uihKind frameKind kindBy triedBy judgedFrom judgedBy rxOf packed bodyOf summedOf headOf checksumOf within
+unfolding ifThere rules every once ends headerTest wholeTest smallTest dlciTest dynamicTest channelTest channelsTest informationTest sizesTest beginningsTest settledIn settledTest aloneIn aloneTest handlesTest dataTest markTest fragmentsTest leftFrom recordsLeft sent dataOf dataLeft pdusIn markedPdus withMarks judgedIn isDataOf toData afterData adds carriesOn file isBtsnoop datalink isDatalink eqK recordSize be32 be64 le16 packetsIn packets packetOf milliseconds fragment monitorPacket pdus run after of joined isComplete stillOpen pduOf completed commandSize isCommand commands chop chopFrom body signalOf signalsIn pduSignals signals any names named asksFor admits admittedAfter admitted isTried asksRfcomm asksSession isSabm isUih shortLength infoLength infoStart creditOf isRight fcsOf register shifted shiftOne frameOf uihKind frameKind kindBy triedBy judgedFrom judgedBy rxOf packed bodyOf summedOf headOf checksumOf within
 tornFrame-tested = refl
 
 pub tornFrame-honest : Honest source tornFrameByHandle
@@ -95,11 +96,11 @@ abbrev LeftOut : Recording byHandle → ℕ → Found → Type 0
 LeftOut R n x = (leftAt R n ≡ x) × (foundBy source R n ≡ x) × (outcome btsnoop (cut R n) options ≡ missing 6 [])
 
 pub torn-cut : LeftOut tornByHandle 89 (found 18 (span 1 6 w₂ ∷ []) 0 89)
-unfolding ifThere cut file tailLeft ofHandle closedIn framesLeft midFrame endsMid midIn midLeft leftFrom recordsLeft sent dataOf dataLeft outcome isBtsnoop datalink isDatalink endsWell read tailOffset records recordsIn chop chopFrom isWhole recordSize be32 be64 le16 eqK filePieces packetsIn packets packetOf milliseconds fragment monitorPacket pdus run after of joined isComplete stillOpen pduOf completed commandSize isCommand commands body signalOf signalsIn pduSignals signals any names named asksFor admits admittedAfter admitted isTried asksRfcomm asksSession isSabm isUih shortLength infoLength infoStart creditOf frameOf uihKind frameKind kindBy triedBy judgedFrom judgedBy counted pieceOf brought pieces seek spansN restN spansOf restOf capped spans unfinished onDlci count nub mem onChannel firstOf hasFrame chosen listed unpacksOf unpackOf judgedFrame isGiven within checksumOf packed bodyOf summedOf headOf rxOf
+unfolding ifThere cut file tailLeft ofHandle closedIn framesLeft midFrame endsMid midIn midLeft leftFrom recordsLeft sent dataOf dataLeft outcome isBtsnoop datalink isDatalink endsWell read tailOffset records recordsIn chop chopFrom isWhole recordSize be32 be64 le16 eqK filePieces packetsIn packets packetOf milliseconds fragment monitorPacket pdus run after of joined isComplete stillOpen pduOf completed commandSize isCommand commands body signalOf signalsIn pduSignals signals any names named asksFor admits admittedAfter admitted isTried asksRfcomm asksSession isSabm isUih shortLength infoLength infoStart creditOf isRight fcsOf register shifted shiftOne frameOf uihKind frameKind kindBy triedBy judgedFrom judgedBy counted pieceOf brought pieces seek spansN restN spansOf restOf capped spans unfinished onDlci count nub mem onChannel firstOf hasFrame chosen isWrong wrongOn listed unpacksOf unpackOf judgedFrame isGiven within checksumOf packed bodyOf summedOf headOf rxOf
 torn-cut = (refl, refl, refl)
 
 pub tornFrame-cut : LeftOut tornFrameByHandle 97 (found 18 (span 1 6 w₀ ∷ []) 0 97)
-unfolding ifThere cut file tailLeft ofHandle closedIn framesLeft midFrame endsMid midIn midLeft leftFrom recordsLeft sent dataOf dataLeft outcome isBtsnoop datalink isDatalink endsWell read tailOffset records recordsIn chop chopFrom isWhole recordSize be32 be64 le16 eqK filePieces packetsIn packets packetOf milliseconds fragment monitorPacket pdus run after of joined isComplete stillOpen pduOf completed commandSize isCommand commands body signalOf signalsIn pduSignals signals any names named asksFor admits admittedAfter admitted isTried asksRfcomm asksSession isSabm isUih shortLength infoLength infoStart creditOf frameOf uihKind frameKind kindBy triedBy judgedFrom judgedBy counted pieceOf brought pieces seek spansN restN spansOf restOf capped spans unfinished onDlci count nub mem onChannel firstOf hasFrame chosen listed unpacksOf unpackOf judgedFrame isGiven within checksumOf packed bodyOf summedOf headOf rxOf
+unfolding ifThere cut file tailLeft ofHandle closedIn framesLeft midFrame endsMid midIn midLeft leftFrom recordsLeft sent dataOf dataLeft outcome isBtsnoop datalink isDatalink endsWell read tailOffset records recordsIn chop chopFrom isWhole recordSize be32 be64 le16 eqK filePieces packetsIn packets packetOf milliseconds fragment monitorPacket pdus run after of joined isComplete stillOpen pduOf completed commandSize isCommand commands body signalOf signalsIn pduSignals signals any names named asksFor admits admittedAfter admitted isTried asksRfcomm asksSession isSabm isUih shortLength infoLength infoStart creditOf isRight fcsOf register shifted shiftOne frameOf uihKind frameKind kindBy triedBy judgedFrom judgedBy counted pieceOf brought pieces seek spansN restN spansOf restOf capped spans unfinished onDlci count nub mem onChannel firstOf hasFrame chosen isWrong wrongOn listed unpacksOf unpackOf judgedFrame isGiven within checksumOf packed bodyOf summedOf headOf rxOf
 tornFrame-cut = (refl, refl, refl)
 
 abbrev pub isMissing : Found → Bool
@@ -133,10 +134,10 @@ torn-uncovered ls H = not-ended (H .fragments) (λ b. refl) refl
 
 -- With the second index's link, the fragments alone do not fit; the first index's did not receive the frame either.
 pub torn-broken : (testedBy source (torn 1) ≡ but fragments) × (testedBy source (torn 0) ≡ true ∷ true ∷ true ∷ true ∷ true ∷ true ∷ true ∷ false ∷ false ∷ true ∷ true ∷ true ∷ true ∷ [])
-unfolding rules every once ends headerTest wholeTest smallTest dlciTest dynamicTest channelTest channelsTest informationTest sizesTest beginningsTest settledIn settledTest aloneIn aloneTest handlesTest dataTest markTest fragmentsTest leftFrom recordsLeft sent dataOf dataLeft pdusIn markedPdus withMarks judgedIn isDataOf toData afterData adds carriesOn file isBtsnoop datalink isDatalink eqK recordSize be32 be64 le16 packetsIn packets packetOf milliseconds fragment monitorPacket pdus run after of joined isComplete stillOpen pduOf completed commandSize isCommand commands chop chopFrom body signalOf signalsIn pduSignals signals any names named asksFor admits admittedAfter admitted isTried asksRfcomm asksSession isSabm isUih shortLength infoLength infoStart creditOf frameOf uihKind frameKind kindBy triedBy judgedFrom judgedBy rxOf packed bodyOf summedOf headOf checksumOf within
+unfolding rules every once ends headerTest wholeTest smallTest dlciTest dynamicTest channelTest channelsTest informationTest sizesTest beginningsTest settledIn settledTest aloneIn aloneTest handlesTest dataTest markTest fragmentsTest leftFrom recordsLeft sent dataOf dataLeft pdusIn markedPdus withMarks judgedIn isDataOf toData afterData adds carriesOn file isBtsnoop datalink isDatalink eqK recordSize be32 be64 le16 packetsIn packets packetOf milliseconds fragment monitorPacket pdus run after of joined isComplete stillOpen pduOf completed commandSize isCommand commands chop chopFrom body signalOf signalsIn pduSignals signals any names named asksFor admits admittedAfter admitted isTried asksRfcomm asksSession isSabm isUih shortLength infoLength infoStart creditOf isRight fcsOf register shifted shiftOne frameOf uihKind frameKind kindBy triedBy judgedFrom judgedBy rxOf packed bodyOf summedOf headOf checksumOf within
 torn-broken = (refl, refl)
 
 -- the second half begins no frame
 pub tornFrame-broken : testedBy source tornFrame ≡ but beginnings
-unfolding rules every once ends headerTest wholeTest smallTest dlciTest dynamicTest channelTest channelsTest informationTest sizesTest beginningsTest settledIn settledTest aloneIn aloneTest handlesTest dataTest markTest fragmentsTest leftFrom recordsLeft sent dataOf dataLeft pdusIn markedPdus withMarks judgedIn isDataOf toData afterData adds carriesOn file isBtsnoop datalink isDatalink eqK recordSize be32 be64 le16 packetsIn packets packetOf milliseconds fragment monitorPacket pdus run after of joined isComplete stillOpen pduOf completed commandSize isCommand commands chop chopFrom body signalOf signalsIn pduSignals signals any names named asksFor admits admittedAfter admitted isTried asksRfcomm asksSession isSabm isUih shortLength infoLength infoStart creditOf frameOf uihKind frameKind kindBy triedBy judgedFrom judgedBy rxOf packed bodyOf summedOf headOf checksumOf within
+unfolding rules every once ends headerTest wholeTest smallTest dlciTest dynamicTest channelTest channelsTest informationTest sizesTest beginningsTest settledIn settledTest aloneIn aloneTest handlesTest dataTest markTest fragmentsTest leftFrom recordsLeft sent dataOf dataLeft pdusIn markedPdus withMarks judgedIn isDataOf toData afterData adds carriesOn file isBtsnoop datalink isDatalink eqK recordSize be32 be64 le16 packetsIn packets packetOf milliseconds fragment monitorPacket pdus run after of joined isComplete stillOpen pduOf completed commandSize isCommand commands chop chopFrom body signalOf signalsIn pduSignals signals any names named asksFor admits admittedAfter admitted isTried asksRfcomm asksSession isSabm isUih shortLength infoLength infoStart creditOf isRight fcsOf register shifted shiftOne frameOf uihKind frameKind kindBy triedBy judgedFrom judgedBy rxOf packed bodyOf summedOf headOf checksumOf within
 tornFrame-broken = refl

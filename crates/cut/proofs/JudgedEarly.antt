@@ -22,8 +22,9 @@ use Rattle.l2cap.specs.Pdus.{Pdu, joined, isComplete, stillOpen, pduOf, complet
 use Rattle.channels.specs.Signals.{commandSize, isCommand, commands, body, signalOf, signalsIn, pduSignals, signals}
 use Rattle.channels.specs.Channels.{any, names, named, asksFor, admits, admittedAfter, admitted, isTried, asksRfcomm, asksSession}
 use Rattle.channels.specs.Tried.{source, triedBy}
-use Rattle.uih.specs.Frames.{isSabm, isUih, shortLength, infoLength, infoStart, creditOf, frameOf}
-use Rattle.rfcomm.specs.Pieces.{Judged, Piece, uihKind, frameKind, kindBy, judgedFrom, judgedBy, counted, pieceOf, brought, pieces}
+use Rattle.uih.specs.Fcs.{shiftOne, shifted, register, fcsOf}
+use Rattle.uih.specs.Frames.{isSabm, isUih, shortLength, infoLength, infoStart, creditOf, frameOf, isRight}
+use Rattle.rfcomm.specs.Pieces.{Judged, Piece, uihKind, frameKind, kindBy, judgedFrom, judgedBy, counted, pieceOf, brought, pieces, isWrong, wrongOn}
 use Rattle.search.specs.Seek.{seek}
 use Rattle.spans.specs.Scan.{spansN, restN, spansOf, restOf, capped}
 use Rattle.spans.specs.Spans.{spans, unfinished, onDlci}
@@ -49,5 +50,5 @@ foundEarly R = listed (earlyPieces R) (tailOffset btsnoop (file R)) (chosen (som
 pub judged-early :
     (foundBy source admittedLate 189 ≡ found 18 (span 1 5 w₀ ∷ []) 0 189) × (foundEarly admittedLate ≡ missing 6 []) ×
     (foundBy source onlyCut 149 ≡ found 18 (span 1 5 w₀ ∷ []) 0 149) × (foundEarly onlyCut ≡ found 18 (span 1 5 w₀ ∷ span 1 6 w₂ ∷ []) 0 149)
-unfolding cut file outcome isBtsnoop datalink isDatalink endsWell read tailOffset records recordsIn chop chopFrom isWhole recordSize be32 be64 le16 eqK filePieces packetsIn packets packetOf milliseconds fragment h4Packet hciPacket monitorPacket pdus run after of joined isComplete stillOpen pduOf completed commandSize isCommand commands body signalOf signalsIn pduSignals signals any names named asksFor admits admittedAfter admitted isTried asksRfcomm asksSession isSabm isUih shortLength infoLength infoStart creditOf frameOf uihKind frameKind kindBy triedBy judgedFrom judgedBy counted pieceOf brought pieces seek spansN restN spansOf restOf capped spans unfinished onDlci count nub mem onChannel first hasFrame chosen listed unpacksOf unpackOf judgedFrame isGiven within checksumOf packed bodyOf summedOf headOf rxOf
+unfolding cut file outcome isBtsnoop datalink isDatalink endsWell read tailOffset records recordsIn chop chopFrom isWhole recordSize be32 be64 le16 eqK filePieces packetsIn packets packetOf milliseconds fragment h4Packet hciPacket monitorPacket pdus run after of joined isComplete stillOpen pduOf completed commandSize isCommand commands body signalOf signalsIn pduSignals signals any names named asksFor admits admittedAfter admitted isTried asksRfcomm asksSession isSabm isUih shortLength infoLength infoStart creditOf isRight fcsOf register shifted shiftOne frameOf uihKind frameKind kindBy triedBy judgedFrom judgedBy counted pieceOf brought pieces seek spansN restN spansOf restOf capped spans unfinished onDlci count nub mem onChannel first hasFrame chosen isWrong wrongOn listed unpacksOf unpackOf judgedFrame isGiven within checksumOf packed bodyOf summedOf headOf rxOf
 judged-early = (refl, refl, refl, refl)

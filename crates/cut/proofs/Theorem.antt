@@ -25,14 +25,14 @@ use Rattle.mdr.specs.Frame.{unpacksOf}
 use Rattle.container.specs.Container.{Container, recordsIn, records, tailOffset, packetsIn, Lawful}
 use Rattle.channels.specs.Channels.{any}
 use Rattle.channels.specs.Tried.{ChannelRule}
-use Rattle.rfcomm.specs.Pieces.{Piece, judgedBy, counting, noCounts, pieces}
+use Rattle.rfcomm.specs.Pieces.{Piece, judgedBy, counting, noCounts, pieces, isWrong, wrongOn}
 use Rattle.spans.specs.Bytewise.{held}
 use Rattle.spans.specs.Spans.{scanner, emptied, spans, unfinished, onDlci}
 use Rattle.outcome.specs.Import.{Options, hasFrame, chosen, listed, filePieces, read, endsWell, outcome, given, fits, workSuffices, imported}
 use Rattle.cut.specs.Recording.{LinkOf, Record, RecordingOf, rows, file, cut, Framing}
 use Rattle.cut.specs.Left.{recordsLeft, tailLeft, sentIn, Data, dataKey, linkKey, informationOf, dataOf, dataLeft, closedIn, wires, wiresOf, closing, framesLeft, midLeft}
 use Rattle.cut.specs.Honest.{pdusIn, JudgedPdu, judgedIn, Honest}
-use Rattle.cut.specs.Claim.{answerLeft, listLeft, CutClaimOf, CutClaim}
+use Rattle.cut.specs.Claim.{answerLeft, listLeft, CutClaimOf, CutClaim, wrongLeft}
 use Rattle.cut.proofs.TwoParts.{map-map, take-past, all-at}
 use Rattle.cut.proofs.CutRecords.{records-front, cut-records}
 use Rattle.cut.proofs.CutWires.{Spanning, stream, held-mid, mid-none}
@@ -227,11 +227,11 @@ outcomeLeft R n (s ∷ ss) = gives (R .d ∷ length (s ∷ ss) ∷ midLeft R n �
 
 module _ {rule : ChannelRule} {C : Container} {S : Framing} (R : RecordingOf C S) (G : Spanning S) (H : Honest rule R) (n : ℕ) where
   none-left : framesLeft R n ≡ [] → given (listed (ps R G H n) (tailLeft R n) (chosen (some (R .d / 2)) (ps R G H n))) ≡ outcomeLeft R n []
-  unfolding chosen given listed outcomeLeft
+  unfolding chosen given isWrong wrongOn listed outcomeLeft
   none-left e = rw (chosen-no (R .d) (hasFrame (ps R G H n)) (near R G H n) (good-no R G H n e))
 
   some-left : (s : Span) (ss : List Span) → framesLeft R n ≡ s ∷ ss → Unpacks s → given (listed (ps R G H n) (tailLeft R n) (chosen (some (R .d / 2)) (ps R G H n))) ≡ outcomeLeft R n (s ∷ ss)
-  unfolding chosen given listed outcomeLeft
+  unfolding chosen given isWrong wrongOn listed outcomeLeft
   some-left s ss e u = rw (chosen-yes (R .d) (hasFrame (ps R G H n)) (near R G H n) (good-yes R G H n s ss e u) (some-piece R G H n s ss e), spans-left R G H n, e, unfinished-left R G H n)
 
   listed-left : given (listed (ps R G H n) (tailLeft R n) (chosen (some (R .d / 2)) (ps R G H n))) ≡ outcomeLeft R n (framesLeft R n)
@@ -300,7 +300,7 @@ module _ {rule : ChannelRule} {C : Container} {S : Framing} (R : RecordingOf C S
 
 left-met : {C : Container} {S : Framing} (R : RecordingOf C S) (n : ℕ) (ss : List Span) (out : List ℕ) → length (spanList ss) ≤ length out →
     (answer (outcomeLeft R n ss) (length out) ≡ answerLeft R n ss) × (output (outcomeLeft R n ss) out ≡ spanList ss ++ drop (length (spanList ss)) out)
-unfolding outcomeLeft answer output answerLeft filled spanList
+unfolding outcomeLeft answer output wrongLeft isWrong wrongOn answerLeft filled spanList
 left-met R n [] out h = (refl, refl)
 left-met R n (s ∷ ss) out h = (rw le-leb, rw le-leb)
 

@@ -28,8 +28,9 @@ use Rattle.l2cap.specs.Pdus.{joined, isComplete, stillOpen, pduOf, completed, p
 use Rattle.channels.specs.Signals.{commandSize, isCommand, commands, body, signalOf, signalsIn, pduSignals, signals}
 use Rattle.channels.specs.Channels.{any, names, named, asksFor, admits, admittedAfter, admitted, isTried, asksRfcomm, asksSession}
 use Rattle.channels.specs.Tried.{triedBy}
-use Rattle.uih.specs.Frames.{isSabm, isUih, shortLength, infoLength, infoStart, creditOf, frameOf}
-use Rattle.rfcomm.specs.Pieces.{uihKind, frameKind, kindBy, judgedFrom, judgedBy, counted, pieceOf, brought, pieces}
+use Rattle.uih.specs.Fcs.{shiftOne, shifted, register, fcsOf}
+use Rattle.uih.specs.Frames.{isSabm, isUih, shortLength, infoLength, infoStart, creditOf, frameOf, isRight}
+use Rattle.rfcomm.specs.Pieces.{uihKind, frameKind, kindBy, judgedFrom, judgedBy, counted, pieceOf, brought, pieces, isWrong, wrongOn}
 use Rattle.search.specs.Seek.{seek}
 use Rattle.spans.specs.Scan.{spansN, restN, spansOf, restOf, capped}
 use Rattle.spans.specs.Spans.{spans, unfinished, onDlci}
@@ -102,5 +103,5 @@ pub pcap-examples :
     (answerTo (row 0 0 (toward (0 ∷ 0 ∷ 0 ∷ 0 ∷ [])) ∷ []) ≡ found 18 (span 0 0 frame ∷ []) 0 66) ×
     -- packets too short for a direction, or with nothing behind it, are skipped, and do not end the reading
     (answerTo (row 0 0 [] ∷ row 0 0 (2 ∷ 2 ∷ 2 ∷ []) ∷ row 0 0 rx ∷ row 0 0 (toward rx) ∷ []) ≡ found 18 (span 1 0 frame ∷ []) 0 121)
-unfolding outcome isBtsnoop isPcap isBig isLittle isNano number linkOf isLink endsWell read tailOffset records recordsIn chop chopFrom isWhole recordSize be32 be64 le16 eqK filePieces packetsIn packets packetOf directedPacket milliseconds fragment h4Packet pdus run after joined isComplete stillOpen pduOf completed commandSize isCommand commands body signalOf signalsIn pduSignals signals any names named asksFor admits admittedAfter admitted isTried asksRfcomm asksSession isSabm isUih shortLength infoLength infoStart creditOf frameOf uihKind frameKind kindBy triedBy judgedFrom judgedBy counted pieceOf brought pieces seek spansN restN spansOf restOf capped spans unfinished onDlci count nub mem onChannel first hasFrame chosen listed unpacksOf unpackOf judgedFrame isGiven checksumOf le32 rxOf
+unfolding outcome isBtsnoop isPcap isBig isLittle isNano number linkOf isLink endsWell read tailOffset records recordsIn chop chopFrom isWhole recordSize be32 be64 le16 eqK filePieces packetsIn packets packetOf directedPacket milliseconds fragment h4Packet pdus run after joined isComplete stillOpen pduOf completed commandSize isCommand commands body signalOf signalsIn pduSignals signals any names named asksFor admits admittedAfter admitted isTried asksRfcomm asksSession isSabm isUih shortLength infoLength infoStart creditOf isRight fcsOf register shifted shiftOne frameOf uihKind frameKind kindBy triedBy judgedFrom judgedBy counted pieceOf brought pieces seek spansN restN spansOf restOf capped spans unfinished onDlci count nub mem onChannel first hasFrame chosen isWrong wrongOn listed unpacksOf unpackOf judgedFrame isGiven checksumOf le32 rxOf
 pcap-examples = (refl, refl, refl, refl, refl, refl, refl, refl, refl, refl, refl, refl, refl, refl, refl, refl, refl, refl, refl, refl)

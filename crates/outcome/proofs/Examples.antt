@@ -24,12 +24,13 @@ use Rattle.l2cap.specs.Pdus.{joined, isComplete, stillOpen, pduOf, completed, p
 use Rattle.channels.specs.Signals.{commandSize, isCommand, commands, body, signalOf, signalsIn, pduSignals, signals}
 use Rattle.channels.specs.Channels.{any, names, named, asksFor, admits, admittedAfter, admitted, isTried, asksRfcomm, asksSession}
 use Rattle.channels.specs.Tried.{triedBy}
-use Rattle.uih.specs.Frames.{isSabm, isUih, shortLength, infoLength, infoStart, creditOf, frameOf}
-use Rattle.rfcomm.specs.Pieces.{uihKind, frameKind, kindBy, judgedFrom, judgedBy, counted, pieceOf, brought, pieces}
+use Rattle.uih.specs.Fcs.{shiftOne, shifted, register, fcsOf}
+use Rattle.uih.specs.Frames.{isSabm, isUih, shortLength, infoLength, infoStart, creditOf, frameOf, isRight}
+use Rattle.rfcomm.specs.Pieces.{uihKind, frameKind, kindBy, judgedFrom, judgedBy, counted, pieceOf, brought, pieces, isWrong, wrongOn}
 use Rattle.search.specs.Seek.{seek}
 use Rattle.spans.specs.Scan.{spansN, restN, spansOf, restOf, capped}
 use Rattle.spans.specs.Spans.{spans, unfinished, onDlci}
-use Rattle.outcome.specs.Import.{Options, Tail, strict, tolerant, bySource, onChannel, first, hasFrame, chosen, Found, found, missing, listed, filePieces, read, endsWell, outcome, given, fits, workSuffices, placesSuffice, imported, importedIn}
+use Rattle.outcome.specs.Import.{Options, Tail, strict, tolerant, bySource, onChannel, first, hasFrame, chosen, Finding, Found, found, missing, listed, filePieces, read, endsWell, outcome, given, fits, workSuffices, placesSuffice, imported, importedIn}
 
 abbrev pub sample : List ℕ
 sample =
@@ -42,11 +43,15 @@ sample =
 abbrev frame : List ℕ
 frame = 0x3E ∷ 0x01 ∷ 0x00 ∷ 0x00 ∷ 0x00 ∷ 0x00 ∷ 0x00 ∷ 0x01 ∷ 0x3C ∷ []
 
+-- on DLCI 18 the frame, with so many buffers unfinished, the tail offset, and no wrong frame
+abbrev one : ℕ → ℕ → Finding
+one unfinished tail = record { dlci = 18; spans = record { rx = 1; time = 0; wire = frame } ∷ []; unfinished = unfinished; tail = tail; wrong = 0 }
+
 pub example :
-    (outcome btsnoop sample (bySource none strict) ≡ found 18 (record { rx = 1; time = 0; wire = frame } ∷ []) 0 62) ×
+    (outcome btsnoop sample (bySource none strict) ≡ found (one 0 62)) ×
     (outcome btsnoop (take 61 sample) (bySource none strict) ≡ missing 5 (16 ∷ [])) ×
     (outcome btsnoop (take 61 sample) (bySource none tolerant) ≡ missing 6 [])
-unfolding outcome isBtsnoop datalink isDatalink endsWell read tailOffset records recordsIn chop chopFrom isWhole recordSize be32 be64 le16 eqK filePieces packetsIn packets packetOf milliseconds fragment h4Packet hciPacket monitorPacket pdus run after joined isComplete stillOpen pduOf completed commandSize isCommand commands body signalOf signalsIn pduSignals signals any names named asksFor admits admittedAfter admitted isTried asksRfcomm asksSession isSabm isUih shortLength infoLength infoStart creditOf frameOf uihKind frameKind kindBy triedBy judgedFrom judgedBy counted pieceOf brought pieces seek spansN restN spansOf restOf capped spans unfinished onDlci count nub mem onChannel first hasFrame chosen listed unpacksOf unpackOf judgedFrame isGiven checksumOf
+unfolding outcome isBtsnoop datalink isDatalink endsWell read tailOffset records recordsIn chop chopFrom isWhole recordSize be32 be64 le16 eqK filePieces packetsIn packets packetOf milliseconds fragment h4Packet hciPacket monitorPacket pdus run after joined isComplete stillOpen pduOf completed commandSize isCommand commands body signalOf signalsIn pduSignals signals any names named asksFor admits admittedAfter admitted isTried asksRfcomm asksSession isSabm isUih shortLength infoLength infoStart creditOf isRight fcsOf register shifted shiftOne frameOf uihKind frameKind kindBy triedBy judgedFrom judgedBy counted pieceOf brought pieces seek spansN restN spansOf restOf capped spans unfinished onDlci count nub mem onChannel first hasFrame chosen isWrong wrongOn listed unpacksOf unpackOf judgedFrame isGiven checksumOf
 example = (refl, refl, refl)
 
 -- the header of another datalink, 1000
@@ -63,7 +68,7 @@ pub refusals :
     (imported btsnoop (take 16 sample) 128 (bySource none strict) ≡ refuses 6 []) ×
     (imported btsnoop sample 496 (bySource (some 8) strict) ≡ refuses 6 []) ×
     (answer (imported btsnoop sample 496 (bySource (some 9) strict)) 22 ≡ refused 7 (23 ∷ []))
-unfolding outcome isBtsnoop datalink isDatalink endsWell read tailOffset records recordsIn chop chopFrom isWhole recordSize be32 be64 le16 eqK filePieces packetsIn packets packetOf milliseconds fragment h4Packet hciPacket monitorPacket pdus run after joined isComplete stillOpen pduOf completed commandSize isCommand commands body signalOf signalsIn pduSignals signals any names named asksFor admits admittedAfter admitted isTried asksRfcomm asksSession isSabm isUih shortLength infoLength infoStart creditOf frameOf uihKind frameKind kindBy triedBy judgedFrom judgedBy counted pieceOf brought pieces seek spansN restN spansOf restOf capped spans unfinished onDlci count nub mem onChannel first hasFrame chosen listed unpacksOf unpackOf judgedFrame isGiven checksumOf imported importedIn fits workSuffices placesSuffice given answer item spanItem spanList le32 le64
+unfolding outcome isBtsnoop datalink isDatalink endsWell read tailOffset records recordsIn chop chopFrom isWhole recordSize be32 be64 le16 eqK filePieces packetsIn packets packetOf milliseconds fragment h4Packet hciPacket monitorPacket pdus run after joined isComplete stillOpen pduOf completed commandSize isCommand commands body signalOf signalsIn pduSignals signals any names named asksFor admits admittedAfter admitted isTried asksRfcomm asksSession isSabm isUih shortLength infoLength infoStart creditOf isRight fcsOf register shifted shiftOne frameOf uihKind frameKind kindBy triedBy judgedFrom judgedBy counted pieceOf brought pieces seek spansN restN spansOf restOf capped spans unfinished onDlci count nub mem onChannel first hasFrame chosen isWrong wrongOn listed unpacksOf unpackOf judgedFrame isGiven checksumOf imported importedIn fits workSuffices placesSuffice given answer item spanItem spanList le32 le64
 refusals = (refl, refl, refl, refl, refl, refl, refl, refl)
 
 -- ---- document 01's own examples
@@ -92,7 +97,7 @@ pub literal :
     (told (bareHeader ++ (0x00 ∷ [])) 136 0 ≡ refused 5 (16 ∷ [])) ×
     (told bareHeader 128 0 ≡ refused 6 []) ×
     (told sample 496 22 ≡ refused 7 (23 ∷ []))
-unfolding outcome isBtsnoop datalink isDatalink endsWell read tailOffset records recordsIn chop chopFrom isWhole recordSize be32 be64 le16 eqK filePieces packetsIn packets packetOf milliseconds fragment h4Packet hciPacket monitorPacket pdus run after joined isComplete stillOpen pduOf completed commandSize isCommand commands body signalOf signalsIn pduSignals signals any names named asksFor admits admittedAfter admitted isTried asksRfcomm asksSession isSabm isUih shortLength infoLength infoStart creditOf frameOf uihKind frameKind kindBy triedBy judgedFrom judgedBy counted pieceOf brought pieces seek spansN restN spansOf restOf capped spans unfinished onDlci count nub mem onChannel first hasFrame chosen listed unpacksOf unpackOf judgedFrame isGiven checksumOf imported importedIn fits workSuffices placesSuffice given answer item spanItem spanList le32 le64
+unfolding outcome isBtsnoop datalink isDatalink endsWell read tailOffset records recordsIn chop chopFrom isWhole recordSize be32 be64 le16 eqK filePieces packetsIn packets packetOf milliseconds fragment h4Packet hciPacket monitorPacket pdus run after joined isComplete stillOpen pduOf completed commandSize isCommand commands body signalOf signalsIn pduSignals signals any names named asksFor admits admittedAfter admitted isTried asksRfcomm asksSession isSabm isUih shortLength infoLength infoStart creditOf isRight fcsOf register shifted shiftOne frameOf uihKind frameKind kindBy triedBy judgedFrom judgedBy counted pieceOf brought pieces seek spansN restN spansOf restOf capped spans unfinished onDlci count nub mem onChannel first hasFrame chosen isWrong wrongOn listed unpacksOf unpackOf judgedFrame isGiven checksumOf imported importedIn fits workSuffices placesSuffice given answer item spanItem spanList le32 le64
 literal = (refl, refl, refl, refl, refl, refl)
 
 -- ---- `unfinished` counts buffers of the DLCI chosen only
@@ -109,8 +114,8 @@ withBeginning cid address = bareHeader ++ (beginning cid address ++ drop 16 samp
 
 -- DLCI 20 in the frame's own stretch and in another, before the frame: not counted. DLCI 18 in another stretch: counted
 pub unfinished-of-chosen :
-    (outcome btsnoop (withBeginning 0x41 0x51) (bySource none strict) ≡ found 18 (record { rx = 1; time = 0; wire = frame } ∷ []) 0 102) ×
-    (outcome btsnoop (withBeginning 0x42 0x51) (bySource none strict) ≡ found 18 (record { rx = 1; time = 0; wire = frame } ∷ []) 0 102) ×
-    (outcome btsnoop (withBeginning 0x42 0x49) (bySource none strict) ≡ found 18 (record { rx = 1; time = 0; wire = frame } ∷ []) 1 102)
-unfolding outcome isBtsnoop datalink isDatalink endsWell read tailOffset records recordsIn chop chopFrom isWhole recordSize be32 be64 le16 eqK filePieces packetsIn packets packetOf milliseconds fragment h4Packet hciPacket monitorPacket pdus run after joined isComplete stillOpen pduOf completed commandSize isCommand commands body signalOf signalsIn pduSignals signals any names named asksFor admits admittedAfter admitted isTried asksRfcomm asksSession isSabm isUih shortLength infoLength infoStart creditOf frameOf uihKind frameKind kindBy triedBy judgedFrom judgedBy counted pieceOf brought pieces seek spansN restN spansOf restOf capped spans unfinished onDlci count nub mem onChannel first hasFrame chosen listed unpacksOf unpackOf judgedFrame isGiven checksumOf
+    (outcome btsnoop (withBeginning 0x41 0x51) (bySource none strict) ≡ found (one 0 102)) ×
+    (outcome btsnoop (withBeginning 0x42 0x51) (bySource none strict) ≡ found (one 0 102)) ×
+    (outcome btsnoop (withBeginning 0x42 0x49) (bySource none strict) ≡ found (one 1 102))
+unfolding outcome isBtsnoop datalink isDatalink endsWell read tailOffset records recordsIn chop chopFrom isWhole recordSize be32 be64 le16 eqK filePieces packetsIn packets packetOf milliseconds fragment h4Packet hciPacket monitorPacket pdus run after joined isComplete stillOpen pduOf completed commandSize isCommand commands body signalOf signalsIn pduSignals signals any names named asksFor admits admittedAfter admitted isTried asksRfcomm asksSession isSabm isUih shortLength infoLength infoStart creditOf isRight fcsOf register shifted shiftOne frameOf uihKind frameKind kindBy triedBy judgedFrom judgedBy counted pieceOf brought pieces seek spansN restN spansOf restOf capped spans unfinished onDlci count nub mem onChannel first hasFrame chosen isWrong wrongOn listed unpacksOf unpackOf judgedFrame isGiven checksumOf
 unfinished-of-chosen = (refl, refl, refl)

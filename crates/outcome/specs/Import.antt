@@ -71,7 +71,7 @@ listed ps wrongs tail (some d) = found (record { dlci = d; spans = spans (onDlci
 
 module _ (C : Container) where
   -- the PDUs that a file's whole records bring, judged
-  unfoldable pub fileJudged : Judging → List ℕ → List Judged
+  abbrev pub fileJudged : Judging → List ℕ → List Judged
   fileJudged by f = judgedBy by (pdus (packetsIn C f))
 
   -- the pieces of them
@@ -79,7 +79,7 @@ module _ (C : Container) where
   filePieces by f = pieces (fileJudged by f)
 
   -- how many of them are UIH frames with a wrong FCS, on a DLCI
-  unfoldable pub fileWrong : Judging → List ℕ → ℕ → ℕ
+  abbrev pub fileWrong : Judging → List ℕ → ℕ → ℕ
   fileWrong by f d = wrongOn d (kinds (fileJudged by f))
 
   unfoldable pub read : List ℕ → Options → Found

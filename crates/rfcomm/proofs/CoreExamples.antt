@@ -10,7 +10,8 @@ use Rattle.channels.specs.Signals.{commandSize, isCommand, commands, body, sign
 use Rattle.channels.specs.Channels.{any, names, named, asksFor, admits, admittedAfter, admitted, isTried, asksRfcomm, asksSession}
 use Rattle.channels.specs.Core.{coreSignalOf, coreSignalsIn, pduCoreSignals, coreSignals, latest, bothHold, eventsOf, eventsAfter, events, holdsAfter, holds}
 use Rattle.channels.specs.Tried.{ChannelRule, source, core, triedBy}
-use Rattle.uih.specs.Frames.{isSabm, isUih, shortLength, infoLength, infoStart, creditOf, frameOf}
+use Rattle.uih.specs.Fcs.{shiftOne, shifted, register, fcsOf}
+use Rattle.uih.specs.Frames.{isSabm, isUih, shortLength, infoLength, infoStart, creditOf, frameOf, isRight}
 use Rattle.rfcomm.specs.Pieces.{Kind, asks, opens, passed, uihKind, frameKind, unchecked, kindBy, judgedFrom, judgedBy}
 
 -- on one handle: direction, CID, payload
@@ -40,5 +41,5 @@ pub places :
     (kindsBy source (m ∷ q 0x41 ∷ m ∷ s 0x41 ∷ m ∷ x 0x41 ∷ m ∷ []) ≡ opens 18 ∷ asks ∷ opens 18 ∷ passed ∷ opens 18 ∷ passed ∷ opens 18 ∷ []) ×
     -- its own commands counted: on CID 1 the success's own PDU is tried, the end's own no longer
     (kindsBy core (q 1 ∷ s 1 ∷ x 1 ∷ []) ≡ asks ∷ opens 0 ∷ passed ∷ []) × (kindsBy source (q 1 ∷ s 1 ∷ x 1 ∷ []) ≡ asks ∷ opens 0 ∷ opens 1 ∷ [])
-unfolding judgedBy judgedFrom kindBy frameKind uihKind frameOf creditOf infoStart infoLength shortLength isUih isSabm triedBy holds holdsAfter events eventsAfter eventsOf bothHold latest coreSignals pduCoreSignals coreSignalsIn coreSignalOf isTried admitted admittedAfter admits asksFor asksSession asksRfcomm named names any signals pduSignals signalsIn signalOf commands body isCommand commandSize chop chopFrom eqK le16
+unfolding judgedBy judgedFrom kindBy frameKind uihKind isRight fcsOf register shifted shiftOne frameOf creditOf infoStart infoLength shortLength isUih isSabm triedBy holds holdsAfter events eventsAfter eventsOf bothHold latest coreSignals pduCoreSignals coreSignalsIn coreSignalOf isTried admitted admittedAfter admits asksFor asksSession asksRfcomm named names any signals pduSignals signalsIn signalOf commands body isCommand commandSize chop chopFrom eqK le16
 places = (refl, refl, refl, refl)
