@@ -1,12 +1,12 @@
 -- The switch for every file, container, recording and channel rule: unchecked, no frame is counted; where no frame has a wrong FCS, checked and unchecked agree.
 use Prim.Native.Nat.{ℕ, _+_}
-use mathlib.Core.Path.{_≡_, refl, ap, _∙_}
-use mathlib.Core.Bool.{Bool, true, false, cond, _&&_}
-use mathlib.Core.List.{List, [], _∷_, _++_, map}
+use mathlib.Core.Path.{_≡_, refl, ap}
+use mathlib.Core.Bool.{true, false, cond, _&&_}
+use mathlib.Core.List.{List, [], _∷_, _++_}
 use mathlib.Core.Option.{Option}
 use native.Mathlib.Omega.{arith}
 use lib.ListN.{length}
-use lib.Dec.{ltb, eqb}
+use lib.Dec.{ltb}
 use borrow.Author.Tests.{eq-eqb}
 use Rattle.laws.proofs.Choice.{splitB, no-way}
 use Rattle.laws.specs.Lists.{All, all-nil, all-cons}
@@ -15,7 +15,7 @@ use Rattle.l2cap.specs.Pdus.{Pdu, pdus}
 use Rattle.channels.specs.Channels.{asksSession}
 use Rattle.channels.specs.Tried.{ChannelRule, triedBy}
 use Rattle.uih.specs.Frames.{Uih, Frame, sabm, uih, wrongFcs, other, control, isSabm, isUih, isRight, frameOf}
-use Rattle.rfcomm.specs.Pieces.{Kind, asks, wrong, passed, uihKind, frameKind, Judging, unchecked, kindBy, Judged, judgedFrom, judgedBy, kinds, isWrong, wrongOn, pieces}
+use Rattle.rfcomm.specs.Pieces.{Kind, uihKind, frameKind, Judging, unchecked, kindBy, Judged, judgedFrom, judgedBy, kinds, isWrong, wrongOn, pieces}
 use Rattle.outcome.specs.Import.{Tail, Found, missing, chosen, listed, fileJudged, filePieces, fileWrong, read, endsWell, outcome}
 use Rattle.cut.specs.Recording.{Framing, RecordingOf}
 use Rattle.cut.specs.Left.{recordsLeft}

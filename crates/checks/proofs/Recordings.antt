@@ -80,10 +80,7 @@ noisy =
 
 -- a wrong frame on d within a frame
 abbrev pub mixed : Recording btsnoop
-mixed =
-    oneLink
-    (sends Rx 5 (rightOn 18 (take 4 (wire ack))) (take 4 (wire ack)) ∷ freely 0x40 Rx 6 0x41 (faultyOn 18 (wire f₂)) ∷ sends Rx 7 (rightOn 18 (drop 4 (wire ack))) (drop 4 (wire ack)) ∷ [])
-    (ack ∷ []) []
+mixed = oneLink (sends Rx 5 (rightOn 18 front) front ∷ freely 0x40 Rx 6 0x41 (faultyOn 18 (wire f₂)) ∷ sends Rx 7 (rightOn 18 rest) rest ∷ []) (ack ∷ f₁ ∷ []) []
 
 -- a wrong frame on d that is tried only in a cut before the last record, which names its channel for another PSM
 abbrev pub heardLater : Recording btsnoop
