@@ -128,7 +128,8 @@ module _ (rule : ChannelRule) where
   -- ---- import of a file
 
   module _ (C : Container) (f : List ℕ) (channel : Option ℕ) (tail : Tail) where
-    abbrev Same : Type 0
+    -- import answers the same, checked or not
+    abbrev pub Same : Type 0
     Same = outcome C f (record { channel = channel; tail = tail; judging = checked rule }) ≡ outcome C f (record { channel = channel; tail = tail; judging = unchecked rule })
 
     abbrev of : List Judged → Found
