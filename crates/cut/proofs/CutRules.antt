@@ -40,7 +40,7 @@ unfolding isDataOf
 is-data p i = eq-eqb (p .link) (p .link) refl
 
 -- a frame with a right FCS is the same, checked or not
-checked-right : (fcs : Bool) (b : List ℕ) → (fcs ≡ true → isRight b ≡ true) → frameKind fcs (frameOf b) ≡ frameKind false (frameOf b)
+pub checked-right : (fcs : Bool) (b : List ℕ) → (fcs ≡ true → isRight b ≡ true) → frameKind fcs (frameOf b) ≡ frameKind false (frameOf b)
 unfolding frameOf frameKind
 checked-right false b r = refl
 checked-right true b r =

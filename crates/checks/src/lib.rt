@@ -1,0 +1,1 @@
+// FCS checked: what the switch comes to for every file, and computed recordings. Proofs only.
