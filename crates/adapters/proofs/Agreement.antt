@@ -18,7 +18,7 @@ use Rattle.container.specs.Container.{Container, records, tailOffset, packetsIn
 use Rattle.btsnoop.specs.Header.{datalink}
 use Rattle.btsnoop.specs.Packets.{milliseconds, hciPacket, monitorPacket, packetOf}
 use Rattle.btsnoop.specs.Records.{btsnoop}
-use Rattle.outcome.specs.Import.{Tail, strict, tolerant, Options, filePieces, read, endsWell, outcome, imported, importedIn}
+use Rattle.outcome.specs.Import.{Tail, strict, tolerant, Options, filePieces, fileWrong, read, endsWell, outcome, imported, importedIn}
 use Rattle.cut.proofs.TwoParts.{all-map, all-at}
 use Rattle.adapters.specs.Links.{relinked, ifThere, relinking, byHandle, OneIndexEach, OneIndex}
 use Rattle.adapters.proofs.Renamed.{read-renamed}
@@ -232,4 +232,5 @@ unfolding packetsIn records read filePieces
 no-index f o n =
     let e : packetsIn byHandle f ≡ packetsIn btsnoop f =
     ap (λ (g : List ℕ → Option Packet). packets g (records btsnoop f)) (fun-ext (λ r. packet-bare (datalink f) r n)) in
-    outcome-by (λ l. l % 4096) btsnoop f o (rw (e, tail-relinked (λ l. l % 4096) btsnoop f))
+    let w : fileWrong byHandle (o .judging) f ≡ fileWrong btsnoop (o .judging) f = fun-ext (λ d. rw e) in
+    outcome-by (λ l. l % 4096) btsnoop f o (rw (e, w, tail-relinked (λ l. l % 4096) btsnoop f))

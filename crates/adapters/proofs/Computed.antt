@@ -25,25 +25,27 @@ use Rattle.channels.specs.Core.{coreSignalOf, coreSignalsIn, pduCoreSignals, co
 use Rattle.channels.specs.Tried.{source, core, triedBy}
 use Rattle.uih.specs.Fcs.{shiftOne, shifted, register, fcsOf}
 use Rattle.uih.specs.Frames.{isSabm, isUih, shortLength, infoLength, infoStart, creditOf, frameOf, isRight}
-use Rattle.rfcomm.specs.Pieces.{uihKind, frameKind, kindBy, judgedFrom, judgedBy, counted, pieceOf, brought, pieces, isWrong, wrongOn}
+use Rattle.rfcomm.specs.Pieces.{unchecked, uihKind, frameKind, kindBy, judgedFrom, judgedBy, counted, pieceOf, brought, pieces, isWrong, wrongOn}
 use Rattle.search.specs.Seek.{seek}
 use Rattle.spans.specs.Scan.{spansN, restN, spansOf, restOf, capped}
 use Rattle.spans.specs.Spans.{spans, unfinished, onDlci}
-use Rattle.outcome.specs.Import.{Found, found, missing, onChannel, first as firstOf, hasFrame, chosen, listed, filePieces, read, endsWell, outcome}
+use Rattle.outcome.specs.Import.{Found, missing, onChannel, first as firstOf, hasFrame, chosen, listed, filePieces, read, endsWell, outcome}
+use Rattle.outcome.proofs.Examples.{finds}
 use Rattle.cut.specs.Recording.{file, cut}
 use Rattle.cut.specs.Left.{leftFrom, recordsLeft, tailLeft, sent, dataOf, dataLeft, closedIn, ofHandle, framesLeft, midFrame, endsMid, midIn, midLeft}
 use Rattle.cut.specs.Honest.{pdusIn, markedPdus, withMarks, judgedIn, isDataOf, toData, afterData, adds, carriesOn, Honest}
-use Rattle.cut.proofs.Tests.{packedChecked, every, once, openTest, ends, headerTest, wholeTest, smallTest, dlciTest, dynamicTest, channelTest, channelsTest, informationTest, sizesTest, beginningsTest, settledIn, settledTest, aloneIn, aloneTest, handlesTest, dataTest, markTest, fragmentsTest, rules, passed-all, honest}
+use Rattle.cut.specs.Claim.{wrongLeft}
+use Rattle.cut.proofs.Tests.{packedChecked, every, once, openTest, ends, headerTest, wholeTest, smallTest, dlciTest, dynamicTest, channelTest, channelsTest, checksTest, informationTest, sizesTest, beginningsTest, settledIn, settledTest, aloneIn, aloneTest, handlesTest, dataTest, markTest, fragmentsTest, rules, passed-all, honest}
 use Rattle.cut.proofs.Recordings.{unended}
 use Rattle.cut.proofs.Computed.{testedBy, foundBy, leftAt, w₁, w₂}
 use Rattle.adapters.proofs.Recordings.{shared}
 
-shared-tested : testedBy source shared ≡ passed-all
-unfolding rules every once ends headerTest wholeTest smallTest dlciTest dynamicTest channelTest channelsTest informationTest sizesTest beginningsTest settledIn settledTest aloneIn aloneTest handlesTest dataTest markTest fragmentsTest leftFrom recordsLeft sent dataOf dataLeft pdusIn markedPdus withMarks judgedIn isDataOf toData afterData adds carriesOn file isBtsnoop datalink isDatalink eqK recordSize be32 be64 le16 packetsIn packets packetOf milliseconds fragment monitorPacket pdus run after of joined isComplete stillOpen pduOf completed commandSize isCommand commands chop chopFrom body signalOf signalsIn pduSignals signals any names named asksFor admits admittedAfter admitted isTried asksRfcomm asksSession isSabm isUih shortLength infoLength infoStart creditOf isRight fcsOf register shifted shiftOne frameOf uihKind frameKind kindBy triedBy judgedFrom judgedBy rxOf packed bodyOf summedOf headOf checksumOf within
+shared-tested : testedBy (unchecked source) shared ≡ passed-all
+unfolding rules every once ends headerTest wholeTest smallTest dlciTest dynamicTest channelTest channelsTest checksTest informationTest sizesTest beginningsTest settledIn settledTest aloneIn aloneTest handlesTest dataTest markTest fragmentsTest leftFrom recordsLeft sent dataOf dataLeft pdusIn markedPdus withMarks judgedIn isDataOf toData afterData adds carriesOn file isBtsnoop datalink isDatalink eqK recordSize be32 be64 le16 packetsIn packets packetOf milliseconds fragment monitorPacket pdus run after of joined isComplete stillOpen pduOf completed commandSize isCommand commands chop chopFrom body signalOf signalsIn pduSignals signals any names named asksFor admits admittedAfter admitted isTried asksRfcomm asksSession isSabm isUih shortLength infoLength infoStart creditOf isRight fcsOf register shifted shiftOne frameOf uihKind frameKind kindBy triedBy judgedFrom judgedBy rxOf packed bodyOf summedOf headOf checksumOf within
 shared-tested = refl
 
-pub shared-honest : Honest source shared
-shared-honest = honest lawful source packedChecked (λ l t. unended) shared shared-tested
+pub shared-honest : Honest (unchecked source) shared
+shared-honest = honest lawful (unchecked source) packedChecked (λ l t. unended) shared shared-tested
 
 -- whole; less one byte; with both frames; one byte short of the second; one short of the first
 abbrev cuts : List ℕ
@@ -53,22 +55,22 @@ abbrev both : List Span
 both = span 1 9 w₁ ∷ span 1 10 w₂ ∷ []
 
 abbrev answers : List Found
-answers = found 18 both 1 317 ∷ found 18 both 0 277 ∷ found 18 both 0 277 ∷ found 18 (span 1 9 w₁ ∷ []) 0 241 ∷ missing 6 [] ∷ []
+answers = finds 18 both 1 317 ∷ finds 18 both 0 277 ∷ finds 18 both 0 277 ∷ finds 18 (span 1 9 w₁ ∷ []) 0 241 ∷ missing 6 [] ∷ []
 
 -- import of its cuts finds the frames of both links, as is left of them
-pub shared-cuts : (map (foundBy source shared) cuts ≡ answers) × (map (leftAt shared) cuts ≡ answers)
-unfolding cut file tailLeft ofHandle closedIn framesLeft midFrame endsMid midIn midLeft leftFrom recordsLeft sent dataOf dataLeft outcome isBtsnoop datalink isDatalink endsWell read tailOffset records recordsIn chop chopFrom isWhole recordSize be32 be64 le16 eqK filePieces packetsIn packets packetOf milliseconds fragment monitorPacket pdus run after of joined isComplete stillOpen pduOf completed commandSize isCommand commands body signalOf signalsIn pduSignals signals any names named asksFor admits admittedAfter admitted isTried asksRfcomm asksSession isSabm isUih shortLength infoLength infoStart creditOf isRight fcsOf register shifted shiftOne frameOf uihKind frameKind kindBy triedBy judgedFrom judgedBy counted pieceOf brought pieces seek spansN restN spansOf restOf capped spans unfinished onDlci count nub mem onChannel firstOf hasFrame chosen isWrong wrongOn listed unpacksOf unpackOf judgedFrame isGiven within checksumOf packed bodyOf summedOf headOf rxOf
+pub shared-cuts : (map (foundBy (unchecked source) shared) cuts ≡ answers) × (map (leftAt (unchecked source) shared) cuts ≡ answers)
+unfolding cut file tailLeft ofHandle closedIn framesLeft midFrame endsMid midIn midLeft wrongLeft judgedIn withMarks markedPdus pdusIn leftFrom recordsLeft sent dataOf dataLeft outcome isBtsnoop datalink isDatalink endsWell read tailOffset records recordsIn chop chopFrom isWhole recordSize be32 be64 le16 eqK filePieces packetsIn packets packetOf milliseconds fragment monitorPacket pdus run after of joined isComplete stillOpen pduOf completed commandSize isCommand commands body signalOf signalsIn pduSignals signals any names named asksFor admits admittedAfter admitted isTried asksRfcomm asksSession isSabm isUih shortLength infoLength infoStart creditOf isRight fcsOf register shifted shiftOne frameOf uihKind frameKind kindBy triedBy judgedFrom judgedBy counted pieceOf brought pieces seek spansN restN spansOf restOf capped spans unfinished onDlci count nub mem onChannel firstOf hasFrame chosen isWrong wrongOn listed unpacksOf unpackOf judgedFrame isGiven within checksumOf packed bodyOf summedOf headOf rxOf
 shared-cuts = (refl, refl)
 
 -- ---- by Bluetooth Core's rule
 
-shared-core-tested : testedBy core shared ≡ passed-all
-unfolding openTest holds holdsAfter events eventsAfter eventsOf bothHold latest coreSignals pduCoreSignals coreSignalsIn coreSignalOf rules every once ends headerTest wholeTest smallTest dlciTest dynamicTest channelTest channelsTest informationTest sizesTest beginningsTest settledIn settledTest aloneIn aloneTest handlesTest dataTest markTest fragmentsTest leftFrom recordsLeft sent dataOf dataLeft pdusIn markedPdus withMarks judgedIn isDataOf toData afterData adds carriesOn file isBtsnoop datalink isDatalink eqK recordSize be32 be64 le16 packetsIn packets packetOf milliseconds fragment monitorPacket pdus run after of joined isComplete stillOpen pduOf completed commandSize isCommand commands chop chopFrom body signalOf signalsIn pduSignals signals any names named asksFor admits admittedAfter admitted isTried asksRfcomm asksSession isSabm isUih shortLength infoLength infoStart creditOf isRight fcsOf register shifted shiftOne frameOf uihKind frameKind kindBy triedBy judgedFrom judgedBy rxOf packed bodyOf summedOf headOf checksumOf within
+shared-core-tested : testedBy (unchecked core) shared ≡ passed-all
+unfolding openTest holds holdsAfter events eventsAfter eventsOf bothHold latest coreSignals pduCoreSignals coreSignalsIn coreSignalOf rules every once ends headerTest wholeTest smallTest dlciTest dynamicTest channelTest channelsTest checksTest informationTest sizesTest beginningsTest settledIn settledTest aloneIn aloneTest handlesTest dataTest markTest fragmentsTest leftFrom recordsLeft sent dataOf dataLeft pdusIn markedPdus withMarks judgedIn isDataOf toData afterData adds carriesOn file isBtsnoop datalink isDatalink eqK recordSize be32 be64 le16 packetsIn packets packetOf milliseconds fragment monitorPacket pdus run after of joined isComplete stillOpen pduOf completed commandSize isCommand commands chop chopFrom body signalOf signalsIn pduSignals signals any names named asksFor admits admittedAfter admitted isTried asksRfcomm asksSession isSabm isUih shortLength infoLength infoStart creditOf isRight fcsOf register shifted shiftOne frameOf uihKind frameKind kindBy triedBy judgedFrom judgedBy rxOf packed bodyOf summedOf headOf checksumOf within
 shared-core-tested = refl
 
-pub shared-core-honest : Honest core shared
-shared-core-honest = honest lawful core packedChecked (λ l t. unended) shared shared-core-tested
+pub shared-core-honest : Honest (unchecked core) shared
+shared-core-honest = honest lawful (unchecked core) packedChecked (λ l t. unended) shared shared-core-tested
 
-pub shared-core-cuts : map (foundBy core shared) cuts ≡ answers
+pub shared-core-cuts : map (foundBy (unchecked core) shared) cuts ≡ answers
 unfolding holds holdsAfter events eventsAfter eventsOf bothHold latest coreSignals pduCoreSignals coreSignalsIn coreSignalOf cut file tailLeft ofHandle closedIn framesLeft midFrame endsMid midIn midLeft leftFrom recordsLeft sent dataOf dataLeft outcome isBtsnoop datalink isDatalink endsWell read tailOffset records recordsIn chop chopFrom isWhole recordSize be32 be64 le16 eqK filePieces packetsIn packets packetOf milliseconds fragment monitorPacket pdus run after of joined isComplete stillOpen pduOf completed commandSize isCommand commands body signalOf signalsIn pduSignals signals any names named asksFor admits admittedAfter admitted isTried asksRfcomm asksSession isSabm isUih shortLength infoLength infoStart creditOf isRight fcsOf register shifted shiftOne frameOf uihKind frameKind kindBy triedBy judgedFrom judgedBy counted pieceOf brought pieces seek spansN restN spansOf restOf capped spans unfinished onDlci count nub mem onChannel firstOf hasFrame chosen isWrong wrongOn listed unpacksOf unpackOf judgedFrame isGiven within checksumOf packed bodyOf summedOf headOf rxOf
 shared-core-cuts = refl

@@ -1,6 +1,6 @@
 -- Links renamed one to one: import gives the same. Every key of the import has the link first, and no answer has a link in it.
 use Prim.Native.Nat.{ℕ}
-use mathlib.Core.Path.{_≡_, refl, sym, ap, _∙_}
+use mathlib.Core.Path.{_≡_, refl, sym, ap, _∙_, fun-ext}
 use mathlib.Core.Bool.{Bool, false, cond, _&&_}
 use mathlib.Core.List.{List, [], _∷_, _++_, map, map-append}
 use mathlib.Core.Option.{Option, none, some}
@@ -20,10 +20,10 @@ use Rattle.channels.specs.Channels.{any, names, named, asksFor, admits, admitte
 use Rattle.channels.specs.Core.{CoreSignal, connects, succeeds, disconnects, coreSignalOf, coreSignalsIn, pduCoreSignals, coreSignals}
 use Rattle.channels.specs.Core.{Event, latest, bothHold, eventsOf, eventsAfter, events, holdsAfter, holds}
 use Rattle.channels.specs.Tried.{ChannelRule, source, core, triedBy}
-use Rattle.rfcomm.specs.Pieces.{Kind, asks, opens, carries, passed, kindBy, Judged, judgedFrom, judgedBy}
+use Rattle.rfcomm.specs.Pieces.{Kind, asks, opens, carries, wrong, passed, Judging, kindBy, Judged, judgedFrom, judgedBy, kinds, wrongOn}
 use Rattle.rfcomm.specs.Pieces.{Counts, Piece, pieceOf, brought, counting, noCounts, pieces}
 use Rattle.spans.specs.Spans.{scanner, emptied, spans, unfinished, onDlci}
-use Rattle.outcome.specs.Import.{Options, onChannel, first, hasFrame, chosen, listed, filePieces, read}
+use Rattle.outcome.specs.Import.{Options, onChannel, first, hasFrame, chosen, listed, filePieces, fileWrong, read}
 use Rattle.adapters.specs.Links.{relinked}
 
 module _ (ρ : ℕ → ℕ) (one : (x y : ℕ) → ρ x ≡ ρ y → x ≡ y) where
@@ -257,21 +257,36 @@ module _ (ρ : ℕ → ℕ) (one : (x y : ℕ) → ρ x ≡ ρ y → x ≡ y) wh
   unfolding asksSession
   asks-same p = refl
 
-  kind-same : (rule : ChannelRule) (upTo all : List Pdu) (p : Pdu) → kindBy rule (map pdu upTo) (map pdu all) (pdu p) ≡ kindBy rule upTo all p
+  kind-same : (by : Judging) (upTo all : List Pdu) (p : Pdu) → kindBy by (map pdu upTo) (map pdu all) (pdu p) ≡ kindBy by upTo all p
   unfolding kindBy
-  kind-same rule upTo all p = rw (asks-same p, tried-by rule upTo all p)
+  kind-same by upTo all p = rw (asks-same p, tried-by (by .rule) upTo all p)
 
   abbrev pub judgement : Judged → Judged
   judgement j = record { pdu = pdu (j .pdu); kind = j .kind }
 
   judged-from :
-      (rule : ChannelRule) (all before ps : List Pdu) →
-      judgedFrom rule (map pdu all) (map pdu before) (map pdu ps) ≡ map judgement (judgedFrom rule all before ps)
+      (by : Judging) (all before ps : List Pdu) →
+      judgedFrom by (map pdu all) (map pdu before) (map pdu ps) ≡ map judgement (judgedFrom by all before ps)
   unfolding judgedFrom
-  judged-from rule all before [] = refl
-  judged-from rule all before (p ∷ ps) =
+  judged-from by all before [] = refl
+  judged-from by all before (p ∷ ps) =
       let e : map pdu before ++ (pdu p ∷ []) ≡ map pdu (before ++ (p ∷ [])) = sym (map-append pdu before (p ∷ [])) in
-      rw (e, kind-same rule (before ++ (p ∷ [])) all p, judged-from rule all (before ++ (p ∷ [])) ps)
+      rw (e, kind-same by (before ++ (p ∷ [])) all p, judged-from by all (before ++ (p ∷ [])) ps)
+
+  pub judged-renamed : (by : Judging) (ps : List Packet) → judgedBy by (pdus (map packet ps)) ≡ map judgement (judgedBy by (pdus ps))
+  unfolding judgedBy
+  judged-renamed by ps = rw (pdus-renamed ps) (judged-from by (pdus ps) [] (pdus ps))
+
+  -- ---- frames with a wrong FCS
+
+  kinds-same : (js : List Judged) → kinds (map judgement js) ≡ kinds js
+  kinds-same [] = refl
+  kinds-same (j ∷ js) = rw (kinds-same js)
+
+  pub wrongs-renamed :
+      (by : Judging) (ps : List Packet) (d : ℕ) →
+      wrongOn d (kinds (judgedBy by (pdus (map packet ps)))) ≡ wrongOn d (kinds (judgedBy by (pdus ps)))
+  wrongs-renamed by ps d = rw (judged-renamed by ps, kinds-same (judgedBy by (pdus ps)))
 
   -- ---- pieces
 
@@ -283,6 +298,7 @@ module _ (ρ : ℕ → ℕ) (one : (x y : ℕ) → ρ x ≡ ρ y → x ≡ y) wh
   brought-same c p asks = refl
   brought-same c p (opens e) = refl
   brought-same c p (carries e i) = refl
+  brought-same c p (wrong e) = refl
   brought-same c p passed = refl
 
   counts : Renames counting judgement (map piece)
@@ -296,12 +312,12 @@ module _ (ρ : ℕ → ℕ) (one : (x y : ℕ) → ρ x ≡ ρ y → x ≡ y) wh
   }
 
   pub pieces-renamed :
-      (rule : ChannelRule) (ps : List Packet) →
-      pieces (judgedBy rule (pdus (map packet ps))) ≡ map piece (pieces (judgedBy rule (pdus ps)))
-  unfolding pieces judgedBy
-  pieces-renamed rule ps =
-      rw (pdus-renamed ps, judged-from rule (pdus ps) [] (pdus ps))
-      (run-renamed counting judgement (map piece) counts noCounts noCounts (λ k. refl) (judgedFrom rule (pdus ps) [] (pdus ps)))
+      (by : Judging) (ps : List Packet) →
+      pieces (judgedBy by (pdus (map packet ps))) ≡ map piece (pieces (judgedBy by (pdus ps)))
+  unfolding pieces
+  pieces-renamed by ps =
+      rw (judged-renamed by ps)
+      (run-renamed counting judgement (map piece) counts noCounts noCounts (λ k. refl) (judgedBy by (pdus ps)))
 
   -- ---- spans
 
@@ -365,17 +381,18 @@ module _ (ρ : ℕ → ℕ) (one : (x y : ℕ) → ρ x ≡ ρ y → x ≡ y) wh
       (first-same (λ d. onChannel channel d && hasFrame (map piece ps) d) (λ d. onChannel channel d && hasFrame ps d)
       (λ d. rw (has-frame ps d)) (map (λ (p : Piece). p .dlci) ps))
 
-  listed-same : (ps : List Piece) (tail : ℕ) (o : Option ℕ) → listed (map piece ps) tail o ≡ listed ps tail o
+  listed-same : (ps : List Piece) (wrongs : ℕ → ℕ) (tail : ℕ) (o : Option ℕ) → listed (map piece ps) wrongs tail o ≡ listed ps wrongs tail o
   unfolding listed
-  listed-same ps tail none = refl
-  listed-same ps tail (some d) = rw (on-dlci d ps, spans-same (onDlci d ps), unfinished-same (onDlci d ps))
+  listed-same ps wrongs tail none = refl
+  listed-same ps wrongs tail (some d) = rw (on-dlci d ps, spans-same (onDlci d ps), unfinished-same (onDlci d ps))
 
-  -- What is found in a file whose packets are another's with their links renamed one to one: by either channel rule, in whichever containers.
+  -- What is found in a file whose packets are another's with their links renamed one to one: by either channel rule, FCS checked or not, in whichever containers.
   pub read-renamed :
       (C D : Container) (f g : List ℕ) (o : Options) →
       packetsIn D g ≡ map (relinked ρ) (packetsIn C f) → tailOffset D g ≡ tailOffset C f → read D g o ≡ read C f o
   unfolding read filePieces
   read-renamed C D f g o e t =
-      let ps : List Piece = pieces (judgedBy (o .rule) (pdus (packetsIn C f))) in
-      let q : pieces (judgedBy (o .rule) (pdus (packetsIn D g))) ≡ map piece ps = rw e (pieces-renamed (o .rule) (packetsIn C f)) in
-      rw (q, t, chosen-same (o .channel) ps) (listed-same ps (tailOffset C f) (chosen (o .channel) ps))
+      let ps : List Piece = pieces (judgedBy (o .judging) (pdus (packetsIn C f))) in
+      let q : pieces (judgedBy (o .judging) (pdus (packetsIn D g))) ≡ map piece ps = rw e (pieces-renamed (o .judging) (packetsIn C f)) in
+      let w : fileWrong D (o .judging) g ≡ fileWrong C (o .judging) f = fun-ext (λ d. rw e (wrongs-renamed (o .judging) (packetsIn C f) d)) in
+      rw (q, w, t, chosen-same (o .channel) ps) (listed-same ps (fileWrong C (o .judging) f) (tailOffset C f) (chosen (o .channel) ps))

@@ -32,15 +32,17 @@ use Rattle.channels.specs.Channels.{any, names, named, asksFor, admits, admitte
 use Rattle.channels.specs.Tried.{source, triedBy}
 use Rattle.uih.specs.Fcs.{shiftOne, shifted, register, fcsOf}
 use Rattle.uih.specs.Frames.{isSabm, isUih, shortLength, infoLength, infoStart, creditOf, frameOf, isRight}
-use Rattle.rfcomm.specs.Pieces.{uihKind, frameKind, kindBy, judgedFrom, judgedBy, counted, pieceOf, brought, pieces, isWrong, wrongOn}
+use Rattle.rfcomm.specs.Pieces.{uihKind, frameKind, Judging, unchecked, kindBy, judgedFrom, judgedBy, counted, pieceOf, brought, pieces, isWrong, wrongOn}
 use Rattle.search.specs.Seek.{seek}
 use Rattle.spans.specs.Scan.{spansN, restN, spansOf, restOf, capped}
 use Rattle.spans.specs.Spans.{spans, unfinished, onDlci}
 use Rattle.outcome.specs.Import.{Found, found, missing, tolerant, Options, onChannel, first as firstOf, hasFrame, chosen, listed, filePieces, read, endsWell, outcome}
+use Rattle.outcome.proofs.Examples.{finds}
 use Rattle.cut.specs.Recording.{Link, part, last, Recording, file, cut}
 use Rattle.cut.specs.Left.{leftFrom, recordsLeft, tailLeft, Sent, sent, dataOf, dataLeft, closedIn, ofHandle, framesLeft, midFrame, endsMid, midIn, midLeft}
 use Rattle.cut.specs.Honest.{pdusIn, markedPdus, withMarks, judgedIn, isDataOf, toData, afterData, adds, carriesOn, Joins, first, further, Fragments, more, end, Honest}
-use Rattle.cut.proofs.Tests.{packedChecked, every, once, ends, headerTest, wholeTest, smallTest, dlciTest, dynamicTest, channelTest, channelsTest, informationTest, sizesTest, beginningsTest, settledIn, settledTest, aloneIn, aloneTest, handlesTest, dataTest, markTest, fragmentsTest, isNone, rules, passed-all, honest}
+use Rattle.cut.specs.Claim.{wrongLeft}
+use Rattle.cut.proofs.Tests.{packedChecked, every, once, ends, headerTest, wholeTest, smallTest, dlciTest, dynamicTest, channelTest, channelsTest, checksTest, informationTest, sizesTest, beginningsTest, settledIn, settledTest, aloneIn, aloneTest, handlesTest, dataTest, markTest, fragmentsTest, isNone, rules, passed-all, honest}
 use Rattle.cut.proofs.Recordings.{unended}
 use Rattle.cut.proofs.Computed.{fragments, beginnings, but, testedBy, foundBy, leftAt, w₀, w₂}
 use Rattle.adapters.specs.Links.{ifThere, relinking, byHandle}
@@ -72,46 +74,46 @@ module _ (ρ : ℕ → ℕ) (C : Container) (L : Lawful C) where
 
 -- ---- honest by the handle alone
 
-torn-tested : testedBy source tornByHandle ≡ passed-all
-unfolding ifThere rules every once ends headerTest wholeTest smallTest dlciTest dynamicTest channelTest channelsTest informationTest sizesTest beginningsTest settledIn settledTest aloneIn aloneTest handlesTest dataTest markTest fragmentsTest leftFrom recordsLeft sent dataOf dataLeft pdusIn markedPdus withMarks judgedIn isDataOf toData afterData adds carriesOn file isBtsnoop datalink isDatalink eqK recordSize be32 be64 le16 packetsIn packets packetOf milliseconds fragment monitorPacket pdus run after of joined isComplete stillOpen pduOf completed commandSize isCommand commands chop chopFrom body signalOf signalsIn pduSignals signals any names named asksFor admits admittedAfter admitted isTried asksRfcomm asksSession isSabm isUih shortLength infoLength infoStart creditOf isRight fcsOf register shifted shiftOne frameOf uihKind frameKind kindBy triedBy judgedFrom judgedBy rxOf packed bodyOf summedOf headOf checksumOf within
+torn-tested : testedBy (unchecked source) tornByHandle ≡ passed-all
+unfolding ifThere rules every once ends headerTest wholeTest smallTest dlciTest dynamicTest channelTest channelsTest checksTest informationTest sizesTest beginningsTest settledIn settledTest aloneIn aloneTest handlesTest dataTest markTest fragmentsTest leftFrom recordsLeft sent dataOf dataLeft pdusIn markedPdus withMarks judgedIn isDataOf toData afterData adds carriesOn file isBtsnoop datalink isDatalink eqK recordSize be32 be64 le16 packetsIn packets packetOf milliseconds fragment monitorPacket pdus run after of joined isComplete stillOpen pduOf completed commandSize isCommand commands chop chopFrom body signalOf signalsIn pduSignals signals any names named asksFor admits admittedAfter admitted isTried asksRfcomm asksSession isSabm isUih shortLength infoLength infoStart creditOf isRight fcsOf register shifted shiftOne frameOf uihKind frameKind kindBy triedBy judgedFrom judgedBy rxOf packed bodyOf summedOf headOf checksumOf within
 torn-tested = refl
 
-pub torn-honest : Honest source tornByHandle
-torn-honest = honest (relinking-lawful _ btsnoop lawful) source packedChecked (λ l t. unended) tornByHandle torn-tested
+pub torn-honest : Honest (unchecked source) tornByHandle
+torn-honest = honest (relinking-lawful _ btsnoop lawful) (unchecked source) packedChecked (λ l t. unended) tornByHandle torn-tested
 
-tornFrame-tested : testedBy source tornFrameByHandle ≡ passed-all
-unfolding ifThere rules every once ends headerTest wholeTest smallTest dlciTest dynamicTest channelTest channelsTest informationTest sizesTest beginningsTest settledIn settledTest aloneIn aloneTest handlesTest dataTest markTest fragmentsTest leftFrom recordsLeft sent dataOf dataLeft pdusIn markedPdus withMarks judgedIn isDataOf toData afterData adds carriesOn file isBtsnoop datalink isDatalink eqK recordSize be32 be64 le16 packetsIn packets packetOf milliseconds fragment monitorPacket pdus run after of joined isComplete stillOpen pduOf completed commandSize isCommand commands chop chopFrom body signalOf signalsIn pduSignals signals any names named asksFor admits admittedAfter admitted isTried asksRfcomm asksSession isSabm isUih shortLength infoLength infoStart creditOf isRight fcsOf register shifted shiftOne frameOf uihKind frameKind kindBy triedBy judgedFrom judgedBy rxOf packed bodyOf summedOf headOf checksumOf within
+tornFrame-tested : testedBy (unchecked source) tornFrameByHandle ≡ passed-all
+unfolding ifThere rules every once ends headerTest wholeTest smallTest dlciTest dynamicTest channelTest channelsTest checksTest informationTest sizesTest beginningsTest settledIn settledTest aloneIn aloneTest handlesTest dataTest markTest fragmentsTest leftFrom recordsLeft sent dataOf dataLeft pdusIn markedPdus withMarks judgedIn isDataOf toData afterData adds carriesOn file isBtsnoop datalink isDatalink eqK recordSize be32 be64 le16 packetsIn packets packetOf milliseconds fragment monitorPacket pdus run after of joined isComplete stillOpen pduOf completed commandSize isCommand commands chop chopFrom body signalOf signalsIn pduSignals signals any names named asksFor admits admittedAfter admitted isTried asksRfcomm asksSession isSabm isUih shortLength infoLength infoStart creditOf isRight fcsOf register shifted shiftOne frameOf uihKind frameKind kindBy triedBy judgedFrom judgedBy rxOf packed bodyOf summedOf headOf checksumOf within
 tornFrame-tested = refl
 
-pub tornFrame-honest : Honest source tornFrameByHandle
-tornFrame-honest = honest (relinking-lawful _ btsnoop lawful) source packedChecked (λ l t. unended) tornFrameByHandle tornFrame-tested
+pub tornFrame-honest : Honest (unchecked source) tornFrameByHandle
+tornFrame-honest = honest (relinking-lawful _ btsnoop lawful) (unchecked source) packedChecked (λ l t. unended) tornFrameByHandle tornFrame-tested
 
 -- ---- a frame is left, which import by the handle alone finds, and import by index and handle does not
 
 -- as the claim has them
 abbrev pub options : Options
-options = record { channel = some 9; tail = tolerant; rule = source }
+options = record { channel = some 9; tail = tolerant; judging = unchecked source }
 
 abbrev LeftOut : Recording byHandle → ℕ → Found → Type 0
-LeftOut R n x = (leftAt R n ≡ x) × (foundBy source R n ≡ x) × (outcome btsnoop (cut R n) options ≡ missing 6 [])
+LeftOut R n x = (leftAt (unchecked source) R n ≡ x) × (foundBy (unchecked source) R n ≡ x) × (outcome btsnoop (cut R n) options ≡ missing 6 [])
 
-pub torn-cut : LeftOut tornByHandle 89 (found 18 (span 1 6 w₂ ∷ []) 0 89)
-unfolding ifThere cut file tailLeft ofHandle closedIn framesLeft midFrame endsMid midIn midLeft leftFrom recordsLeft sent dataOf dataLeft outcome isBtsnoop datalink isDatalink endsWell read tailOffset records recordsIn chop chopFrom isWhole recordSize be32 be64 le16 eqK filePieces packetsIn packets packetOf milliseconds fragment monitorPacket pdus run after of joined isComplete stillOpen pduOf completed commandSize isCommand commands body signalOf signalsIn pduSignals signals any names named asksFor admits admittedAfter admitted isTried asksRfcomm asksSession isSabm isUih shortLength infoLength infoStart creditOf isRight fcsOf register shifted shiftOne frameOf uihKind frameKind kindBy triedBy judgedFrom judgedBy counted pieceOf brought pieces seek spansN restN spansOf restOf capped spans unfinished onDlci count nub mem onChannel firstOf hasFrame chosen isWrong wrongOn listed unpacksOf unpackOf judgedFrame isGiven within checksumOf packed bodyOf summedOf headOf rxOf
+pub torn-cut : LeftOut tornByHandle 89 (finds 18 (span 1 6 w₂ ∷ []) 0 89)
+unfolding ifThere cut file tailLeft ofHandle closedIn framesLeft midFrame endsMid midIn midLeft wrongLeft judgedIn withMarks markedPdus pdusIn leftFrom recordsLeft sent dataOf dataLeft outcome isBtsnoop datalink isDatalink endsWell read tailOffset records recordsIn chop chopFrom isWhole recordSize be32 be64 le16 eqK filePieces packetsIn packets packetOf milliseconds fragment monitorPacket pdus run after of joined isComplete stillOpen pduOf completed commandSize isCommand commands body signalOf signalsIn pduSignals signals any names named asksFor admits admittedAfter admitted isTried asksRfcomm asksSession isSabm isUih shortLength infoLength infoStart creditOf isRight fcsOf register shifted shiftOne frameOf uihKind frameKind kindBy triedBy judgedFrom judgedBy counted pieceOf brought pieces seek spansN restN spansOf restOf capped spans unfinished onDlci count nub mem onChannel firstOf hasFrame chosen isWrong wrongOn listed unpacksOf unpackOf judgedFrame isGiven within checksumOf packed bodyOf summedOf headOf rxOf
 torn-cut = (refl, refl, refl)
 
-pub tornFrame-cut : LeftOut tornFrameByHandle 97 (found 18 (span 1 6 w₀ ∷ []) 0 97)
-unfolding ifThere cut file tailLeft ofHandle closedIn framesLeft midFrame endsMid midIn midLeft leftFrom recordsLeft sent dataOf dataLeft outcome isBtsnoop datalink isDatalink endsWell read tailOffset records recordsIn chop chopFrom isWhole recordSize be32 be64 le16 eqK filePieces packetsIn packets packetOf milliseconds fragment monitorPacket pdus run after of joined isComplete stillOpen pduOf completed commandSize isCommand commands body signalOf signalsIn pduSignals signals any names named asksFor admits admittedAfter admitted isTried asksRfcomm asksSession isSabm isUih shortLength infoLength infoStart creditOf isRight fcsOf register shifted shiftOne frameOf uihKind frameKind kindBy triedBy judgedFrom judgedBy counted pieceOf brought pieces seek spansN restN spansOf restOf capped spans unfinished onDlci count nub mem onChannel firstOf hasFrame chosen isWrong wrongOn listed unpacksOf unpackOf judgedFrame isGiven within checksumOf packed bodyOf summedOf headOf rxOf
+pub tornFrame-cut : LeftOut tornFrameByHandle 97 (finds 18 (span 1 6 w₀ ∷ []) 0 97)
+unfolding ifThere cut file tailLeft ofHandle closedIn framesLeft midFrame endsMid midIn midLeft wrongLeft judgedIn withMarks markedPdus pdusIn leftFrom recordsLeft sent dataOf dataLeft outcome isBtsnoop datalink isDatalink endsWell read tailOffset records recordsIn chop chopFrom isWhole recordSize be32 be64 le16 eqK filePieces packetsIn packets packetOf milliseconds fragment monitorPacket pdus run after of joined isComplete stillOpen pduOf completed commandSize isCommand commands body signalOf signalsIn pduSignals signals any names named asksFor admits admittedAfter admitted isTried asksRfcomm asksSession isSabm isUih shortLength infoLength infoStart creditOf isRight fcsOf register shifted shiftOne frameOf uihKind frameKind kindBy triedBy judgedFrom judgedBy counted pieceOf brought pieces seek spansN restN spansOf restOf capped spans unfinished onDlci count nub mem onChannel firstOf hasFrame chosen isWrong wrongOn listed unpacksOf unpackOf judgedFrame isGiven within checksumOf packed bodyOf summedOf headOf rxOf
 tornFrame-cut = (refl, refl, refl)
 
 abbrev pub isMissing : Found → Bool
-isMissing (found d ss u tail) = false
+isMissing (found x) = false
 isMissing (missing n vs) = true
 
 -- so the claim with the handle alone is false
-pub claim-by-handle-false : {G : Type 0} → ((R : Recording byHandle) → Honest source R → (n : ℕ) → 16 ≤ n → n ≤ length (file R) → outcome btsnoop (cut R n) (record { channel = some (R .d / 2); tail = tolerant; rule = source }) ≡ leftAt R n) → G
+pub claim-by-handle-false : {G : Type 0} → ((R : Recording byHandle) → Honest (unchecked source) R → (n : ℕ) → 16 ≤ n → n ≤ length (file R) → outcome btsnoop (cut R n) (record { channel = some (R .d / 2); tail = tolerant; judging = unchecked source }) ≡ leftAt (unchecked source) R n) → G
 unfolding file packed bodyOf summedOf headOf checksumOf within
 claim-by-handle-false claim =
-    let e : missing 6 [] ≡ found 18 (span 1 6 w₂ ∷ []) 0 89 = sym (torn-cut .2) ∙ claim tornByHandle torn-honest 89 (omega arith) (leb-true 89 _ refl) ∙ torn-cut .0 in
+    let e : missing 6 [] ≡ finds 18 (span 1 6 w₂ ∷ []) 0 89 = sym (torn-cut .2) ∙ claim tornByHandle torn-honest 89 (omega arith) (leb-true 89 _ refl) ∙ torn-cut .0 in
     no-way refl (ap isMissing e)
 
 -- ---- by index and handle they are not honest
@@ -127,17 +129,17 @@ not-ended :
     ((b : List ℕ) → isNone (put σ (packetKey p) (some b) (packetKey q)) ≡ true) → q .start ≡ false → G
 not-ended (more {b = b} j c (end k e d w)) o q = not-joined k (o b) q
 
--- with whatever links
-pub torn-uncovered : {G : Type 0} (ls : List Link) → Honest source (tornWith ls) → G
+-- with whatever links, by either channel rule, FCS checked or not
+pub torn-uncovered : {G : Type 0} {by : Judging} (ls : List Link) → Honest by (tornWith ls) → G
 unfolding sent datalink be32 be64 le16 packetOf milliseconds fragment monitorPacket eqK packed bodyOf summedOf headOf checksumOf within
 torn-uncovered ls H = not-ended (H .fragments) (λ b. refl) refl
 
 -- With the second index's link, the fragments alone do not fit; the first index's did not receive the frame either.
-pub torn-broken : (testedBy source (torn 1) ≡ but fragments) × (testedBy source (torn 0) ≡ true ∷ true ∷ true ∷ true ∷ true ∷ true ∷ true ∷ false ∷ false ∷ true ∷ true ∷ true ∷ true ∷ [])
-unfolding rules every once ends headerTest wholeTest smallTest dlciTest dynamicTest channelTest channelsTest informationTest sizesTest beginningsTest settledIn settledTest aloneIn aloneTest handlesTest dataTest markTest fragmentsTest leftFrom recordsLeft sent dataOf dataLeft pdusIn markedPdus withMarks judgedIn isDataOf toData afterData adds carriesOn file isBtsnoop datalink isDatalink eqK recordSize be32 be64 le16 packetsIn packets packetOf milliseconds fragment monitorPacket pdus run after of joined isComplete stillOpen pduOf completed commandSize isCommand commands chop chopFrom body signalOf signalsIn pduSignals signals any names named asksFor admits admittedAfter admitted isTried asksRfcomm asksSession isSabm isUih shortLength infoLength infoStart creditOf isRight fcsOf register shifted shiftOne frameOf uihKind frameKind kindBy triedBy judgedFrom judgedBy rxOf packed bodyOf summedOf headOf checksumOf within
+pub torn-broken : (testedBy (unchecked source) (torn 1) ≡ but fragments) × (testedBy (unchecked source) (torn 0) ≡ true ∷ true ∷ true ∷ true ∷ true ∷ true ∷ true ∷ false ∷ true ∷ false ∷ true ∷ true ∷ true ∷ true ∷ [])
+unfolding rules every once ends headerTest wholeTest smallTest dlciTest dynamicTest channelTest channelsTest checksTest informationTest sizesTest beginningsTest settledIn settledTest aloneIn aloneTest handlesTest dataTest markTest fragmentsTest leftFrom recordsLeft sent dataOf dataLeft pdusIn markedPdus withMarks judgedIn isDataOf toData afterData adds carriesOn file isBtsnoop datalink isDatalink eqK recordSize be32 be64 le16 packetsIn packets packetOf milliseconds fragment monitorPacket pdus run after of joined isComplete stillOpen pduOf completed commandSize isCommand commands chop chopFrom body signalOf signalsIn pduSignals signals any names named asksFor admits admittedAfter admitted isTried asksRfcomm asksSession isSabm isUih shortLength infoLength infoStart creditOf isRight fcsOf register shifted shiftOne frameOf uihKind frameKind kindBy triedBy judgedFrom judgedBy rxOf packed bodyOf summedOf headOf checksumOf within
 torn-broken = (refl, refl)
 
 -- the second half begins no frame
-pub tornFrame-broken : testedBy source tornFrame ≡ but beginnings
-unfolding rules every once ends headerTest wholeTest smallTest dlciTest dynamicTest channelTest channelsTest informationTest sizesTest beginningsTest settledIn settledTest aloneIn aloneTest handlesTest dataTest markTest fragmentsTest leftFrom recordsLeft sent dataOf dataLeft pdusIn markedPdus withMarks judgedIn isDataOf toData afterData adds carriesOn file isBtsnoop datalink isDatalink eqK recordSize be32 be64 le16 packetsIn packets packetOf milliseconds fragment monitorPacket pdus run after of joined isComplete stillOpen pduOf completed commandSize isCommand commands chop chopFrom body signalOf signalsIn pduSignals signals any names named asksFor admits admittedAfter admitted isTried asksRfcomm asksSession isSabm isUih shortLength infoLength infoStart creditOf isRight fcsOf register shifted shiftOne frameOf uihKind frameKind kindBy triedBy judgedFrom judgedBy rxOf packed bodyOf summedOf headOf checksumOf within
+pub tornFrame-broken : testedBy (unchecked source) tornFrame ≡ but beginnings
+unfolding rules every once ends headerTest wholeTest smallTest dlciTest dynamicTest channelTest channelsTest checksTest informationTest sizesTest beginningsTest settledIn settledTest aloneIn aloneTest handlesTest dataTest markTest fragmentsTest leftFrom recordsLeft sent dataOf dataLeft pdusIn markedPdus withMarks judgedIn isDataOf toData afterData adds carriesOn file isBtsnoop datalink isDatalink eqK recordSize be32 be64 le16 packetsIn packets packetOf milliseconds fragment monitorPacket pdus run after of joined isComplete stillOpen pduOf completed commandSize isCommand commands chop chopFrom body signalOf signalsIn pduSignals signals any names named asksFor admits admittedAfter admitted isTried asksRfcomm asksSession isSabm isUih shortLength infoLength infoStart creditOf isRight fcsOf register shifted shiftOne frameOf uihKind frameKind kindBy triedBy judgedFrom judgedBy rxOf packed bodyOf summedOf headOf checksumOf within
 tornFrame-broken = refl

@@ -1,4 +1,4 @@
--- The claim of the cut for each container, from the one theorem; for both channel rules.
+-- The claim of the cut for each container, from the one theorem; for both channel rules, FCS checked or not.
 use Prim.Native.Nat.{ℕ}
 use mathlib.Core.List.{List}
 use Rattle.laws.specs.Answers.{Answer, Meets}

@@ -1,6 +1,6 @@
 -- The same packets at the same times give the same answer in both containers, but for the tail offset.
 use Prim.Native.Nat.{ℕ, _+_, _*_, _/_, _%_, _<_}
-use mathlib.Core.Path.{_≡_, refl, sym, ap, _∙_}
+use mathlib.Core.Path.{_≡_, refl, sym, ap, _∙_, fun-ext}
 use mathlib.Core.Bool.{Bool, true, false, cond}
 use mathlib.Core.List.{List, [], _∷_, _++_, map}
 use mathlib.Core.Option.{Option, none, some}
@@ -27,20 +27,20 @@ use Rattle.pcap.specs.Packets as pcap-packets
 use Rattle.pcap.specs.Pcap.{pcap}
 use Rattle.pcap.proofs.Laws as pcap-laws
 use Rattle.rfcomm.specs.Pieces.{Piece}
-use Rattle.outcome.specs.Import.{Tail, strict, tolerant, Options, Found, found, missing, chosen, listed, filePieces, read, endsWell, outcome}
+use Rattle.outcome.specs.Import.{Tail, strict, tolerant, Options, Found, found, missing, chosen, listed, filePieces, fileWrong, read, endsWell, outcome}
 use Rattle.formats.specs.Written.{be, Seen, Fits, btsnoopHead, btsnoopRecord, btsnoopFile, pcapHead, pcapRecord, pcapFile}
 
 -- ---- any two files
 
 -- an answer with another tail offset
 abbrev pub withTail : ℕ → Found → Found
-withTail t (found d ss u s) = found d ss u t
+withTail t (found x) = found (record { dlci = x .dlci; spans = x .spans; unfinished = x .unfinished; tail = t; wrong = x .wrong })
 withTail t (missing n vs) = missing n vs
 
-listed-tail : (ps : List Piece) (s t : ℕ) (o : Option ℕ) → listed ps t o ≡ withTail t (listed ps s o)
+listed-tail : (ps : List Piece) (wrongs : ℕ → ℕ) (s t : ℕ) (o : Option ℕ) → listed ps wrongs t o ≡ withTail t (listed ps wrongs s o)
 unfolding listed
-listed-tail ps s t none = refl
-listed-tail ps s t (some d) = refl
+listed-tail ps wrongs s t none = refl
+listed-tail ps wrongs s t (some d) = refl
 
 -- a file that is not refused by 3, 4, 5 or 21, 22, 5
 pub record Good (C : Container) (tail : Tail) (f : List ℕ) : Type 0 where
@@ -48,15 +48,16 @@ pub record Good (C : Container) (tail : Tail) (f : List ℕ) : Type 0 where
   pub link : C .isTaken (C .linkType f) ≡ true
   pub ends : endsWell C tail f ≡ true
 
-good-read : (C : Container) (f : List ℕ) (o : Options) → Good C (o .tail) f → outcome C f o ≡ listed (filePieces C (o .rule) f) (tailOffset C f) (chosen (o .channel) (filePieces C (o .rule) f))
+good-read : (C : Container) (f : List ℕ) (o : Options) → Good C (o .tail) f → outcome C f o ≡ listed (filePieces C (o .judging) f) (fileWrong C (o .judging) f) (tailOffset C f) (chosen (o .channel) (filePieces C (o .judging) f))
 unfolding outcome read
 good-read C f o g = rw (g .file, g .link, g .ends)
 
 pub same-packets : (C D : Container) (f g : List ℕ) (o : Options) → Good C (o .tail) f → Good D (o .tail) g → packetsIn C f ≡ packetsIn D g → outcome D g o ≡ withTail (tailOffset D g) (outcome C f o)
 unfolding filePieces
 same-packets C D f g o a b e =
-    let p : filePieces C (o .rule) f ≡ filePieces D (o .rule) g = rw e in
-    rw (good-read C f o a, good-read D g o b, p) (listed-tail (filePieces D (o .rule) g) (tailOffset C f) (tailOffset D g) (chosen (o .channel) (filePieces D (o .rule) g)))
+    let p : filePieces C (o .judging) f ≡ filePieces D (o .judging) g = rw e in
+    let w : fileWrong C (o .judging) f ≡ fileWrong D (o .judging) g = fun-ext (λ d. rw e) in
+    rw (good-read C f o a, good-read D g o b, p, w) (listed-tail (filePieces D (o .judging) g) (fileWrong D (o .judging) g) (tailOffset C f) (tailOffset D g) (chosen (o .channel) (filePieces D (o .judging) g)))
 
 -- ---- the packets that were written
 

@@ -28,17 +28,19 @@ use Rattle.channels.specs.Core.{coreSignalOf, coreSignalsIn, pduCoreSignals, co
 use Rattle.channels.specs.Tried.{source, core, triedBy}
 use Rattle.uih.specs.Fcs.{shiftOne, shifted, register, fcsOf}
 use Rattle.uih.specs.Frames.{isSabm, isUih, shortLength, infoLength, infoStart, creditOf, frameOf, isRight}
-use Rattle.rfcomm.specs.Pieces.{uihKind, frameKind, kindBy, judgedFrom, judgedBy, counted, pieceOf, brought, pieces, isWrong, wrongOn}
+use Rattle.rfcomm.specs.Pieces.{unchecked, uihKind, frameKind, kindBy, judgedFrom, judgedBy, counted, pieceOf, brought, pieces, isWrong, wrongOn}
 use Rattle.search.specs.Seek.{seek}
 use Rattle.spans.specs.Scan.{spansN, restN, spansOf, restOf, capped}
 use Rattle.spans.specs.Spans.{spans, unfinished, onDlci}
 use Rattle.btsnoop.specs.Packets.{milliseconds as timeOf}
 use Rattle.pcap.proofs.Laws.{lawful}
-use Rattle.outcome.specs.Import.{onChannel, first, hasFrame, chosen, Found, found, missing, listed, filePieces, read, endsWell, outcome}
+use Rattle.outcome.specs.Import.{onChannel, first, hasFrame, chosen, Found, missing, listed, filePieces, read, endsWell, outcome}
+use Rattle.outcome.proofs.Examples.{finds}
 use Rattle.cut.specs.Recording.{Recording, file, cut}
 use Rattle.cut.specs.Left.{leftFrom, recordsLeft, tailLeft, sent, dataOf, dataLeft, closedIn, ofHandle, framesLeft, midFrame, endsMid, midIn, midLeft}
 use Rattle.cut.specs.Honest.{pdusIn, markedPdus, withMarks, judgedIn, isDataOf, toData, afterData, adds, carriesOn, Honest}
-use Rattle.cut.proofs.Tests.{packedChecked, every, once, openTest, ends, headerTest, wholeTest, smallTest, dlciTest, dynamicTest, channelTest, channelsTest, informationTest, sizesTest, beginningsTest, settledIn, settledTest, aloneIn, aloneTest, handlesTest, dataTest, markTest, fragmentsTest, rules, passed-all, honest}
+use Rattle.cut.specs.Claim.{wrongLeft}
+use Rattle.cut.proofs.Tests.{packedChecked, every, once, openTest, ends, headerTest, wholeTest, smallTest, dlciTest, dynamicTest, channelTest, channelsTest, checksTest, informationTest, sizesTest, beginningsTest, settledIn, settledTest, aloneIn, aloneTest, handlesTest, dataTest, markTest, fragmentsTest, rules, passed-all, honest}
 use Rattle.cut.proofs.Recordings.{unended, busy}
 use Rattle.cut.proofs.CoreRecordings.{reused}
 use Rattle.cut.proofs.Computed.{testedBy, foundBy, leftAt, w₀, w₂, w₃, four}
@@ -69,27 +71,27 @@ bigNanos = asPcap true true busy
 abbrev pub littleReused : Recording pcap
 littleReused = asPcap false false reused
 
-little-tested : testedBy source little ≡ passed-all
-unfolding rules every once ends headerTest wholeTest smallTest dlciTest dynamicTest channelTest channelsTest informationTest sizesTest beginningsTest settledIn settledTest aloneIn aloneTest handlesTest dataTest markTest fragmentsTest leftFrom recordsLeft sent dataOf dataLeft pdusIn markedPdus withMarks judgedIn isDataOf toData afterData adds carriesOn file isPcap isBig isLittle isNano number linkOf isLink eqK recordSize be32 be64 le16 le32 packetsIn packets packetOf directedPacket milliseconds timeOf fragment h4Packet pdus run after of joined isComplete stillOpen pduOf completed commandSize isCommand commands chop chopFrom body signalOf signalsIn pduSignals signals any names named asksFor admits admittedAfter admitted isTried asksRfcomm asksSession isSabm isUih shortLength infoLength infoStart creditOf isRight fcsOf register shifted shiftOne frameOf uihKind frameKind kindBy triedBy judgedFrom judgedBy rxOf packed bodyOf summedOf headOf checksumOf within
+little-tested : testedBy (unchecked source) little ≡ passed-all
+unfolding rules every once ends headerTest wholeTest smallTest dlciTest dynamicTest channelTest channelsTest checksTest informationTest sizesTest beginningsTest settledIn settledTest aloneIn aloneTest handlesTest dataTest markTest fragmentsTest leftFrom recordsLeft sent dataOf dataLeft pdusIn markedPdus withMarks judgedIn isDataOf toData afterData adds carriesOn file isPcap isBig isLittle isNano number linkOf isLink eqK recordSize be32 be64 le16 le32 packetsIn packets packetOf directedPacket milliseconds timeOf fragment h4Packet pdus run after of joined isComplete stillOpen pduOf completed commandSize isCommand commands chop chopFrom body signalOf signalsIn pduSignals signals any names named asksFor admits admittedAfter admitted isTried asksRfcomm asksSession isSabm isUih shortLength infoLength infoStart creditOf isRight fcsOf register shifted shiftOne frameOf uihKind frameKind kindBy triedBy judgedFrom judgedBy rxOf packed bodyOf summedOf headOf checksumOf within
 little-tested = refl
 
-bigNanos-tested : testedBy source bigNanos ≡ passed-all
-unfolding rules every once ends headerTest wholeTest smallTest dlciTest dynamicTest channelTest channelsTest informationTest sizesTest beginningsTest settledIn settledTest aloneIn aloneTest handlesTest dataTest markTest fragmentsTest leftFrom recordsLeft sent dataOf dataLeft pdusIn markedPdus withMarks judgedIn isDataOf toData afterData adds carriesOn file isPcap isBig isLittle isNano number linkOf isLink eqK recordSize be32 be64 le16 le32 packetsIn packets packetOf directedPacket milliseconds timeOf fragment h4Packet pdus run after of joined isComplete stillOpen pduOf completed commandSize isCommand commands chop chopFrom body signalOf signalsIn pduSignals signals any names named asksFor admits admittedAfter admitted isTried asksRfcomm asksSession isSabm isUih shortLength infoLength infoStart creditOf isRight fcsOf register shifted shiftOne frameOf uihKind frameKind kindBy triedBy judgedFrom judgedBy rxOf packed bodyOf summedOf headOf checksumOf within
+bigNanos-tested : testedBy (unchecked source) bigNanos ≡ passed-all
+unfolding rules every once ends headerTest wholeTest smallTest dlciTest dynamicTest channelTest channelsTest checksTest informationTest sizesTest beginningsTest settledIn settledTest aloneIn aloneTest handlesTest dataTest markTest fragmentsTest leftFrom recordsLeft sent dataOf dataLeft pdusIn markedPdus withMarks judgedIn isDataOf toData afterData adds carriesOn file isPcap isBig isLittle isNano number linkOf isLink eqK recordSize be32 be64 le16 le32 packetsIn packets packetOf directedPacket milliseconds timeOf fragment h4Packet pdus run after of joined isComplete stillOpen pduOf completed commandSize isCommand commands chop chopFrom body signalOf signalsIn pduSignals signals any names named asksFor admits admittedAfter admitted isTried asksRfcomm asksSession isSabm isUih shortLength infoLength infoStart creditOf isRight fcsOf register shifted shiftOne frameOf uihKind frameKind kindBy triedBy judgedFrom judgedBy rxOf packed bodyOf summedOf headOf checksumOf within
 bigNanos-tested = refl
 
-reused-tested : testedBy core littleReused ≡ passed-all
-unfolding openTest holds holdsAfter events eventsAfter eventsOf bothHold latest coreSignals pduCoreSignals coreSignalsIn coreSignalOf rules every once ends headerTest wholeTest smallTest dlciTest dynamicTest channelTest channelsTest informationTest sizesTest beginningsTest settledIn settledTest aloneIn aloneTest handlesTest dataTest markTest fragmentsTest leftFrom recordsLeft sent dataOf dataLeft pdusIn markedPdus withMarks judgedIn isDataOf toData afterData adds carriesOn file isPcap isBig isLittle isNano number linkOf isLink eqK recordSize be32 be64 le16 le32 packetsIn packets packetOf directedPacket milliseconds timeOf fragment h4Packet pdus run after of joined isComplete stillOpen pduOf completed commandSize isCommand commands chop chopFrom body signalOf signalsIn pduSignals signals any names named asksFor admits admittedAfter admitted isTried asksRfcomm asksSession isSabm isUih shortLength infoLength infoStart creditOf isRight fcsOf register shifted shiftOne frameOf uihKind frameKind kindBy triedBy judgedFrom judgedBy rxOf packed bodyOf summedOf headOf checksumOf within
+reused-tested : testedBy (unchecked core) littleReused ≡ passed-all
+unfolding openTest holds holdsAfter events eventsAfter eventsOf bothHold latest coreSignals pduCoreSignals coreSignalsIn coreSignalOf rules every once ends headerTest wholeTest smallTest dlciTest dynamicTest channelTest channelsTest checksTest informationTest sizesTest beginningsTest settledIn settledTest aloneIn aloneTest handlesTest dataTest markTest fragmentsTest leftFrom recordsLeft sent dataOf dataLeft pdusIn markedPdus withMarks judgedIn isDataOf toData afterData adds carriesOn file isPcap isBig isLittle isNano number linkOf isLink eqK recordSize be32 be64 le16 le32 packetsIn packets packetOf directedPacket milliseconds timeOf fragment h4Packet pdus run after of joined isComplete stillOpen pduOf completed commandSize isCommand commands chop chopFrom body signalOf signalsIn pduSignals signals any names named asksFor admits admittedAfter admitted isTried asksRfcomm asksSession isSabm isUih shortLength infoLength infoStart creditOf isRight fcsOf register shifted shiftOne frameOf uihKind frameKind kindBy triedBy judgedFrom judgedBy rxOf packed bodyOf summedOf headOf checksumOf within
 reused-tested = refl
 
 -- so the claim for pcap is not empty
-pub little-honest : Honest source little
-little-honest = honest lawful source packedChecked (λ l t. unended) little little-tested
+pub little-honest : Honest (unchecked source) little
+little-honest = honest lawful (unchecked source) packedChecked (λ l t. unended) little little-tested
 
-pub bigNanos-honest : Honest source bigNanos
-bigNanos-honest = honest lawful source packedChecked (λ l t. unended) bigNanos bigNanos-tested
+pub bigNanos-honest : Honest (unchecked source) bigNanos
+bigNanos-honest = honest lawful (unchecked source) packedChecked (λ l t. unended) bigNanos bigNanos-tested
 
-pub littleReused-honest : Honest core littleReused
-littleReused-honest = honest lawful core packedChecked (λ l t. unended) littleReused reused-tested
+pub littleReused-honest : Honest (unchecked core) littleReused
+littleReused-honest = honest lawful (unchecked core) packedChecked (λ l t. unended) littleReused reused-tested
 
 -- ---- cuts
 
@@ -100,13 +102,13 @@ cuts = 576 ∷ 575 ∷ 360 ∷ 357 ∷ 312 ∷ 24 ∷ []
 -- the frames of the btsnoop recording with everything, at the same cuts; the tail offsets are pcap's
 abbrev answers : List Found
 answers =
-    found 18 (four ++ (span 0 10 w₀ ∷ [])) 2 576 ∷ found 18 (four ++ (span 0 10 w₀ ∷ [])) 1 539 ∷ found 18 four 0 358 ∷ found 18 (span 1 7 w₃ ∷ span 1 7 w₂ ∷ []) 0 313 ∷ missing 6 [] ∷ missing 6 [] ∷ []
+    finds 18 (four ++ (span 0 10 w₀ ∷ [])) 2 576 ∷ finds 18 (four ++ (span 0 10 w₀ ∷ [])) 1 539 ∷ finds 18 four 0 358 ∷ finds 18 (span 1 7 w₃ ∷ span 1 7 w₂ ∷ []) 0 313 ∷ missing 6 [] ∷ missing 6 [] ∷ []
 
 pub all-cuts :
-    (map (foundBy source little) cuts ≡ answers) × (map (leftAt little) cuts ≡ answers) ×
+    (map (foundBy (unchecked source) little) cuts ≡ answers) × (map (leftAt (unchecked source) little) cuts ≡ answers) ×
     -- a cut within the header is refused with 21, though nothing is left: the claim is for n from 24 on
-    (foundBy source little 23 ≡ missing 21 []) × (leftAt little 23 ≡ missing 6 [])
-unfolding cut file tailLeft ofHandle closedIn framesLeft midFrame endsMid midIn midLeft leftFrom recordsLeft sent dataOf dataLeft outcome isPcap isBig isLittle isNano number linkOf isLink endsWell read tailOffset records recordsIn chop chopFrom isWhole recordSize be32 be64 le16 le32 eqK filePieces packetsIn packets packetOf directedPacket milliseconds timeOf fragment h4Packet pdus run after of joined isComplete stillOpen pduOf completed commandSize isCommand commands body signalOf signalsIn pduSignals signals any names named asksFor admits admittedAfter admitted isTried asksRfcomm asksSession isSabm isUih shortLength infoLength infoStart creditOf isRight fcsOf register shifted shiftOne frameOf uihKind frameKind kindBy triedBy judgedFrom judgedBy counted pieceOf brought pieces seek spansN restN spansOf restOf capped spans unfinished onDlci count nub mem onChannel first hasFrame chosen isWrong wrongOn listed unpacksOf unpackOf judgedFrame isGiven within checksumOf packed bodyOf summedOf headOf rxOf
+    (foundBy (unchecked source) little 23 ≡ missing 21 []) × (leftAt (unchecked source) little 23 ≡ missing 6 [])
+unfolding cut file tailLeft ofHandle closedIn framesLeft midFrame endsMid midIn midLeft wrongLeft judgedIn withMarks markedPdus pdusIn leftFrom recordsLeft sent dataOf dataLeft outcome isPcap isBig isLittle isNano number linkOf isLink endsWell read tailOffset records recordsIn chop chopFrom isWhole recordSize be32 be64 le16 le32 eqK filePieces packetsIn packets packetOf directedPacket milliseconds timeOf fragment h4Packet pdus run after of joined isComplete stillOpen pduOf completed commandSize isCommand commands body signalOf signalsIn pduSignals signals any names named asksFor admits admittedAfter admitted isTried asksRfcomm asksSession isSabm isUih shortLength infoLength infoStart creditOf isRight fcsOf register shifted shiftOne frameOf uihKind frameKind kindBy triedBy judgedFrom judgedBy counted pieceOf brought pieces seek spansN restN spansOf restOf capped spans unfinished onDlci count nub mem onChannel first hasFrame chosen isWrong wrongOn listed unpacksOf unpackOf judgedFrame isGiven within checksumOf packed bodyOf summedOf headOf rxOf
 all-cuts = (refl, refl, refl, refl)
 
 -- the same frames in each byte order and resolution, and the same counts
@@ -114,16 +116,16 @@ abbrev few : List ℕ
 few = 575 ∷ 357 ∷ 24 ∷ []
 
 abbrev fewer : List Found
-fewer = found 18 (four ++ (span 0 10 w₀ ∷ [])) 1 539 ∷ found 18 (span 1 7 w₃ ∷ span 1 7 w₂ ∷ []) 0 313 ∷ missing 6 [] ∷ []
+fewer = finds 18 (four ++ (span 0 10 w₀ ∷ [])) 1 539 ∷ finds 18 (span 1 7 w₃ ∷ span 1 7 w₂ ∷ []) 0 313 ∷ missing 6 [] ∷ []
 
-pub big-cuts : (map (foundBy source big) few ≡ fewer) × (map (leftAt big) few ≡ fewer)
-unfolding cut file tailLeft ofHandle closedIn framesLeft midFrame endsMid midIn midLeft leftFrom recordsLeft sent dataOf dataLeft outcome isPcap isBig isLittle isNano number linkOf isLink endsWell read tailOffset records recordsIn chop chopFrom isWhole recordSize be32 be64 le16 le32 eqK filePieces packetsIn packets packetOf directedPacket milliseconds timeOf fragment h4Packet pdus run after of joined isComplete stillOpen pduOf completed commandSize isCommand commands body signalOf signalsIn pduSignals signals any names named asksFor admits admittedAfter admitted isTried asksRfcomm asksSession isSabm isUih shortLength infoLength infoStart creditOf isRight fcsOf register shifted shiftOne frameOf uihKind frameKind kindBy triedBy judgedFrom judgedBy counted pieceOf brought pieces seek spansN restN spansOf restOf capped spans unfinished onDlci count nub mem onChannel first hasFrame chosen isWrong wrongOn listed unpacksOf unpackOf judgedFrame isGiven within checksumOf packed bodyOf summedOf headOf rxOf
+pub big-cuts : (map (foundBy (unchecked source) big) few ≡ fewer) × (map (leftAt (unchecked source) big) few ≡ fewer)
+unfolding cut file tailLeft ofHandle closedIn framesLeft midFrame endsMid midIn midLeft wrongLeft judgedIn withMarks markedPdus pdusIn leftFrom recordsLeft sent dataOf dataLeft outcome isPcap isBig isLittle isNano number linkOf isLink endsWell read tailOffset records recordsIn chop chopFrom isWhole recordSize be32 be64 le16 le32 eqK filePieces packetsIn packets packetOf directedPacket milliseconds timeOf fragment h4Packet pdus run after of joined isComplete stillOpen pduOf completed commandSize isCommand commands body signalOf signalsIn pduSignals signals any names named asksFor admits admittedAfter admitted isTried asksRfcomm asksSession isSabm isUih shortLength infoLength infoStart creditOf isRight fcsOf register shifted shiftOne frameOf uihKind frameKind kindBy triedBy judgedFrom judgedBy counted pieceOf brought pieces seek spansN restN spansOf restOf capped spans unfinished onDlci count nub mem onChannel first hasFrame chosen isWrong wrongOn listed unpacksOf unpackOf judgedFrame isGiven within checksumOf packed bodyOf summedOf headOf rxOf
 big-cuts = (refl, refl)
 
-pub littleNanos-cuts : (map (foundBy source littleNanos) few ≡ fewer) × (map (leftAt littleNanos) few ≡ fewer)
-unfolding cut file tailLeft ofHandle closedIn framesLeft midFrame endsMid midIn midLeft leftFrom recordsLeft sent dataOf dataLeft outcome isPcap isBig isLittle isNano number linkOf isLink endsWell read tailOffset records recordsIn chop chopFrom isWhole recordSize be32 be64 le16 le32 eqK filePieces packetsIn packets packetOf directedPacket milliseconds timeOf fragment h4Packet pdus run after of joined isComplete stillOpen pduOf completed commandSize isCommand commands body signalOf signalsIn pduSignals signals any names named asksFor admits admittedAfter admitted isTried asksRfcomm asksSession isSabm isUih shortLength infoLength infoStart creditOf isRight fcsOf register shifted shiftOne frameOf uihKind frameKind kindBy triedBy judgedFrom judgedBy counted pieceOf brought pieces seek spansN restN spansOf restOf capped spans unfinished onDlci count nub mem onChannel first hasFrame chosen isWrong wrongOn listed unpacksOf unpackOf judgedFrame isGiven within checksumOf packed bodyOf summedOf headOf rxOf
+pub littleNanos-cuts : (map (foundBy (unchecked source) littleNanos) few ≡ fewer) × (map (leftAt (unchecked source) littleNanos) few ≡ fewer)
+unfolding cut file tailLeft ofHandle closedIn framesLeft midFrame endsMid midIn midLeft wrongLeft judgedIn withMarks markedPdus pdusIn leftFrom recordsLeft sent dataOf dataLeft outcome isPcap isBig isLittle isNano number linkOf isLink endsWell read tailOffset records recordsIn chop chopFrom isWhole recordSize be32 be64 le16 le32 eqK filePieces packetsIn packets packetOf directedPacket milliseconds timeOf fragment h4Packet pdus run after of joined isComplete stillOpen pduOf completed commandSize isCommand commands body signalOf signalsIn pduSignals signals any names named asksFor admits admittedAfter admitted isTried asksRfcomm asksSession isSabm isUih shortLength infoLength infoStart creditOf isRight fcsOf register shifted shiftOne frameOf uihKind frameKind kindBy triedBy judgedFrom judgedBy counted pieceOf brought pieces seek spansN restN spansOf restOf capped spans unfinished onDlci count nub mem onChannel first hasFrame chosen isWrong wrongOn listed unpacksOf unpackOf judgedFrame isGiven within checksumOf packed bodyOf summedOf headOf rxOf
 littleNanos-cuts = (refl, refl)
 
-pub bigNanos-cuts : (map (foundBy source bigNanos) few ≡ fewer) × (map (leftAt bigNanos) few ≡ fewer)
-unfolding cut file tailLeft ofHandle closedIn framesLeft midFrame endsMid midIn midLeft leftFrom recordsLeft sent dataOf dataLeft outcome isPcap isBig isLittle isNano number linkOf isLink endsWell read tailOffset records recordsIn chop chopFrom isWhole recordSize be32 be64 le16 le32 eqK filePieces packetsIn packets packetOf directedPacket milliseconds timeOf fragment h4Packet pdus run after of joined isComplete stillOpen pduOf completed commandSize isCommand commands body signalOf signalsIn pduSignals signals any names named asksFor admits admittedAfter admitted isTried asksRfcomm asksSession isSabm isUih shortLength infoLength infoStart creditOf isRight fcsOf register shifted shiftOne frameOf uihKind frameKind kindBy triedBy judgedFrom judgedBy counted pieceOf brought pieces seek spansN restN spansOf restOf capped spans unfinished onDlci count nub mem onChannel first hasFrame chosen isWrong wrongOn listed unpacksOf unpackOf judgedFrame isGiven within checksumOf packed bodyOf summedOf headOf rxOf
+pub bigNanos-cuts : (map (foundBy (unchecked source) bigNanos) few ≡ fewer) × (map (leftAt (unchecked source) bigNanos) few ≡ fewer)
+unfolding cut file tailLeft ofHandle closedIn framesLeft midFrame endsMid midIn midLeft wrongLeft judgedIn withMarks markedPdus pdusIn leftFrom recordsLeft sent dataOf dataLeft outcome isPcap isBig isLittle isNano number linkOf isLink endsWell read tailOffset records recordsIn chop chopFrom isWhole recordSize be32 be64 le16 le32 eqK filePieces packetsIn packets packetOf directedPacket milliseconds timeOf fragment h4Packet pdus run after of joined isComplete stillOpen pduOf completed commandSize isCommand commands body signalOf signalsIn pduSignals signals any names named asksFor admits admittedAfter admitted isTried asksRfcomm asksSession isSabm isUih shortLength infoLength infoStart creditOf isRight fcsOf register shifted shiftOne frameOf uihKind frameKind kindBy triedBy judgedFrom judgedBy counted pieceOf brought pieces seek spansN restN spansOf restOf capped spans unfinished onDlci count nub mem onChannel first hasFrame chosen isWrong wrongOn listed unpacksOf unpackOf judgedFrame isGiven within checksumOf packed bodyOf summedOf headOf rxOf
 bigNanos-cuts = (refl, refl)
