@@ -25,13 +25,15 @@ use Rattle.channels.specs.Channels.{any, names, named, asksFor, admits, admitte
 use Rattle.channels.specs.Tried.{source, triedBy}
 use Rattle.uih.specs.Fcs.{shiftOne, shifted, register, fcsOf}
 use Rattle.uih.specs.Frames.{isSabm, isUih, shortLength, infoLength, infoStart, creditOf, frameOf, isRight}
-use Rattle.rfcomm.specs.Pieces.{uihKind, frameKind, kindBy, judgedFrom, judgedBy, counted, pieceOf, brought, pieces, isWrong, wrongOn}
+use Rattle.rfcomm.specs.Pieces.{unchecked, uihKind, frameKind, kindBy, judgedFrom, judgedBy, counted, pieceOf, brought, pieces, isWrong, wrongOn}
 use Rattle.search.specs.Seek.{seek}
 use Rattle.spans.specs.Scan.{spansN, restN, spansOf, restOf, capped}
 use Rattle.spans.specs.Spans.{spans, unfinished, onDlci}
-use Rattle.outcome.specs.Import.{found, onChannel, first, hasFrame, chosen, listed, filePieces, read, endsWell, outcome, strict, bySource}
+use Rattle.outcome.specs.Import.{onChannel, first, hasFrame, chosen, listed, filePieces, read, endsWell, outcome, strict, bySource}
+use Rattle.outcome.proofs.Examples.{finds}
 use Rattle.cut.specs.Left.{leftFrom, recordsLeft, tailLeft, sent, dataOf, dataLeft, closedIn, ofHandle, framesLeft, midFrame, endsMid, midIn, midLeft}
 use Rattle.cut.specs.Honest.{pdusIn, markedPdus, withMarks, judgedIn, isDataOf, toData, afterData, adds, carriesOn, Honest}
+use Rattle.cut.specs.Claim.{wrongLeft}
 use mathlib.Core.Logic.{_≢_}
 use native.Mathlib.Omega.{arith}
 use lib.ListN.{take, drop}
@@ -41,7 +43,7 @@ use Rattle.mdr.specs.Escaping.{Quiet}
 use Rattle.mdr.proofs.Wire.{packed-framed}
 use Rattle.cut.specs.Recording.{Frame, wire, RecordingOf, file, cut}
 use Rattle.cut.proofs.PlainWires.{plainWires}
-use Rattle.cut.proofs.Tests.{plainChecked, isPlain, every, once, ends, headerTest, wholeTest, smallTest, dlciTest, dynamicTest, channelTest, channelsTest, informationTest, sizesTest, beginningsTest, settledIn, settledTest, aloneIn, aloneTest, handlesTest, dataTest, markTest, fragmentsTest, rules, passed-all, honest}
+use Rattle.cut.proofs.Tests.{plainChecked, isPlain, every, once, ends, headerTest, wholeTest, smallTest, dlciTest, dynamicTest, channelTest, channelsTest, rightTest, checksTest, informationTest, sizesTest, beginningsTest, settledIn, settledTest, aloneIn, aloneTest, handlesTest, dataTest, markTest, fragmentsTest, rules, passed-all, honest}
 use Rattle.cut.proofs.Made.{headerOf, sends, starts, ends-with, each}
 
 -- type 3E, sequence number 0, no payload, sum 3E
@@ -66,13 +68,13 @@ sent-bare = record {
   links = record { handle = 0x40; cid = each 0x41 0x52; frames = each (bare ∷ bare ∷ []) []; partial = each [] [] } ∷ [];
 }
 
-bare-tested : rules source plainChecked (λ l t. bare) sent-bare ≡ passed-all
-unfolding rules every once ends headerTest wholeTest smallTest dlciTest dynamicTest channelTest channelsTest informationTest sizesTest beginningsTest settledIn settledTest aloneIn aloneTest handlesTest dataTest markTest fragmentsTest leftFrom recordsLeft sent dataOf dataLeft pdusIn markedPdus withMarks judgedIn isDataOf toData afterData adds carriesOn file isBtsnoop datalink isDatalink eqK recordSize be32 be64 le16 packetsIn packets packetOf milliseconds fragment h4Packet hciPacket monitorPacket pdus run after of joined isComplete stillOpen pduOf completed commandSize isCommand commands chop chopFrom body signalOf signalsIn pduSignals signals any names named asksFor admits admittedAfter admitted isTried asksRfcomm asksSession isSabm isUih shortLength infoLength infoStart creditOf isRight fcsOf register shifted shiftOne frameOf uihKind frameKind kindBy triedBy judgedFrom judgedBy rxOf packed bodyOf summedOf headOf checksumOf within isPlain unpacksOf unpackOf judgedFrame isGiven
+bare-tested : rules (unchecked source) plainChecked (λ l t. bare) sent-bare ≡ passed-all
+unfolding rules every once ends headerTest wholeTest smallTest dlciTest dynamicTest channelTest channelsTest informationTest sizesTest beginningsTest settledIn settledTest aloneIn aloneTest handlesTest dataTest markTest fragmentsTest leftFrom recordsLeft sent dataOf dataLeft pdusIn markedPdus withMarks judgedIn isDataOf toData afterData adds carriesOn file isBtsnoop datalink isDatalink eqK recordSize be32 be64 le16 packetsIn packets packetOf milliseconds fragment h4Packet hciPacket monitorPacket pdus run after of joined isComplete stillOpen pduOf completed commandSize isCommand commands chop chopFrom body signalOf signalsIn pduSignals signals any names named asksFor admits admittedAfter admitted isTried asksRfcomm asksSession isSabm isUih shortLength infoLength infoStart creditOf isRight fcsOf register shifted shiftOne frameOf uihKind frameKind kindBy triedBy judgedFrom judgedBy rxOf packed bodyOf summedOf headOf checksumOf within isPlain unpacksOf unpackOf judgedFrame isGiven rightTest checksTest
 bare-tested = refl
 
-pub bare-honest : Honest source sent-bare
-bare-honest = honest lawful source plainChecked (λ l t. bare) sent-bare bare-tested
+pub bare-honest : Honest (unchecked source) sent-bare
+bare-honest = honest lawful (unchecked source) plainChecked (λ l t. bare) sent-bare bare-tested
 
-pub bare-found : outcome btsnoop (file sent-bare) (bySource (some 9) strict) ≡ found 18 (span 1 5 bare ∷ span 1 6 bare ∷ []) 0 174
-unfolding cut file tailLeft ofHandle closedIn framesLeft midFrame endsMid midIn midLeft leftFrom recordsLeft sent dataOf dataLeft outcome isBtsnoop datalink isDatalink endsWell read tailOffset records recordsIn chop chopFrom isWhole recordSize be32 be64 le16 eqK filePieces packetsIn packets packetOf milliseconds fragment h4Packet hciPacket monitorPacket pdus run after of joined isComplete stillOpen pduOf completed commandSize isCommand commands body signalOf signalsIn pduSignals signals any names named asksFor admits admittedAfter admitted isTried asksRfcomm asksSession isSabm isUih shortLength infoLength infoStart creditOf isRight fcsOf register shifted shiftOne frameOf uihKind frameKind kindBy triedBy judgedFrom judgedBy counted pieceOf brought pieces seek spansN restN spansOf restOf capped spans unfinished onDlci count nub mem onChannel first hasFrame chosen isWrong wrongOn listed unpacksOf unpackOf judgedFrame isGiven within checksumOf packed bodyOf summedOf headOf rxOf
+pub bare-found : outcome btsnoop (file sent-bare) (bySource (some 9) strict) ≡ finds 18 (span 1 5 bare ∷ span 1 6 bare ∷ []) 0 174
+unfolding cut file tailLeft ofHandle closedIn framesLeft midFrame endsMid midIn midLeft leftFrom recordsLeft sent dataOf dataLeft outcome isBtsnoop datalink isDatalink endsWell read tailOffset records recordsIn chop chopFrom isWhole recordSize be32 be64 le16 eqK filePieces packetsIn packets packetOf milliseconds fragment h4Packet hciPacket monitorPacket pdus run after of joined isComplete stillOpen pduOf completed commandSize isCommand commands body signalOf signalsIn pduSignals signals any names named asksFor admits admittedAfter admitted isTried asksRfcomm asksSession isSabm isUih shortLength infoLength infoStart creditOf isRight fcsOf register shifted shiftOne frameOf uihKind frameKind kindBy triedBy judgedFrom judgedBy counted pieceOf brought pieces seek spansN restN spansOf restOf capped spans unfinished onDlci count nub mem onChannel first hasFrame chosen isWrong wrongOn listed unpacksOf unpackOf judgedFrame isGiven within checksumOf packed bodyOf summedOf headOf rxOf wrongLeft judgedIn withMarks markedPdus pdusIn
 bare-found = refl

@@ -1,11 +1,11 @@
--- By the source's rule a PDU's place does not matter: the rules on judged PDUs read as they do by its value and the signals of the records.
+-- By the source's rule, and with FCS unchecked, a PDU's place does not matter: the rules on judged PDUs read as they do by its value and the signals of the records.
 use Prim.Native.Nat.{ℕ, zero, suc, _*_, _/_, _≤_}
 use mathlib.Core.Path.{_≡_, refl, sym, _∙_}
 use mathlib.Core.Bool.{true, false, cond}
 use mathlib.Core.List.{List, [], _∷_, _++_, map}
 use mathlib.Core.Option.{Option, some}
 use lib.ListN.{length, drop}
-use Rattle.laws.proofs.Choice.{splitB}
+use Rattle.laws.proofs.Choice.{splitB, no-way}
 use Rattle.laws.specs.Lists.{flat, All, all-nil, all-cons}
 use Rattle.laws.specs.Answers.{Answer, Meets}
 use Rattle.laws.specs.Keys.{Key}
@@ -14,8 +14,8 @@ use Rattle.items.specs.declared.Direction.{Direction}
 use Rattle.container.specs.Container.{Container, Lawful}
 use Rattle.l2cap.specs.Pdus.{Pdu}
 use Rattle.channels.specs.Signals.{signals}
-use Rattle.channels.specs.Tried.{ChannelRule, source, triedBy}
-use Rattle.rfcomm.specs.Pieces.{Kind, kindBy, kindOf, judgedFrom}
+use Rattle.channels.specs.Tried.{source, triedBy}
+use Rattle.rfcomm.specs.Pieces.{Kind, frameKind, Judging, unchecked, kindBy, kindOf, judgedFrom}
 use Rattle.outcome.specs.Import.{Tail, tolerant, bySource, imported}
 use Rattle.cut.specs.Recording.{Framing, LinkOf, free, Record, RecordingOf, Recording, file, cut}
 use Rattle.cut.specs.Left.{recordsLeft, Sent, sentIn, linkKey, informationOf, dataOf, wires}
@@ -26,7 +26,7 @@ use Rattle.cut.proofs.Theorem.{cut-claim}
 
 -- what a PDU is by the signals of some records
 unfoldable pub kindIn : {C : Container} {S : Framing} → RecordingOf C S → List Record → Pdu → Kind
-kindIn R rs p = kindOf (signals (pdusIn R rs)) p
+kindIn R rs p = kindOf false (signals (pdusIn R rs)) p
 
 -- the PDUs that records after the one with a handle's first data fragment complete, from what is open before
 unfoldable pub laterPdus : ℕ → (Key → Option (List ℕ)) → List Sent → List MarkedPdu
@@ -73,15 +73,15 @@ module _ {C : Container} {S : Framing} (R : RecordingOf C S) (rs : List Record) 
   abbrev valued : MarkedPdu → JudgedPdu
   valued q = record { pdu = q .pdu; kind = kindIn R rs (q .pdu); mark = q .mark }
 
-  at-value : (ps : List Pdu) (qs : List MarkedPdu) → judgedAt source (pdusIn R rs) ps qs ≡ map valued qs
+  at-value : (ps : List Pdu) (qs : List MarkedPdu) → judgedAt (unchecked source) (pdusIn R rs) ps qs ≡ map valued qs
   unfolding withMarks judgedFrom kindBy triedBy kindIn kindOf
   at-value ps [] = refl
   at-value ps (q ∷ qs) = rw (at-value (ps ++ (q .pdu ∷ [])) qs)
 
-  pub in-value : judgedIn source R rs ≡ map valued (markedPdus (sentIn R rs))
-  in-value = in-at source R rs ∙ at-value [] (markedPdus (sentIn R rs))
+  pub in-value : judgedIn (unchecked source) R rs ≡ map valued (markedPdus (sentIn R rs))
+  in-value = in-at (unchecked source) R rs ∙ at-value [] (markedPdus (sentIn R rs))
 
-  pub after-value : (h : ℕ) → afterData source R rs h ≡ map valued (laterPdus h nothingOpen (sentIn R rs))
+  pub after-value : (h : ℕ) → afterData (unchecked source) R rs h ≡ map valued (laterPdus h nothingOpen (sentIn R rs))
   unfolding afterData markedPdus
   after-value h = rw (in-value, drop-map valued (length (markedPdus (toData h (sentIn R rs)))) (markedPdus (sentIn R rs)), later-is h nothingOpen (sentIn R rs))
 
@@ -94,16 +94,16 @@ unmapped f [] w = all-nil
 unmapped f (x ∷ l) (all-cons p ps) = all-cons p (unmapped f l ps)
 
 -- by any rule the PDUs after a handle's first data fragment are these
-pub after-marked : {C : Container} {S : Framing} (rule : ChannelRule) (R : RecordingOf C S) (rs : List Record) (h : ℕ) → markedOf (afterData rule R rs h) ≡ laterPdus h nothingOpen (sentIn R rs)
+pub after-marked : {C : Container} {S : Framing} (by : Judging) (R : RecordingOf C S) (rs : List Record) (h : ℕ) → markedOf (afterData by R rs h) ≡ laterPdus h nothingOpen (sentIn R rs)
 unfolding afterData markedPdus
-after-marked rule R rs h =
+after-marked by R rs h =
     let k : ℕ = length (markedPdus (toData h (sentIn R rs))) in
-    sym (drop-map (λ j. record { pdu = j .pdu; mark = j .mark }) k (judgedIn rule R rs)) ∙ rw (in-marked rule R rs) (later-is h nothingOpen (sentIn R rs))
+    sym (drop-map (λ j. record { pdu = j .pdu; mark = j .mark }) k (judgedIn by R rs)) ∙ rw (in-marked by R rs) (later-is h nothingOpen (sentIn R rs))
 
 -- ---- the same rules, and the same claim
 
 module _ {C : Container} {S : Framing} (R : RecordingOf C S) where
-  pub by-value : HonestByValue R → Honest source R
+  pub by-value : HonestByValue R → Honest (unchecked source) R
   by-value H = record {
     header = H .header;
     whole = H .whole;
@@ -113,6 +113,7 @@ module _ {C : Container} {S : Framing} (R : RecordingOf C S) where
     dynamic = H .dynamic;
     channels = by-source (H .channels);
     fragments = H .fragments;
+    checks = λ e. no-way e refl;
     information = H .information;
     sizes = H .sizes;
     beginnings = H .beginnings;
@@ -123,7 +124,7 @@ module _ {C : Container} {S : Framing} (R : RecordingOf C S) where
 of-source : {C : Container} {S : Framing} {R : RecordingOf C S} → Channels R source → All (λ (l : LinkOf S). (t : Direction) → Channel R l t) (R .links)
 of-source (by-source cs) = cs
 
-pub to-value : {C : Container} {S : Framing} (R : RecordingOf C S) → Honest source R → HonestByValue R
+pub to-value : {C : Container} {S : Framing} (R : RecordingOf C S) → Honest (unchecked source) R → HonestByValue R
 to-value R H = record {
   header = H .header;
   whole = H .whole;
@@ -144,5 +145,5 @@ pub claim-by-value :
     {C : Container} → Lawful C → (lent : List ℕ) (work : ℕ) (channel : Option ℕ) (tail : Tail) (out : List ℕ) (a : Answer) (out′ : List ℕ) → Meets (imported C lent work (bySource channel tail)) out a out′ →
     (R : Recording C) → HonestByValue R → (n : ℕ) → C .head ≤ n → n ≤ length (file R) →
     lent ≡ cut R n → channel ≡ some (R .d / 2) → tail ≡ tolerant → 8 * n ≤ work → length (listLeft R n) ≤ length out →
-    AsLeft R n out a out′
+    AsLeft (unchecked source) R n out a out′
 claim-by-value L lent work channel tail out a out′ m R H = cut-claim L lent work (bySource channel tail) out a out′ m R (by-value R H)

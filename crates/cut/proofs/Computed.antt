@@ -23,19 +23,20 @@ use Rattle.btsnoop.specs.Packets.{milliseconds, hciPacket, monitorPacket, packe
 use Rattle.l2cap.specs.Pdus.{joined, isComplete, stillOpen, pduOf, completed, pdus}
 use Rattle.channels.specs.Signals.{commandSize, isCommand, commands, body, signalOf, signalsIn, pduSignals, signals}
 use Rattle.channels.specs.Channels.{any, names, named, asksFor, admits, admittedAfter, admitted, isTried, asksRfcomm, asksSession}
-use Rattle.channels.specs.Tried.{ChannelRule, source, triedBy}
+use Rattle.channels.specs.Tried.{source, triedBy}
 use Rattle.uih.specs.Fcs.{shiftOne, shifted, register, fcsOf}
 use Rattle.uih.specs.Frames.{isSabm, isUih, shortLength, infoLength, infoStart, creditOf, frameOf, isRight}
-use Rattle.rfcomm.specs.Pieces.{uihKind, frameKind, kindBy, judgedFrom, judgedBy, counted, pieceOf, brought, pieces, isWrong, wrongOn}
+use Rattle.rfcomm.specs.Pieces.{uihKind, frameKind, Judging, unchecked, kindBy, judgedFrom, judgedBy, counted, pieceOf, brought, pieces, isWrong, wrongOn}
 use Rattle.search.specs.Seek.{seek}
 use Rattle.spans.specs.Scan.{spansN, restN, spansOf, restOf, capped}
 use Rattle.spans.specs.Spans.{spans, unfinished, onDlci}
 use Rattle.outcome.specs.Import.{Found, found, missing, tolerant, onChannel, first, hasFrame, chosen, listed, filePieces, read, endsWell, outcome}
-use Rattle.outcome.proofs.Examples.{sample}
+use Rattle.outcome.proofs.Examples.{sample, finds}
 use Rattle.cut.specs.Recording.{Recording, file, cut}
 use Rattle.cut.specs.Left.{leftFrom, recordsLeft, tailLeft, sent, dataOf, dataLeft, closedIn, ofHandle, framesLeft, midFrame, endsMid, midIn, midLeft}
 use Rattle.cut.specs.Honest.{pdusIn, markedPdus, withMarks, judgedIn, isDataOf, toData, afterData, adds, carriesOn, Honest}
-use Rattle.cut.proofs.Tests.{packedChecked, every, once, ends, headerTest, wholeTest, smallTest, dlciTest, dynamicTest, channelTest, channelsTest, informationTest, sizesTest, beginningsTest, settledIn, settledTest, aloneIn, aloneTest, handlesTest, dataTest, markTest, fragmentsTest, rules, passed-all, honest}
+use Rattle.cut.specs.Claim.{wrongLeft}
+use Rattle.cut.proofs.Tests.{packedChecked, every, once, ends, headerTest, wholeTest, smallTest, dlciTest, dynamicTest, channelTest, channelsTest, rightTest, checksTest, informationTest, sizesTest, beginningsTest, settledIn, settledTest, aloneIn, aloneTest, handlesTest, dataTest, markTest, fragmentsTest, rules, passed-all, honest}
 use Rattle.cut.proofs.Recordings.{unended, example, busy, badHeader, notWhole, sameHandles, lowCid, namedChannel, admittedLate, falseMark, noStart, between, early, otherFrames, noBeginning, newLink, newSession, otherData, otherDlci, onlyCut}
 
 -- ---- honest
@@ -44,15 +45,15 @@ pub example-file : file example ≡ sample
 unfolding file
 example-file = refl
 
--- the rules of honesty by a channel rule, tested
-abbrev pub testedBy : {C : Container} → ChannelRule → Recording C → List Bool
-testedBy rule R = rules rule packedChecked (λ l t. unended) R
+-- the rules of honesty, tested
+abbrev pub testedBy : {C : Container} → Judging → Recording C → List Bool
+testedBy by R = rules by packedChecked (λ l t. unended) R
 
 abbrev tested : {C : Container} → Recording C → List Bool
-tested R = testedBy source R
+tested R = testedBy (unchecked source) R
 
 pub data Rule : Type 0 where
-  header whole small handles dlci dynamic channels fragments information sizes beginnings settled alone : Rule
+  header whole small handles dlci dynamic channels fragments checks information sizes beginnings settled alone : Rule
 
 -- its place among the tests
 abbrev pub place : Rule → ℕ
@@ -64,11 +65,12 @@ place dlci = 4
 place dynamic = 5
 place channels = 6
 place fragments = 7
-place information = 8
-place sizes = 9
-place beginnings = 10
-place settled = 11
-place alone = 12
+place checks = 8
+place information = 9
+place sizes = 10
+place beginnings = 11
+place settled = 12
+place alone = 13
 
 -- all are passed but one
 abbrev pub but : Rule → List Bool
@@ -83,33 +85,33 @@ pub all-tested :
     (tested example ≡ passed-all) × (tested busy ≡ passed-all) × (tested badHeader ≡ but header) × (tested notWhole ≡ but whole) × (tested sameHandles ≡ but handles) × (tested lowCid ≡ but dynamic) ×
     (tested namedChannel ≡ but channels) × (tested admittedLate ≡ but channels) × (tested falseMark ≡ but fragments) × (tested noStart ≡ but fragments) × (tested between ≡ but fragments) × (tested early ≡ but fragments) × (tested otherFrames ≡ but information) × (tested noBeginning ≡ but beginnings) ×
     (tested newLink ≡ but settled) × (tested newSession ≡ but settled) × (tested otherData ≡ but alone) × (tested otherDlci ≡ but alone) × (tested onlyCut ≡ but alone)
-unfolding rules every once ends headerTest wholeTest smallTest dlciTest dynamicTest channelTest channelsTest informationTest sizesTest beginningsTest settledIn settledTest aloneIn aloneTest handlesTest dataTest markTest fragmentsTest leftFrom recordsLeft sent dataOf dataLeft pdusIn markedPdus withMarks judgedIn isDataOf toData afterData adds carriesOn file isBtsnoop datalink isDatalink eqK recordSize be32 be64 le16 packetsIn packets packetOf milliseconds fragment h4Packet hciPacket monitorPacket pdus run after of joined isComplete stillOpen pduOf completed commandSize isCommand commands chop chopFrom body signalOf signalsIn pduSignals signals any names named asksFor admits admittedAfter admitted isTried asksRfcomm asksSession isSabm isUih shortLength infoLength infoStart creditOf isRight fcsOf register shifted shiftOne frameOf uihKind frameKind kindBy triedBy judgedFrom judgedBy rxOf packed bodyOf summedOf headOf checksumOf within
+unfolding rules every once ends headerTest wholeTest smallTest dlciTest dynamicTest channelTest channelsTest informationTest sizesTest beginningsTest settledIn settledTest aloneIn aloneTest handlesTest dataTest markTest fragmentsTest leftFrom recordsLeft sent dataOf dataLeft pdusIn markedPdus withMarks judgedIn isDataOf toData afterData adds carriesOn file isBtsnoop datalink isDatalink eqK recordSize be32 be64 le16 packetsIn packets packetOf milliseconds fragment h4Packet hciPacket monitorPacket pdus run after of joined isComplete stillOpen pduOf completed commandSize isCommand commands chop chopFrom body signalOf signalsIn pduSignals signals any names named asksFor admits admittedAfter admitted isTried asksRfcomm asksSession isSabm isUih shortLength infoLength infoStart creditOf isRight fcsOf register shifted shiftOne frameOf uihKind frameKind kindBy triedBy judgedFrom judgedBy rxOf packed bodyOf summedOf headOf checksumOf within rightTest checksTest
 all-tested = (refl, refl, refl, refl, refl, refl, refl, refl, refl, refl, refl, refl, refl, refl, refl, refl, refl, refl, refl)
 
 -- two of them break their rule in a cut only: by the whole file they pass
-pub broken-in-a-cut : (settledIn newSession source (newSession .records) 0x40 ≡ true) × (aloneIn onlyCut source (onlyCut .records) ≡ true)
-unfolding rules every once ends headerTest wholeTest smallTest dlciTest dynamicTest channelTest channelsTest informationTest sizesTest beginningsTest settledIn settledTest aloneIn aloneTest handlesTest dataTest markTest fragmentsTest leftFrom recordsLeft sent dataOf dataLeft pdusIn markedPdus withMarks judgedIn isDataOf toData afterData adds carriesOn file isBtsnoop datalink isDatalink eqK recordSize be32 be64 le16 packetsIn packets packetOf milliseconds fragment h4Packet hciPacket monitorPacket pdus run after of joined isComplete stillOpen pduOf completed commandSize isCommand commands chop chopFrom body signalOf signalsIn pduSignals signals any names named asksFor admits admittedAfter admitted isTried asksRfcomm asksSession isSabm isUih shortLength infoLength infoStart creditOf isRight fcsOf register shifted shiftOne frameOf uihKind frameKind kindBy triedBy judgedFrom judgedBy rxOf packed bodyOf summedOf headOf checksumOf within
+pub broken-in-a-cut : (settledIn newSession (unchecked source) (newSession .records) 0x40 ≡ true) × (aloneIn onlyCut (unchecked source) (onlyCut .records) ≡ true)
+unfolding rules every once ends headerTest wholeTest smallTest dlciTest dynamicTest channelTest channelsTest informationTest sizesTest beginningsTest settledIn settledTest aloneIn aloneTest handlesTest dataTest markTest fragmentsTest leftFrom recordsLeft sent dataOf dataLeft pdusIn markedPdus withMarks judgedIn isDataOf toData afterData adds carriesOn file isBtsnoop datalink isDatalink eqK recordSize be32 be64 le16 packetsIn packets packetOf milliseconds fragment h4Packet hciPacket monitorPacket pdus run after of joined isComplete stillOpen pduOf completed commandSize isCommand commands chop chopFrom body signalOf signalsIn pduSignals signals any names named asksFor admits admittedAfter admitted isTried asksRfcomm asksSession isSabm isUih shortLength infoLength infoStart creditOf isRight fcsOf register shifted shiftOne frameOf uihKind frameKind kindBy triedBy judgedFrom judgedBy rxOf packed bodyOf summedOf headOf checksumOf within rightTest checksTest
 broken-in-a-cut = (refl, refl)
 
 -- so the claim is not empty
-pub example-honest : Honest source example
-example-honest = honest lawful source packedChecked (λ l t. unended) example (all-tested .0)
+pub example-honest : Honest (unchecked source) example
+example-honest = honest lawful (unchecked source) packedChecked (λ l t. unended) example (all-tested .0)
 
-pub busy-honest : Honest source busy
-busy-honest = honest lawful source packedChecked (λ l t. unended) busy (all-tested .1)
+pub busy-honest : Honest (unchecked source) busy
+busy-honest = honest lawful (unchecked source) packedChecked (λ l t. unended) busy (all-tested .1)
 
 -- ---- cuts
 
--- what tolerant import of a cut finds by a channel rule
-abbrev pub foundBy : {C : Container} → ChannelRule → Recording C → ℕ → Found
-foundBy {C} rule R n = outcome C (cut R n) (record { channel = some (R .d / 2); tail = tolerant; rule = rule })
+-- what tolerant import of a cut finds
+abbrev pub foundBy : {C : Container} → Judging → Recording C → ℕ → Found
+foundBy {C} by R n = outcome C (cut R n) (record { channel = some (R .d / 2); tail = tolerant; judging = by })
 
 -- what is left at n, in the form of what import finds
-abbrev pub leftAt : {C : Container} → Recording C → ℕ → Found
-leftAt R n = ofFrames (framesLeft R n) where
+abbrev pub leftAt : {C : Container} → Judging → Recording C → ℕ → Found
+leftAt by R n = ofFrames (framesLeft R n) where
   ofFrames : List Span → Found
   ofFrames [] = missing 6 []
-  ofFrames (s ∷ ss) = found (R .d) (s ∷ ss) (midLeft R n) (tailLeft R n)
+  ofFrames (s ∷ ss) = found (record { dlci = R .d; spans = s ∷ ss; unfinished = midLeft R n; tail = tailLeft R n; wrong = wrongLeft by R n })
 
 abbrev pub w₀ : List ℕ
 w₀ = 0x3E ∷ 0x01 ∷ 0x00 ∷ 0x00 ∷ 0x00 ∷ 0x00 ∷ 0x00 ∷ 0x01 ∷ 0x3C ∷ []
@@ -132,36 +134,36 @@ four = span 1 7 w₃ ∷ span 1 7 w₂ ∷ span 1 8 w₁ ∷ span 1 8 w₂ ∷ [
 
 abbrev answers : List Found
 answers =
-    found 18 (four ++ (span 0 10 w₀ ∷ [])) 2 628 ∷ found 18 (four ++ (span 0 10 w₀ ∷ [])) 1 587 ∷ found 18 four 0 386 ∷ found 18 (span 1 7 w₃ ∷ span 1 7 w₂ ∷ []) 0 337 ∷ missing 6 [] ∷ missing 6 [] ∷ []
+    finds 18 (four ++ (span 0 10 w₀ ∷ [])) 2 628 ∷ finds 18 (four ++ (span 0 10 w₀ ∷ [])) 1 587 ∷ finds 18 four 0 386 ∷ finds 18 (span 1 7 w₃ ∷ span 1 7 w₂ ∷ []) 0 337 ∷ missing 6 [] ∷ missing 6 [] ∷ []
 
--- import by the rule finds the first, the second is left
-abbrev pub DifferBy : {C : Container} → ChannelRule → Recording C → ℕ → Found → Found → Type 0
-DifferBy rule R n x y = (foundBy rule R n ≡ x) × (leftAt R n ≡ y)
+-- import finds the first, the second is left
+abbrev pub DifferBy : {C : Container} → Judging → Recording C → ℕ → Found → Found → Type 0
+DifferBy by R n x y = (foundBy by R n ≡ x) × (leftAt by R n ≡ y)
 
 abbrev Differ : {C : Container} → Recording C → ℕ → Found → Found → Type 0
-Differ R n x y = DifferBy source R n x y
+Differ R n x y = DifferBy (unchecked source) R n x y
 
 pub all-cuts :
     -- honest: import finds what is left
-    Differ example 62 (found 18 (span 1 0 w₀ ∷ []) 0 62) (found 18 (span 1 0 w₀ ∷ []) 0 62) × Differ example 61 (missing 6 []) (missing 6 []) ×
-    (map (foundBy source busy) cuts ≡ answers) × (map (leftAt busy) cuts ≡ answers) ×
+    Differ example 62 (finds 18 (span 1 0 w₀ ∷ []) 0 62) (finds 18 (span 1 0 w₀ ∷ []) 0 62) × Differ example 61 (missing 6 []) (missing 6 []) ×
+    (map (foundBy (unchecked source) busy) cuts ≡ answers) × (map (leftAt (unchecked source) busy) cuts ≡ answers) ×
     -- a rule is broken: it does not
-    Differ badHeader 62 (missing 3 []) (found 18 (span 1 5 w₀ ∷ []) 0 62) ×
-    Differ notWhole 88 (missing 6 []) (found 18 (span 1 5 w₀ ∷ []) 0 88) ×
-    Differ sameHandles 66 (found 18 (span 1 5 w₀ ∷ []) 1 66) (found 18 (span 1 5 w₀ ∷ []) 2 66) ×
-    Differ lowCid 62 (missing 6 []) (found 18 (span 1 5 w₀ ∷ []) 0 62) ×
-    Differ namedChannel 103 (missing 6 []) (found 18 (span 1 5 w₀ ∷ []) 0 103) ×
-    Differ admittedLate 144 (missing 6 []) (found 18 (span 1 5 w₀ ∷ []) 0 144) ×
-    Differ falseMark 62 (found 18 (span 1 5 w₀ ∷ []) 0 62) (found 18 (span 1 5 w₂ ∷ []) 0 62) ×
-    Differ noStart 62 (missing 6 []) (found 18 (span 1 5 w₀ ∷ []) 0 62) ×
-    Differ between 124 (missing 6 []) (found 18 (span 1 7 w₀ ∷ []) 0 124) ×
-    Differ early 92 (found 18 (span 1 5 w₀ ∷ []) 0 92) (found 18 (span 1 6 w₀ ∷ []) 0 92) ×
-    Differ otherFrames 62 (found 18 (span 1 5 w₀ ∷ []) 0 62) (found 18 (span 1 5 w₂ ∷ []) 0 62) ×
-    Differ noBeginning 65 (found 18 (span 1 5 w₀ ∷ span 1 5 (0x3E ∷ 0x00 ∷ 0x3C ∷ []) ∷ []) 0 65) (found 18 (span 1 5 w₀ ∷ []) 1 65) ×
-    Differ newLink 136 (missing 6 []) (found 18 (span 1 7 w₀ ∷ []) 0 136) ×
-    Differ newSession 136 (missing 6 []) (found 18 (span 1 7 w₀ ∷ []) 0 136) ×
-    Differ otherData 108 (found 18 (span 1 5 w₀ ∷ span 1 6 w₂ ∷ []) 0 108) (found 18 (span 1 5 w₀ ∷ []) 0 108) ×
-    Differ otherDlci 108 (found 19 (span 1 4 w₂ ∷ []) 0 108) (found 18 (span 1 5 w₀ ∷ []) 0 108) ×
-    Differ onlyCut 108 (found 18 (span 1 5 w₀ ∷ span 1 6 w₂ ∷ []) 0 108) (found 18 (span 1 5 w₀ ∷ []) 0 108)
-unfolding cut file tailLeft ofHandle closedIn framesLeft midFrame endsMid midIn midLeft leftFrom recordsLeft sent dataOf dataLeft outcome isBtsnoop datalink isDatalink endsWell read tailOffset records recordsIn chop chopFrom isWhole recordSize be32 be64 le16 eqK filePieces packetsIn packets packetOf milliseconds fragment h4Packet hciPacket monitorPacket pdus run after of joined isComplete stillOpen pduOf completed commandSize isCommand commands body signalOf signalsIn pduSignals signals any names named asksFor admits admittedAfter admitted isTried asksRfcomm asksSession isSabm isUih shortLength infoLength infoStart creditOf isRight fcsOf register shifted shiftOne frameOf uihKind frameKind kindBy triedBy judgedFrom judgedBy counted pieceOf brought pieces seek spansN restN spansOf restOf capped spans unfinished onDlci count nub mem onChannel first hasFrame chosen isWrong wrongOn listed unpacksOf unpackOf judgedFrame isGiven within checksumOf packed bodyOf summedOf headOf rxOf
+    Differ badHeader 62 (missing 3 []) (finds 18 (span 1 5 w₀ ∷ []) 0 62) ×
+    Differ notWhole 88 (missing 6 []) (finds 18 (span 1 5 w₀ ∷ []) 0 88) ×
+    Differ sameHandles 66 (finds 18 (span 1 5 w₀ ∷ []) 1 66) (finds 18 (span 1 5 w₀ ∷ []) 2 66) ×
+    Differ lowCid 62 (missing 6 []) (finds 18 (span 1 5 w₀ ∷ []) 0 62) ×
+    Differ namedChannel 103 (missing 6 []) (finds 18 (span 1 5 w₀ ∷ []) 0 103) ×
+    Differ admittedLate 144 (missing 6 []) (finds 18 (span 1 5 w₀ ∷ []) 0 144) ×
+    Differ falseMark 62 (finds 18 (span 1 5 w₀ ∷ []) 0 62) (finds 18 (span 1 5 w₂ ∷ []) 0 62) ×
+    Differ noStart 62 (missing 6 []) (finds 18 (span 1 5 w₀ ∷ []) 0 62) ×
+    Differ between 124 (missing 6 []) (finds 18 (span 1 7 w₀ ∷ []) 0 124) ×
+    Differ early 92 (finds 18 (span 1 5 w₀ ∷ []) 0 92) (finds 18 (span 1 6 w₀ ∷ []) 0 92) ×
+    Differ otherFrames 62 (finds 18 (span 1 5 w₀ ∷ []) 0 62) (finds 18 (span 1 5 w₂ ∷ []) 0 62) ×
+    Differ noBeginning 65 (finds 18 (span 1 5 w₀ ∷ span 1 5 (0x3E ∷ 0x00 ∷ 0x3C ∷ []) ∷ []) 0 65) (finds 18 (span 1 5 w₀ ∷ []) 1 65) ×
+    Differ newLink 136 (missing 6 []) (finds 18 (span 1 7 w₀ ∷ []) 0 136) ×
+    Differ newSession 136 (missing 6 []) (finds 18 (span 1 7 w₀ ∷ []) 0 136) ×
+    Differ otherData 108 (finds 18 (span 1 5 w₀ ∷ span 1 6 w₂ ∷ []) 0 108) (finds 18 (span 1 5 w₀ ∷ []) 0 108) ×
+    Differ otherDlci 108 (finds 19 (span 1 4 w₂ ∷ []) 0 108) (finds 18 (span 1 5 w₀ ∷ []) 0 108) ×
+    Differ onlyCut 108 (finds 18 (span 1 5 w₀ ∷ span 1 6 w₂ ∷ []) 0 108) (finds 18 (span 1 5 w₀ ∷ []) 0 108)
+unfolding cut file tailLeft ofHandle closedIn framesLeft midFrame endsMid midIn midLeft leftFrom recordsLeft sent dataOf dataLeft outcome isBtsnoop datalink isDatalink endsWell read tailOffset records recordsIn chop chopFrom isWhole recordSize be32 be64 le16 eqK filePieces packetsIn packets packetOf milliseconds fragment h4Packet hciPacket monitorPacket pdus run after of joined isComplete stillOpen pduOf completed commandSize isCommand commands body signalOf signalsIn pduSignals signals any names named asksFor admits admittedAfter admitted isTried asksRfcomm asksSession isSabm isUih shortLength infoLength infoStart creditOf isRight fcsOf register shifted shiftOne frameOf uihKind frameKind kindBy triedBy judgedFrom judgedBy counted pieceOf brought pieces seek spansN restN spansOf restOf capped spans unfinished onDlci count nub mem onChannel first hasFrame chosen isWrong wrongOn listed unpacksOf unpackOf judgedFrame isGiven within checksumOf packed bodyOf summedOf headOf rxOf wrongLeft judgedIn withMarks markedPdus pdusIn
 all-cuts = ((refl, refl), (refl, refl), refl, refl, (refl, refl), (refl, refl), (refl, refl), (refl, refl), (refl, refl), (refl, refl), (refl, refl), (refl, refl), (refl, refl), (refl, refl), (refl, refl), (refl, refl), (refl, refl), (refl, refl), (refl, refl), (refl, refl), (refl, refl))

@@ -14,7 +14,7 @@ use Rattle.channels.specs.Signals.{signals}
 use Rattle.channels.specs.Channels.{any, named, channelOf, asksSession}
 use Rattle.channels.specs.Core.{holds}
 use Rattle.channels.specs.Tried.{core, triedBy}
-use Rattle.rfcomm.specs.Pieces.{Kind, asks, opens, carries, passed, kindBy, judgedFrom}
+use Rattle.rfcomm.specs.Pieces.{Kind, passed, Judging, kindBy, judgedFrom}
 use Rattle.cut.specs.Recording.{Framing, Mark, free, RecordingOf}
 use Rattle.cut.specs.Left.{recordsLeft, Sent, sentIn}
 use Rattle.cut.specs.Honest.{pdusIn, MarkedPdu, pdusOf, marking, nothingOpen, markedPdus, JudgedPdu, withMarks, judgedIn, isDataOf, toData, afterData, adds, carriesOn}
@@ -24,14 +24,18 @@ use Rattle.cut.proofs.DataPdus.{sent-append, pdus-in, marked-append}
 use Rattle.cut.proofs.JudgedLists.{judgedAt, at-drop, in-at}
 use Rattle.cut.proofs.Verdicts.{named-front}
 
+-- by Bluetooth Core's rule, with FCS checked or not
+abbrev byCore : Bool → Judging
+byCore fcs = record { rule = core; fcs = fcs }
+
 -- each PDU judged when it is complete, after those before
-unfoldable pub nowFrom : List Pdu → List MarkedPdu → List JudgedPdu
-nowFrom ps [] = []
-nowFrom ps (q ∷ qs) = record { pdu = q .pdu; kind = kindBy core (ps ++ (q .pdu ∷ [])) (ps ++ (q .pdu ∷ [])) (q .pdu); mark = q .mark } ∷ nowFrom (ps ++ (q .pdu ∷ [])) qs
+unfoldable pub nowFrom : Bool → List Pdu → List MarkedPdu → List JudgedPdu
+nowFrom fcs ps [] = []
+nowFrom fcs ps (q ∷ qs) = record { pdu = q .pdu; kind = kindBy (byCore fcs) (ps ++ (q .pdu ∷ [])) (ps ++ (q .pdu ∷ [])) (q .pdu); mark = q .mark } ∷ nowFrom fcs (ps ++ (q .pdu ∷ [])) qs
 
 -- all PDUs of the file
-unfoldable pub judgedNow : {C : Container} {S : Framing} → RecordingOf C S → List JudgedPdu
-judgedNow R = nowFrom [] (markedPdus (sentIn R (R .records)))
+unfoldable pub judgedNow : Bool → {C : Container} {S : Framing} → RecordingOf C S → List JudgedPdu
+judgedNow fcs R = nowFrom fcs [] (markedPdus (sentIn R (R .records)))
 
 -- ---- what is tried in a cut is tried when it is complete
 
@@ -47,8 +51,8 @@ tried-now upTo rest p t =
     (λ c. splitB (named (signals (upTo ++ rest)) (channelOf p)) (λ d. no-way (rw (c, d) at h) refl) (λ d. rw (e, c, named-front (channelOf p) f d)))
     (λ c. no-way (rw c at h) refl))
 
-module _ (f : Kind → Bool) (fp : f passed ≡ false) where
-  kind-now : (upTo rest : List Pdu) (p : Pdu) → f (kindBy core upTo upTo p) ≡ false → f (kindBy core upTo (upTo ++ rest) p) ≡ false
+module _ (fcs : Bool) (f : Kind → Bool) (fp : f passed ≡ false) where
+  kind-now : (upTo rest : List Pdu) (p : Pdu) → f (kindBy (byCore fcs) upTo upTo p) ≡ false → f (kindBy (byCore fcs) upTo (upTo ++ rest) p) ≡ false
   unfolding kindBy
   kind-now upTo rest p h =
       splitB (asksSession p)
@@ -61,25 +65,25 @@ module _ (f : Kind → Bool) (fp : f passed ≡ false) where
     abbrev Rule : JudgedPdu → Type 0
     Rule q = C (q .pdu) (q .mark) → f (q .kind) ≡ false
 
-    all-now : (all ps : List Pdu) (qs : List MarkedPdu) → all ≡ ps ++ pdusOf qs → All Rule (nowFrom ps qs) → All Rule (judgedAt core all ps qs)
+    all-now : (all ps : List Pdu) (qs : List MarkedPdu) → all ≡ ps ++ pdusOf qs → All Rule (nowFrom fcs ps qs) → All Rule (judgedAt (byCore fcs) all ps qs)
     unfolding nowFrom withMarks judgedFrom
     all-now all ps [] e w = all-nil
     all-now all ps (q ∷ qs) e (all-cons h w) =
         let e′ : all ≡ (ps ++ (q .pdu ∷ [])) ++ pdusOf qs = e ∙ sym (append-assoc ps (q .pdu ∷ []) (pdusOf qs)) in
-        let k : C (q .pdu) (q .mark) → f (kindBy core (ps ++ (q .pdu ∷ [])) all (q .pdu)) ≡ false = λ c. rw e′ (kind-now (ps ++ (q .pdu ∷ [])) (pdusOf qs) (q .pdu) (h c)) in
+        let k : C (q .pdu) (q .mark) → f (kindBy (byCore fcs) (ps ++ (q .pdu ∷ [])) all (q .pdu)) ≡ false = λ c. rw e′ (kind-now (ps ++ (q .pdu ∷ [])) (pdusOf qs) (q .pdu) (h c)) in
         all-cons k (all-now all (ps ++ (q .pdu ∷ [])) qs e′ w)
 
 -- ---- lists in two parts
 
-now-drop : (ps : List Pdu) (xs ys : List MarkedPdu) → drop (length xs) (nowFrom ps (xs ++ ys)) ≡ nowFrom (ps ++ pdusOf xs) ys
+now-drop : (fcs : Bool) (ps : List Pdu) (xs ys : List MarkedPdu) → drop (length xs) (nowFrom fcs ps (xs ++ ys)) ≡ nowFrom fcs (ps ++ pdusOf xs) ys
 unfolding nowFrom
-now-drop ps [] ys = rw (append-nil ps)
-now-drop ps (q ∷ xs) ys = now-drop (ps ++ (q .pdu ∷ [])) xs ys ∙ rw (append-assoc ps (q .pdu ∷ []) (pdusOf xs))
+now-drop fcs ps [] ys = rw (append-nil ps)
+now-drop fcs ps (q ∷ xs) ys = now-drop fcs (ps ++ (q .pdu ∷ [])) xs ys ∙ rw (append-assoc ps (q .pdu ∷ []) (pdusOf xs))
 
-now-front : {P : JudgedPdu → Type 0} (ps : List Pdu) (xs ys : List MarkedPdu) → All P (nowFrom ps (xs ++ ys)) → All P (nowFrom ps xs)
+now-front : {P : JudgedPdu → Type 0} (fcs : Bool) (ps : List Pdu) (xs ys : List MarkedPdu) → All P (nowFrom fcs ps (xs ++ ys)) → All P (nowFrom fcs ps xs)
 unfolding nowFrom
-now-front ps [] ys w = all-nil
-now-front ps (q ∷ xs) ys (all-cons h w) = all-cons h (now-front (ps ++ (q .pdu ∷ [])) xs ys w)
+now-front fcs ps [] ys w = all-nil
+now-front fcs ps (q ∷ xs) ys (all-cons h w) = all-cons h (now-front fcs (ps ++ (q .pdu ∷ [])) xs ys w)
 
 to-part : (h : ℕ) (xs : List Sent) → Front (toData h xs) xs
 unfolding toData
@@ -112,7 +116,7 @@ carries-passed : (d : ℕ) → carriesOn d passed ≡ false
 unfolding carriesOn
 carries-passed d = refl
 
-module _ {C : Container} {S : Framing} (R : RecordingOf C S) (n : ℕ) where
+module _ (fcs : Bool) {C : Container} {S : Framing} (R : RecordingOf C S) (n : ℕ) where
   abbrev A : List Sent
   A = sentIn R (recordsLeft R n)
 
@@ -125,26 +129,26 @@ module _ {C : Container} {S : Framing} (R : RecordingOf C S) (n : ℕ) where
   marked-whole : markedPdus (sentIn R (R .records)) ≡ markedPdus A ++ run marking (after marking nothingOpen A) B
   marked-whole = ap markedPdus sent-whole ∙ marked-append A B
 
-  pub alone-closed : All (λ (q : JudgedPdu). q .mark ≡ free → carriesOn (R .d) (q .kind) ≡ false) (judgedNow R) → All (λ (q : JudgedPdu). q .mark ≡ free → carriesOn (R .d) (q .kind) ≡ false) (judgedIn core R (recordsLeft R n))
+  pub alone-closed : All (λ (q : JudgedPdu). q .mark ≡ free → carriesOn (R .d) (q .kind) ≡ false) (judgedNow fcs R) → All (λ (q : JudgedPdu). q .mark ≡ free → carriesOn (R .d) (q .kind) ≡ false) (judgedIn (byCore fcs) R (recordsLeft R n))
   unfolding judgedNow
   alone-closed w =
-      rw (in-at core R (recordsLeft R n))
-      (all-now (carriesOn (R .d)) (carries-passed (R .d)) (λ p m. m ≡ free) (pdusIn R (recordsLeft R n)) [] (markedPdus A) (pdus-in R (recordsLeft R n))
-      (now-front [] (markedPdus A) (run marking (after marking nothingOpen A) B) (rw marked-whole at w)))
+      rw (in-at (byCore fcs) R (recordsLeft R n))
+      (all-now fcs (carriesOn (R .d)) (carries-passed (R .d)) (λ p m. m ≡ free) (pdusIn R (recordsLeft R n)) [] (markedPdus A) (pdus-in R (recordsLeft R n))
+      (now-front fcs [] (markedPdus A) (run marking (after marking nothingOpen A) B) (rw marked-whole at w)))
 
   abbrev Settled : ℕ → JudgedPdu → Type 0
   Settled h q = q .pdu .link ≡ h → adds (R .d) (q .kind) ≡ false
 
   -- before the handle's first data fragment nothing comes after it
-  settled-none : (h : ℕ) → hasData h A ≡ false → All (Settled h) (afterData core R (recordsLeft R n) h)
+  settled-none : (h : ℕ) → hasData h A ≡ false → All (Settled h) (afterData (byCore fcs) R (recordsLeft R n) h)
   unfolding afterData withMarks judgedFrom
   settled-none h y =
       let Q : List MarkedPdu = markedPdus A in
-      let z : drop (length Q) (judgedIn core R (recordsLeft R n)) ≡ [] =
-      ap (drop (length Q)) (in-at core R (recordsLeft R n) ∙ ap (judgedAt core (pdusIn R (recordsLeft R n)) []) (sym (append-nil Q))) ∙ at-drop core (pdusIn R (recordsLeft R n)) [] Q [] in
+      let z : drop (length Q) (judgedIn (byCore fcs) R (recordsLeft R n)) ≡ [] =
+      ap (drop (length Q)) (in-at (byCore fcs) R (recordsLeft R n) ∙ ap (judgedAt (byCore fcs) (pdusIn R (recordsLeft R n)) []) (sym (append-nil Q))) ∙ at-drop (byCore fcs) (pdusIn R (recordsLeft R n)) [] Q [] in
       rw (to-no h A y, z) all-nil
 
-  settled-some : (h : ℕ) → hasData h A ≡ true → All (Settled h) (drop (length (markedPdus (toData h (sentIn R (R .records))))) (judgedNow R)) → All (Settled h) (afterData core R (recordsLeft R n) h)
+  settled-some : (h : ℕ) → hasData h A ≡ true → All (Settled h) (drop (length (markedPdus (toData h (sentIn R (R .records))))) (judgedNow fcs R)) → All (Settled h) (afterData (byCore fcs) R (recordsLeft R n) h)
   unfolding judgedNow afterData
   settled-some h y w =
       let f : Front (toData h A) A = to-part h A in
@@ -152,15 +156,15 @@ module _ {C : Container} {S : Framing} (R : RecordingOf C S) (n : ℕ) where
       let X : List MarkedPdu = run marking (after marking nothingOpen (toData h A)) (f .back) in
       let W : List MarkedPdu = run marking (after marking nothingOpen A) B in
       let s : markedPdus A ≡ U ++ X = ap markedPdus (f .whole) ∙ marked-append (toData h A) (f .back) in
-      let g : drop (length U) (judgedIn core R (recordsLeft R n)) ≡ judgedAt core (pdusIn R (recordsLeft R n)) (pdusOf U) X =
-      ap (drop (length U)) (in-at core R (recordsLeft R n) ∙ ap (judgedAt core (pdusIn R (recordsLeft R n)) []) s) ∙ at-drop core (pdusIn R (recordsLeft R n)) [] U X in
+      let g : drop (length U) (judgedIn (byCore fcs) R (recordsLeft R n)) ≡ judgedAt (byCore fcs) (pdusIn R (recordsLeft R n)) (pdusOf U) X =
+      ap (drop (length U)) (in-at (byCore fcs) R (recordsLeft R n) ∙ ap (judgedAt (byCore fcs) (pdusIn R (recordsLeft R n)) []) s) ∙ at-drop (byCore fcs) (pdusIn R (recordsLeft R n)) [] U X in
       let a : pdusIn R (recordsLeft R n) ≡ pdusOf U ++ pdusOf X = pdus-in R (recordsLeft R n) ∙ ap pdusOf s ∙ map-append (λ q. q .pdu) U X in
       let k : length (markedPdus (toData h (sentIn R (R .records)))) ≡ length U = ap (λ (l : List Sent). length (markedPdus l)) (ap (toData h) sent-whole ∙ to-yes h A B y) in
       let t : markedPdus (sentIn R (R .records)) ≡ U ++ (X ++ W) = marked-whole ∙ ap (λ (l : List MarkedPdu). l ++ W) s ∙ append-assoc U X W in
-      let e : drop (length (markedPdus (toData h (sentIn R (R .records))))) (nowFrom [] (markedPdus (sentIn R (R .records)))) ≡ nowFrom (pdusOf U) (X ++ W) =
-      ap (λ (m : ℕ). drop m (nowFrom [] (markedPdus (sentIn R (R .records))))) k ∙ ap (λ (l : List MarkedPdu). drop (length U) (nowFrom [] l)) t ∙ now-drop [] U (X ++ W) in
-      let z : All (Settled h) (nowFrom (pdusOf U) (X ++ W)) = rw e at w in
-      rw g (all-now (adds (R .d)) (adds-passed (R .d)) (λ p m. p .link ≡ h) (pdusIn R (recordsLeft R n)) (pdusOf U) X a (now-front (pdusOf U) X W z))
+      let e : drop (length (markedPdus (toData h (sentIn R (R .records))))) (nowFrom fcs [] (markedPdus (sentIn R (R .records)))) ≡ nowFrom fcs (pdusOf U) (X ++ W) =
+      ap (λ (m : ℕ). drop m (nowFrom fcs [] (markedPdus (sentIn R (R .records))))) k ∙ ap (λ (l : List MarkedPdu). drop (length U) (nowFrom fcs [] l)) t ∙ now-drop fcs [] U (X ++ W) in
+      let z : All (Settled h) (nowFrom fcs (pdusOf U) (X ++ W)) = rw e at w in
+      rw g (all-now fcs (adds (R .d)) (adds-passed (R .d)) (λ p m. p .link ≡ h) (pdusIn R (recordsLeft R n)) (pdusOf U) X a (now-front fcs (pdusOf U) X W z))
 
-  pub settled-closed : (h : ℕ) → All (Settled h) (drop (length (markedPdus (toData h (sentIn R (R .records))))) (judgedNow R)) → All (Settled h) (afterData core R (recordsLeft R n) h)
+  pub settled-closed : (h : ℕ) → All (Settled h) (drop (length (markedPdus (toData h (sentIn R (R .records))))) (judgedNow fcs R)) → All (Settled h) (afterData (byCore fcs) R (recordsLeft R n) h)
   settled-closed h w = splitB (hasData h A) (λ y. settled-some h y w) (λ y. settled-none h y)

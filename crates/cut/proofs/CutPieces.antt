@@ -14,7 +14,7 @@ use Rattle.laws.proofs.Keys.{splitK, eq-eqK, ne-eqK}
 use Rattle.laws.specs.Keyed.{step, run, after}
 use Rattle.mdr.proofs.Escaping.{all-append}
 use Rattle.l2cap.specs.Pdus.{Pdu}
-use Rattle.rfcomm.specs.Pieces.{Kind, asks, opens, carries, passed, Judged, Counts, counted, Piece, pieceOf, brought, counting}
+use Rattle.rfcomm.specs.Pieces.{Kind, asks, opens, carries, wrong, passed, Judged, Counts, counted, Piece, pieceOf, brought, counting}
 use Rattle.spans.specs.Spans.{onDlci}
 use Rattle.outcome.specs.Import.{onChannel, first}
 use Rattle.cut.specs.Recording.{free, last}
@@ -56,6 +56,7 @@ stays d c (opens (suc e)) h =
     let n : suc e ≢ d = eqb-false (suc e) d (or-false (eqb (suc e) 0) (eqb (suc e) d) h) in
     record { session = refl; link = rw (ne-eqb d (suc e) (λ q. n (sym q))) }
 stays d c (carries e i) h = same
+stays d c (wrong e) h = same
 stays d c passed h = same
 
 carries-none : (d e : ℕ) (i : List ℕ) → adds d (carries e i) ≡ false
@@ -74,6 +75,7 @@ unfolding onDlci brought carriesOn pieceOf
 other-piece d c p asks h = refl
 other-piece d c p (opens e) h = refl
 other-piece d c p (carries e i) h = rw (ne-eqb e d (λ q. eqb-false (e / 2) (d / 2) h (ap (λ (n : ℕ). n / 2) q)))
+other-piece d c p (wrong e) h = refl
 other-piece d c p passed h = refl
 
 -- the stretch of a link direction, by the counts of its handle
@@ -126,6 +128,7 @@ unfolding brought carriesOn pieceOf
 other-near d c p asks h = all-nil
 other-near d c p (opens e) h = all-nil
 other-near d c p (carries e i) h = all-cons (λ q. absurd (eqb-false (e / 2) (d / 2) h q)) all-nil
+other-near d c p (wrong e) h = all-nil
 other-near d c p passed h = all-nil
 
 data-near : (d : ℕ) (c : Counts) (p : Pdu) (k : Kind) (i : List ℕ) → k ≡ carries d i → All (Near d) (brought c p k)

@@ -26,15 +26,17 @@ use Rattle.channels.specs.Channels.{any, names, named, asksFor, admits, admitte
 use Rattle.channels.specs.Tried.{source, triedBy}
 use Rattle.uih.specs.Fcs.{shiftOne, shifted, register, fcsOf}
 use Rattle.uih.specs.Frames.{isSabm, isUih, shortLength, infoLength, infoStart, creditOf, frameOf, isRight}
-use Rattle.rfcomm.specs.Pieces.{uihKind, frameKind, kindBy, judgedFrom, judgedBy, counted, pieceOf, brought, pieces, isWrong, wrongOn}
+use Rattle.rfcomm.specs.Pieces.{unchecked, uihKind, frameKind, kindBy, judgedFrom, judgedBy, counted, pieceOf, brought, pieces, isWrong, wrongOn}
 use Rattle.search.specs.Seek.{seek}
 use Rattle.spans.specs.Scan.{spansN, restN, spansOf, restOf, capped}
 use Rattle.spans.specs.Spans.{spans, unfinished, onDlci}
-use Rattle.outcome.specs.Import.{Found, found, missing, onChannel, first, hasFrame, chosen, listed, filePieces, read, endsWell, outcome}
+use Rattle.outcome.specs.Import.{Found, missing, onChannel, first, hasFrame, chosen, listed, filePieces, read, endsWell, outcome}
+use Rattle.outcome.proofs.Examples.{finds}
 use Rattle.cut.specs.Recording.{wire, free, last, Recording, file, cut}
 use Rattle.cut.specs.Left.{leftFrom, recordsLeft, tailLeft, sent, dataOf, dataLeft, closedIn, ofHandle, framesLeft, midFrame, endsMid, midIn, midLeft}
 use Rattle.cut.specs.Honest.{pdusIn, markedPdus, withMarks, judgedIn, isDataOf, toData, afterData, adds, carriesOn, Honest}
-use Rattle.cut.proofs.Tests.{packedChecked, every, once, ends, headerTest, wholeTest, smallTest, dlciTest, dynamicTest, channelTest, channelsTest, informationTest, sizesTest, beginningsTest, settledIn, settledTest, aloneIn, aloneTest, handlesTest, dataTest, markTest, fragmentsTest, rules, passed-all, honest}
+use Rattle.cut.specs.Claim.{wrongLeft}
+use Rattle.cut.proofs.Tests.{packedChecked, every, once, ends, headerTest, wholeTest, smallTest, dlciTest, dynamicTest, channelTest, channelsTest, rightTest, checksTest, informationTest, sizesTest, beginningsTest, settledIn, settledTest, aloneIn, aloneTest, handlesTest, dataTest, markTest, fragmentsTest, rules, passed-all, honest}
 use Rattle.cut.proofs.Recordings.{ack, unended}
 use Rattle.cut.proofs.Made.{headerOf, stamped, acl, pdu, uihOn, each}
 use Rattle.cut.proofs.Computed.{testedBy, foundBy, leftAt, w₀}
@@ -67,15 +69,15 @@ hci = onDatalink 1001 1 0 3
 abbrev pub monitor : Recording btsnoop
 monitor = onDatalink 2001 5 4 6
 
-datalinks-tested : (testedBy source hci ≡ passed-all) × (testedBy source monitor ≡ passed-all)
-unfolding rules every once ends headerTest wholeTest smallTest dlciTest dynamicTest channelTest channelsTest informationTest sizesTest beginningsTest settledIn settledTest aloneIn aloneTest handlesTest dataTest markTest fragmentsTest leftFrom recordsLeft sent dataOf dataLeft pdusIn markedPdus withMarks judgedIn isDataOf toData afterData adds carriesOn file isBtsnoop datalink isDatalink eqK recordSize be32 be64 le16 packetsIn packets packetOf milliseconds fragment h4Packet hciPacket monitorPacket pdus run after of joined isComplete stillOpen pduOf completed commandSize isCommand commands chop chopFrom body signalOf signalsIn pduSignals signals any names named asksFor admits admittedAfter admitted isTried asksRfcomm asksSession isSabm isUih shortLength infoLength infoStart creditOf isRight fcsOf register shifted shiftOne frameOf uihKind frameKind kindBy triedBy judgedFrom judgedBy rxOf packed bodyOf summedOf headOf checksumOf within
+datalinks-tested : (testedBy (unchecked source) hci ≡ passed-all) × (testedBy (unchecked source) monitor ≡ passed-all)
+unfolding rules every once ends headerTest wholeTest smallTest dlciTest dynamicTest channelTest channelsTest informationTest sizesTest beginningsTest settledIn settledTest aloneIn aloneTest handlesTest dataTest markTest fragmentsTest leftFrom recordsLeft sent dataOf dataLeft pdusIn markedPdus withMarks judgedIn isDataOf toData afterData adds carriesOn file isBtsnoop datalink isDatalink eqK recordSize be32 be64 le16 packetsIn packets packetOf milliseconds fragment h4Packet hciPacket monitorPacket pdus run after of joined isComplete stillOpen pduOf completed commandSize isCommand commands chop chopFrom body signalOf signalsIn pduSignals signals any names named asksFor admits admittedAfter admitted isTried asksRfcomm asksSession isSabm isUih shortLength infoLength infoStart creditOf isRight fcsOf register shifted shiftOne frameOf uihKind frameKind kindBy triedBy judgedFrom judgedBy rxOf packed bodyOf summedOf headOf checksumOf within rightTest checksTest
 datalinks-tested = (refl, refl)
 
-pub hci-honest : Honest source hci
-hci-honest = honest lawful source packedChecked (λ l t. unended) hci (datalinks-tested .0)
+pub hci-honest : Honest (unchecked source) hci
+hci-honest = honest lawful (unchecked source) packedChecked (λ l t. unended) hci (datalinks-tested .0)
 
-pub monitor-honest : Honest source monitor
-monitor-honest = honest lawful source packedChecked (λ l t. unended) monitor (datalinks-tested .1)
+pub monitor-honest : Honest (unchecked source) monitor
+monitor-honest = honest lawful (unchecked source) packedChecked (λ l t. unended) monitor (datalinks-tested .1)
 
 -- whole; less one byte; within the second record; before the first frame is closed; nothing but the header
 abbrev cuts : List ℕ
@@ -85,11 +87,11 @@ abbrev both : List Span
 both = span 1 0 w₀ ∷ span 0 5 w₀ ∷ []
 
 abbrev answers : List Found
-answers = found 18 both 1 155 ∷ found 18 both 1 110 ∷ found 18 (span 1 0 w₀ ∷ []) 0 61 ∷ missing 6 [] ∷ missing 6 [] ∷ []
+answers = finds 18 both 1 155 ∷ finds 18 both 1 110 ∷ finds 18 (span 1 0 w₀ ∷ []) 0 61 ∷ missing 6 [] ∷ missing 6 [] ∷ []
 
 -- import finds what is left
 pub datalinks-cut :
-    (map (foundBy source hci) cuts ≡ answers) × (map (leftAt hci) cuts ≡ answers) ×
-    (map (foundBy source monitor) cuts ≡ answers) × (map (leftAt monitor) cuts ≡ answers)
-unfolding cut file tailLeft ofHandle closedIn framesLeft midFrame endsMid midIn midLeft leftFrom recordsLeft sent dataOf dataLeft outcome isBtsnoop datalink isDatalink endsWell read tailOffset records recordsIn chop chopFrom isWhole recordSize be32 be64 le16 eqK filePieces packetsIn packets packetOf milliseconds fragment h4Packet hciPacket monitorPacket pdus run after of joined isComplete stillOpen pduOf completed commandSize isCommand commands body signalOf signalsIn pduSignals signals any names named asksFor admits admittedAfter admitted isTried asksRfcomm asksSession isSabm isUih shortLength infoLength infoStart creditOf isRight fcsOf register shifted shiftOne frameOf uihKind frameKind kindBy triedBy judgedFrom judgedBy counted pieceOf brought pieces seek spansN restN spansOf restOf capped spans unfinished onDlci count nub mem onChannel first hasFrame chosen isWrong wrongOn listed unpacksOf unpackOf judgedFrame isGiven within checksumOf packed bodyOf summedOf headOf rxOf
+    (map (foundBy (unchecked source) hci) cuts ≡ answers) × (map (leftAt (unchecked source) hci) cuts ≡ answers) ×
+    (map (foundBy (unchecked source) monitor) cuts ≡ answers) × (map (leftAt (unchecked source) monitor) cuts ≡ answers)
+unfolding cut file tailLeft ofHandle closedIn framesLeft midFrame endsMid midIn midLeft leftFrom recordsLeft sent dataOf dataLeft outcome isBtsnoop datalink isDatalink endsWell read tailOffset records recordsIn chop chopFrom isWhole recordSize be32 be64 le16 eqK filePieces packetsIn packets packetOf milliseconds fragment h4Packet hciPacket monitorPacket pdus run after of joined isComplete stillOpen pduOf completed commandSize isCommand commands body signalOf signalsIn pduSignals signals any names named asksFor admits admittedAfter admitted isTried asksRfcomm asksSession isSabm isUih shortLength infoLength infoStart creditOf isRight fcsOf register shifted shiftOne frameOf uihKind frameKind kindBy triedBy judgedFrom judgedBy counted pieceOf brought pieces seek spansN restN spansOf restOf capped spans unfinished onDlci count nub mem onChannel first hasFrame chosen isWrong wrongOn listed unpacksOf unpackOf judgedFrame isGiven within checksumOf packed bodyOf summedOf headOf rxOf wrongLeft judgedIn withMarks markedPdus pdusIn
 datalinks-cut = (refl, refl, refl, refl)

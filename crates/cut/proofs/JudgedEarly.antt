@@ -24,11 +24,12 @@ use Rattle.channels.specs.Channels.{any, names, named, asksFor, admits, admitte
 use Rattle.channels.specs.Tried.{source, triedBy}
 use Rattle.uih.specs.Fcs.{shiftOne, shifted, register, fcsOf}
 use Rattle.uih.specs.Frames.{isSabm, isUih, shortLength, infoLength, infoStart, creditOf, frameOf, isRight}
-use Rattle.rfcomm.specs.Pieces.{Judged, Piece, uihKind, frameKind, kindBy, judgedFrom, judgedBy, counted, pieceOf, brought, pieces, isWrong, wrongOn}
+use Rattle.rfcomm.specs.Pieces.{unchecked, kinds, Judged, Piece, uihKind, frameKind, kindBy, judgedFrom, judgedBy, counted, pieceOf, brought, pieces, isWrong, wrongOn}
 use Rattle.search.specs.Seek.{seek}
 use Rattle.spans.specs.Scan.{spansN, restN, spansOf, restOf, capped}
 use Rattle.spans.specs.Spans.{spans, unfinished, onDlci}
-use Rattle.outcome.specs.Import.{Found, found, missing, onChannel, first, hasFrame, chosen, listed, filePieces, read, endsWell, outcome}
+use Rattle.outcome.specs.Import.{Found, missing, onChannel, first, hasFrame, chosen, listed, filePieces, read, endsWell, outcome}
+use Rattle.outcome.proofs.Examples.{finds}
 use Rattle.cut.specs.Recording.{Recording, file, cut}
 use Rattle.cut.proofs.Recordings.{admittedLate, onlyCut}
 use Rattle.cut.proofs.Computed.{foundBy, w₀, w₂}
@@ -36,19 +37,22 @@ use Rattle.cut.proofs.Computed.{foundBy, w₀, w₂}
 -- the wrong rule: each PDU by the commands up to it, as if the file ended there
 abbrev earlyFrom : List Pdu → List Pdu → List Judged
 earlyFrom before [] = []
-earlyFrom before (p ∷ ps) = (let upTo : List Pdu = before ++ (p ∷ []) in record { pdu = p; kind = kindBy source upTo upTo p } ∷ earlyFrom upTo ps)
+earlyFrom before (p ∷ ps) = (let upTo : List Pdu = before ++ (p ∷ []) in record { pdu = p; kind = kindBy (unchecked source) upTo upTo p } ∷ earlyFrom upTo ps)
+
+abbrev earlyJudged : Recording btsnoop → List Judged
+earlyJudged R = earlyFrom [] (pdus (packetsIn btsnoop (file R)))
 
 abbrev earlyPieces : Recording btsnoop → List Piece
-earlyPieces R = pieces (earlyFrom [] (pdus (packetsIn btsnoop (file R))))
+earlyPieces R = pieces (earlyJudged R)
 
 -- what import would find in the whole file by that rule
 abbrev foundEarly : Recording btsnoop → Found
-foundEarly R = listed (earlyPieces R) (tailOffset btsnoop (file R)) (chosen (some (R .d / 2)) (earlyPieces R))
+foundEarly R = listed (earlyPieces R) (λ d. wrongOn d (kinds (earlyJudged R))) (tailOffset btsnoop (file R)) (chosen (some (R .d / 2)) (earlyPieces R))
 
 -- a channel named before its data and admitted after it: by the wrong rule its frame is lost. A channel named after its data, for another
 -- service: by the wrong rule a frame of that service is listed
 pub judged-early :
-    (foundBy source admittedLate 189 ≡ found 18 (span 1 5 w₀ ∷ []) 0 189) × (foundEarly admittedLate ≡ missing 6 []) ×
-    (foundBy source onlyCut 149 ≡ found 18 (span 1 5 w₀ ∷ []) 0 149) × (foundEarly onlyCut ≡ found 18 (span 1 5 w₀ ∷ span 1 6 w₂ ∷ []) 0 149)
+    (foundBy (unchecked source) admittedLate 189 ≡ finds 18 (span 1 5 w₀ ∷ []) 0 189) × (foundEarly admittedLate ≡ missing 6 []) ×
+    (foundBy (unchecked source) onlyCut 149 ≡ finds 18 (span 1 5 w₀ ∷ []) 0 149) × (foundEarly onlyCut ≡ finds 18 (span 1 5 w₀ ∷ span 1 6 w₂ ∷ []) 0 149)
 unfolding cut file outcome isBtsnoop datalink isDatalink endsWell read tailOffset records recordsIn chop chopFrom isWhole recordSize be32 be64 le16 eqK filePieces packetsIn packets packetOf milliseconds fragment h4Packet hciPacket monitorPacket pdus run after of joined isComplete stillOpen pduOf completed commandSize isCommand commands body signalOf signalsIn pduSignals signals any names named asksFor admits admittedAfter admitted isTried asksRfcomm asksSession isSabm isUih shortLength infoLength infoStart creditOf isRight fcsOf register shifted shiftOne frameOf uihKind frameKind kindBy triedBy judgedFrom judgedBy counted pieceOf brought pieces seek spansN restN spansOf restOf capped spans unfinished onDlci count nub mem onChannel first hasFrame chosen isWrong wrongOn listed unpacksOf unpackOf judgedFrame isGiven within checksumOf packed bodyOf summedOf headOf rxOf
 judged-early = (refl, refl, refl, refl)

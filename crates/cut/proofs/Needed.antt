@@ -16,6 +16,7 @@ use Rattle.container.specs.Container.{Container}
 use Rattle.items.specs.Items.{Span}
 use Rattle.mdr.specs.Escaping.{Quiet}
 use Rattle.mdr.proofs.Escaping.{all-append}
+use Rattle.rfcomm.specs.Pieces.{Judging}
 use Rattle.spans.specs.Scan.{spansOf, restOf, capped}
 use Rattle.spans.specs.Bytewise.{feed, emit, held, emitted}
 use Rattle.spans.proofs.Bytewise.{spans-is, rest-is}
@@ -35,10 +36,10 @@ too-large R n work o h g =
     rw (l, lt-leb n 1048576 h)
 
 -- and nothing is left as refusal 1
-pub not-left : {C : Container} (R : Recording C) (n : ℕ) (ss : List Span) → outcomeLeft R n ss ≢ refuses 1 []
+pub not-left : {C : Container} (by : Judging) (R : Recording C) (n : ℕ) (ss : List Span) → outcomeLeft by R n ss ≢ refuses 1 []
 unfolding outcomeLeft
-not-left R n [] e = let z : _≡_ {A = ℕ} 6 1 = cc in omega arith
-not-left R n (s ∷ ss) e = let z : _≡_ {A = ℕ} 0 1 = cc in omega arith
+not-left by R n [] e = let z : _≡_ {A = ℕ} 6 1 = cc in omega arith
+not-left by R n (s ∷ ss) e = let z : _≡_ {A = ℕ} 0 1 = cc in omega arith
 
 -- ---- sizes
 

@@ -26,11 +26,11 @@ use Rattle.channels.specs.Signals.{triple, signals}
 use Rattle.channels.specs.Channels.{any, named, admitted, channelOf}
 use Rattle.channels.specs.Core.{holds}
 use Rattle.channels.specs.Tried.{ChannelRule, source, core}
-use Rattle.uih.specs.Frames.{frameOf}
-use Rattle.rfcomm.specs.Pieces.{Kind, asks, opens, carries, passed, frameKind, Judged, judgedBy}
+use Rattle.uih.specs.Frames.{isRight, frameOf}
+use Rattle.rfcomm.specs.Pieces.{Kind, asks, opens, carries, wrong, passed, frameKind, Judging, Judged, judgedBy}
 use Rattle.cut.specs.Recording.{wire, Framing, packedFrames, LinkOf, Mark, free, part, last, Record, RecordingOf, file}
 use Rattle.cut.specs.Left.{leftFrom, recordsLeft, Sent, sentIn, Data, dataKey, linkKey, informationOf, dataOf, dataLeft, directionOf, wires}
-use Rattle.cut.specs.Honest.{pdusIn, MarkedPdu, pdusOf, nothingOpen, markedPdus, JudgedPdu, withMarks, judgedIn, isDataOf, toData, afterData, adds, carriesOn, Joins, first, further, DataPdu, Fragments, stop, other, more, end, Different, no-more, one-more, Channel, before, unnamed, Open, held, unheard, Channels, by-source, by-core, Beginning, Honest}
+use Rattle.cut.specs.Honest.{pdusIn, MarkedPdu, pdusOf, nothingOpen, markedPdus, JudgedPdu, withMarks, judgedIn, isDataOf, toData, afterData, adds, carriesOn, Joins, first, further, DataPdu, Fragments, stop, other, more, end, Different, no-more, one-more, Channel, before, unnamed, Open, held, unheard, AtData, Channels, by-source, by-core, Beginning, Honest}
 use Rattle.cut.proofs.PlainWires.{Passes, plainWires}
 use Rattle.cut.proofs.CutRecords.{WholeRecord, whole-some, left-none}
 
@@ -152,6 +152,13 @@ module _ {C : Container} {S : Framing} (R : RecordingOf C S) where
   channelsTest source = every (λ l. both (λ t. channelTest l t)) (R .links)
   channelsTest core = openTest [] (markedPdus (sentIn R (R .records)))
 
+  -- asked only with FCS checked
+  unfoldable pub rightTest : List MarkedPdu → Bool
+  rightTest qs = every (λ q. implies (isLast (q .mark)) (isRight (q .pdu .payload))) qs
+
+  unfoldable pub checksTest : Bool → Bool
+  checksTest fcs = implies fcs (rightTest (markedPdus (sentIn R (R .records))))
+
   unfoldable pub informationTest : Bool
   informationTest = every (λ l. both (λ t. eqK (informationOf (linkKey l t) (dataOf (sentIn R (R .records)))) (flat (wires l t) ++ l .partial t))) (R .links)
 
@@ -162,22 +169,22 @@ module _ {C : Container} {S : Framing} (R : RecordingOf C S) where
   unfoldable pub beginningsTest : Checked S → (LinkOf S → Direction → S .Form) → Bool
   beginningsTest k told = every (λ l. both (λ t. k .isFine (told l t) && (ltb (length (l .partial t)) (length (S .onWire (told l t))) && eqK (l .partial t) (take (length (l .partial t)) (S .onWire (told l t)))))) (R .links)
 
-  unfoldable pub settledIn : ChannelRule → List Record → ℕ → Bool
-  settledIn rule rs h = every (λ q. implies (eqb (q .pdu .link) h) (not (adds (R .d) (q .kind)))) (afterData rule R rs h)
+  unfoldable pub settledIn : Judging → List Record → ℕ → Bool
+  settledIn by rs h = every (λ q. implies (eqb (q .pdu .link) h) (not (adds (R .d) (q .kind)))) (afterData by R rs h)
 
-  unfoldable pub settledTest : ChannelRule → Bool
-  settledTest rule = every (λ n. every (settledIn rule (recordsLeft R n)) (once (map (λ x. x .packet .link) (sentIn R (recordsLeft R n))))) (ends (C .head) (R .records))
+  unfoldable pub settledTest : Judging → Bool
+  settledTest by = every (λ n. every (settledIn by (recordsLeft R n)) (once (map (λ x. x .packet .link) (sentIn R (recordsLeft R n))))) (ends (C .head) (R .records))
 
   abbrev pub isFree : Mark → Bool
   isFree free = true
   isFree part = false
   isFree (last i) = false
 
-  unfoldable pub aloneIn : ChannelRule → List Record → Bool
-  aloneIn rule rs = every (λ q. implies (isFree (q .mark)) (not (carriesOn (R .d) (q .kind)))) (judgedIn rule R rs)
+  unfoldable pub aloneIn : Judging → List Record → Bool
+  aloneIn by rs = every (λ q. implies (isFree (q .mark)) (not (carriesOn (R .d) (q .kind)))) (judgedIn by R rs)
 
-  unfoldable pub aloneTest : ChannelRule → Bool
-  aloneTest rule = every (λ n. aloneIn rule (recordsLeft R n)) (ends (C .head) (R .records))
+  unfoldable pub aloneTest : Judging → Bool
+  aloneTest by = every (λ n. aloneIn by (recordsLeft R n)) (ends (C .head) (R .records))
 
 unfoldable pub handlesTest : List ℕ → Bool
 handlesTest [] = true
@@ -201,12 +208,13 @@ abbrev pub carriesTest : ℕ → List ℕ → Kind → Bool
 carriesTest d i asks = false
 carriesTest d i (opens e) = false
 carriesTest d i (carries e j) = eqb e d && eqK j i
+carriesTest d i (wrong e) = false
 carriesTest d i passed = false
 
 unfoldable pub dataTest : {C : Container} {S : Framing} → RecordingOf C S → Pdu → List ℕ → Bool
 dataTest R p i =
     any (λ l. eqb (p .link) (l .handle) && (eqb (p .rx) (rxOf (directionOf (p .rx))) && eqb (p .cid) (l .cid (directionOf (p .rx))))) (R .links)
-    && carriesTest (R .d) i (frameKind (frameOf (p .payload)))
+    && carriesTest (R .d) i (frameKind false (frameOf (p .payload)))
 
 -- what a mark asks, from the bytes so far of the data PDU under way
 unfoldable pub markTest : {C : Container} {S : Framing} → RecordingOf C S → Option (List ℕ) → Packet → Mark → Bool
@@ -225,10 +233,10 @@ fragmentsTest R σ [] = true
 fragmentsTest R σ (x ∷ xs) = markTest R (σ (packetKey (x .packet))) (x .packet) (x .mark) && fragmentsTest R (under σ (x .packet) (x .mark)) xs
 
 -- all of them, in the order of the rules
-unfoldable pub rules : {C : Container} {S : Framing} → ChannelRule → Checked S → (LinkOf S → Direction → S .Form) → RecordingOf C S → List Bool
-rules rule k told R =
-    headerTest R ∷ wholeTest R ∷ smallTest R ∷ handlesTest (map (λ l. l .handle) (R .links)) ∷ dlciTest R ∷ dynamicTest R ∷ channelsTest R rule ∷ fragmentsTest R nothingOpen (sentIn R (R .records)) ∷
-    informationTest R ∷ sizesTest R k ∷ beginningsTest R k told ∷ settledTest R rule ∷ aloneTest R rule ∷ []
+unfoldable pub rules : {C : Container} {S : Framing} → Judging → Checked S → (LinkOf S → Direction → S .Form) → RecordingOf C S → List Bool
+rules by k told R =
+    headerTest R ∷ wholeTest R ∷ smallTest R ∷ handlesTest (map (λ l. l .handle) (R .links)) ∷ dlciTest R ∷ dynamicTest R ∷ channelsTest R (by .rule) ∷ fragmentsTest R nothingOpen (sentIn R (R .records)) ∷
+    checksTest R (by .fcs) ∷ informationTest R ∷ sizesTest R k ∷ beginningsTest R k told ∷ settledTest R by ∷ aloneTest R by ∷ []
 
 -- ---- a recording that passes is honest
 
@@ -276,6 +284,15 @@ module _ {C : Container} {S : Framing} (R : RecordingOf C S) where
   channels-passed source e = by-source (every-all (λ (l : LinkOf S). (t : Direction) → Channel R l t) _ (λ l q t. channel-passed l t (both-at (channelTest R l) q t)) (R .links) e)
   channels-passed core e = by-core (λ a p i b q. all-open [] a p i b (rw q at e))
 
+  right-passed : (a : List MarkedPdu) (p : Pdu) (i : List ℕ) (b : List MarkedPdu) → rightTest R (a ++ record { pdu = p; mark = last i } ∷ b) ≡ true → isRight (p .payload) ≡ true
+  unfolding rightTest every
+  right-passed [] p i b e = and-left (isRight (p .payload)) _ e
+  right-passed (q ∷ a) p i b e = right-passed a p i b (and-right (implies (isLast R (q .mark)) (isRight (q .pdu .payload))) _ e)
+
+  checks-passed : (fcs : Bool) → checksTest R fcs ≡ true → fcs ≡ true → AtData R (λ upTo p. isRight (p .payload) ≡ true)
+  unfolding checksTest
+  checks-passed fcs e h a p i b q = right-passed a p i b (rw q at (implied fcs (rightTest R (markedPdus (sentIn R (R .records)))) e h))
+
   information-passed : informationTest R ≡ true → All (λ (l : LinkOf S). (t : Direction) → informationOf (linkKey l t) (dataOf (sentIn R (R .records))) ≡ flat (wires l t) ++ l .partial t) (R .links)
   unfolding informationTest
   information-passed e =
@@ -320,6 +337,7 @@ module _ {C : Container} {S : Framing} (R : RecordingOf C S) where
   carries-passed d i asks e = no-way e refl
   carries-passed d i (opens x) e = no-way e refl
   carries-passed d i (carries x j) e = let p : x ≡ d = eqb-true x d (and-left _ _ e) in let q : j ≡ i = eqK-true j i (and-right (eqb x d) _ e) in rw (p, q)
+  carries-passed d i (wrong x) e = no-way e refl
   carries-passed d i passed e = no-way e refl
 
   data-passed : (p : Pdu) (i : List ℕ) → dataTest R p i ≡ true → DataPdu R p i
@@ -335,7 +353,7 @@ module _ {C : Container} {S : Framing} (R : RecordingOf C S) where
         handle = eqb-true (p .link) (l .handle) (and-left _ _ z);
         way = eqb-true (p .rx) (rxOf (directionOf (p .rx))) (and-left _ _ y);
         channel = eqb-true (p .cid) (l .cid (directionOf (p .rx))) (and-right (eqb (p .rx) (rxOf (directionOf (p .rx)))) _ y);
-        uih = carries-passed (R .d) i (frameKind (frameOf (p .payload))) (and-right (any test (R .links)) _ e);
+        uih = carries-passed (R .d) i (frameKind false (frameOf (p .payload))) (and-right (any test (R .links)) _ e);
       })
     where
       test : LinkOf S → Bool
@@ -383,12 +401,12 @@ every-cut L g T at (all-cons {x = r} {xs = rs} w ws) (all-cons p ps) n =
     (λ h. rw (le-leb (at + length (r .bytes)) n h) (every-cut L g (λ (l : List Record). T (r ∷ l)) (at + length (r .bytes)) ws (with-first at r rs T (ends-past (at + length (r .bytes)) rs) ps) n))
     (λ h. rw (lt-leb (at + length (r .bytes)) n h, left-none (at + length (r .bytes)) n rs h) (rw (lt-leb (at + length (r .bytes)) at (omega arith), left-none (at + length (r .bytes)) at rs (omega arith)) at p))
 
-module _ (rule : ChannelRule) {C : Container} {S : Framing} (R : RecordingOf C S) where
+module _ (by : Judging) {C : Container} {S : Framing} (R : RecordingOf C S) where
   abbrev Settled : List Record → Type 0
-  Settled rs = (h : ℕ) → All (λ (q : JudgedPdu). q .pdu .link ≡ h → adds (R .d) (q .kind) ≡ false) (afterData rule R rs h)
+  Settled rs = (h : ℕ) → All (λ (q : JudgedPdu). q .pdu .link ≡ h → adds (R .d) (q .kind) ≡ false) (afterData by R rs h)
 
   abbrev Alone : List Record → Type 0
-  Alone rs = All (λ (q : JudgedPdu). q .mark ≡ free → carriesOn (R .d) (q .kind) ≡ false) (judgedIn rule R rs)
+  Alone rs = All (λ (q : JudgedPdu). q .mark ≡ free → carriesOn (R .d) (q .kind) ≡ false) (judgedIn by R rs)
 
   abbrev links : List Sent → List ℕ
   links xs = map (λ (x : Sent). x .packet .link) xs
@@ -414,15 +432,15 @@ module _ (rule : ChannelRule) {C : Container} {S : Framing} (R : RecordingOf C S
   marks-most (j ∷ js) (q ∷ qs) = omega (arith, marks-most js qs)
 
   -- after the data of a handle that no packet has comes nothing
-  none-after : (rs : List Record) (h : ℕ) → any (λ k. eqb k h) (links (sentIn R rs)) ≡ false → afterData rule R rs h ≡ []
+  none-after : (rs : List Record) (h : ℕ) → any (λ k. eqb k h) (links (sentIn R rs)) ≡ false → afterData by R rs h ≡ []
   unfolding afterData judgedIn
-  none-after rs h e = rw (no-data h (sentIn R rs) e) (drop-of-length-le (withMarks (judgedBy rule (pdusIn R rs)) (markedPdus (sentIn R rs))) (marks-most (judgedBy rule (pdusIn R rs)) (markedPdus (sentIn R rs))))
+  none-after rs h e = rw (no-data h (sentIn R rs) e) (drop-of-length-le (withMarks (judgedBy by (pdusIn R rs)) (markedPdus (sentIn R rs))) (marks-most (judgedBy by (pdusIn R rs)) (markedPdus (sentIn R rs))))
 
-  settled-one : (rs : List Record) (h : ℕ) → settledIn R rule rs h ≡ true → All (λ (q : JudgedPdu). q .pdu .link ≡ h → adds (R .d) (q .kind) ≡ false) (afterData rule R rs h)
+  settled-one : (rs : List Record) (h : ℕ) → settledIn R by rs h ≡ true → All (λ (q : JudgedPdu). q .pdu .link ≡ h → adds (R .d) (q .kind) ≡ false) (afterData by R rs h)
   unfolding settledIn
   settled-one rs h e =
       every-all (λ (q : JudgedPdu). q .pdu .link ≡ h → adds (R .d) (q .kind) ≡ false) _
-      (λ q z w. not-true (adds (R .d) (q .kind)) (implied (eqb (q .pdu .link) h) (not (adds (R .d) (q .kind))) z (eq-eqb (q .pdu .link) h w))) (afterData rule R rs h) e
+      (λ q z w. not-true (adds (R .d) (q .kind)) (implied (eqb (q .pdu .link) h) (not (adds (R .d) (q .kind))) z (eq-eqb (q .pdu .link) h w))) (afterData by R rs h) e
 
   at-key : (f : ℕ → Bool) (h : ℕ) (ks : List ℕ) → every f (once ks) ≡ true → any (λ k. eqb k h) ks ≡ true → f h ≡ true
   unfolding every any once
@@ -437,26 +455,26 @@ module _ (rule : ChannelRule) {C : Container} {S : Framing} (R : RecordingOf C S
       (λ q. rw (eqb-true k h q) at (and-left (f k) (every f (once ks)) w))
       (λ q. at-key f h ks (and-right (f k) (every f (once ks)) w) (rw q at m)))
 
-  settled-cut : (rs : List Record) → every (settledIn R rule rs) (once (links (sentIn R rs))) ≡ true → Settled rs
+  settled-cut : (rs : List Record) → every (settledIn R by rs) (once (links (sentIn R rs))) ≡ true → Settled rs
   settled-cut rs e h =
       splitB (any (λ k. eqb k h) (links (sentIn R rs)))
-      (λ m. settled-one rs h (at-key (settledIn R rule rs) h (links (sentIn R rs)) e m))
+      (λ m. settled-one rs h (at-key (settledIn R by rs) h (links (sentIn R rs)) e m))
       (λ m. rw (none-after rs h m) all-nil)
 
-  settled-passed : Lawful C → All (WholeRecord C (R .header)) (R .records) → settledTest R rule ≡ true → (n : ℕ) → Settled (recordsLeft R n)
+  settled-passed : Lawful C → All (WholeRecord C (R .header)) (R .records) → settledTest R by ≡ true → (n : ℕ) → Settled (recordsLeft R n)
   unfolding settledTest recordsLeft
   settled-passed L w e n = every-cut L (R .header) Settled (C .head) w (every-all (λ (n : ℕ). Settled (leftFrom (C .head) n (R .records))) _ (λ n z. settled-cut (leftFrom (C .head) n (R .records)) z) (ends (C .head) (R .records)) e) n
 
   free-true : (k : Mark) → k ≡ free → isFree R k ≡ true
   free-true k e = rw e
 
-  alone-cut : (rs : List Record) → aloneIn R rule rs ≡ true → Alone rs
+  alone-cut : (rs : List Record) → aloneIn R by rs ≡ true → Alone rs
   unfolding aloneIn
   alone-cut rs e =
       every-all (λ (q : JudgedPdu). q .mark ≡ free → carriesOn (R .d) (q .kind) ≡ false) _
-      (λ q z w. not-true (carriesOn (R .d) (q .kind)) (implied (isFree R (q .mark)) (not (carriesOn (R .d) (q .kind))) z (free-true (q .mark) w))) (judgedIn rule R rs) e
+      (λ q z w. not-true (carriesOn (R .d) (q .kind)) (implied (isFree R (q .mark)) (not (carriesOn (R .d) (q .kind))) z (free-true (q .mark) w))) (judgedIn by R rs) e
 
-  alone-passed : Lawful C → All (WholeRecord C (R .header)) (R .records) → aloneTest R rule ≡ true → (n : ℕ) → Alone (recordsLeft R n)
+  alone-passed : Lawful C → All (WholeRecord C (R .header)) (R .records) → aloneTest R by ≡ true → (n : ℕ) → Alone (recordsLeft R n)
   unfolding aloneTest recordsLeft
   alone-passed L w e n = every-cut L (R .header) Alone (C .head) w (every-all (λ (n : ℕ). Alone (leftFrom (C .head) n (R .records))) _ (λ n z. alone-cut (leftFrom (C .head) n (R .records)) z) (ends (C .head) (R .records)) e) n
 
@@ -470,11 +488,11 @@ different (h ∷ hs) e =
 
 -- every rule is passed
 abbrev pub passed-all : List Bool
-passed-all = true ∷ true ∷ true ∷ true ∷ true ∷ true ∷ true ∷ true ∷ true ∷ true ∷ true ∷ true ∷ true ∷ []
+passed-all = true ∷ true ∷ true ∷ true ∷ true ∷ true ∷ true ∷ true ∷ true ∷ true ∷ true ∷ true ∷ true ∷ true ∷ []
 
-pub honest : {C : Container} {S : Framing} → Lawful C → (rule : ChannelRule) (k : Checked S) (told : LinkOf S → Direction → S .Form) (R : RecordingOf C S) → rules rule k told R ≡ passed-all → Honest rule R
+pub honest : {C : Container} {S : Framing} → Lawful C → (by : Judging) (k : Checked S) (told : LinkOf S → Direction → S .Form) (R : RecordingOf C S) → rules by k told R ≡ passed-all → Honest by R
 unfolding rules smallTest dlciTest
-honest {C} L rule k told R e =
+honest {C} L by k told R e =
     let wholes : All (WholeRecord C (R .header)) (R .records) = whole-passed R (cc) in
     let lo : leb 1 (R .d) && leb (R .d) 63 ≡ true = cc in
     record {
@@ -484,11 +502,12 @@ honest {C} L rule k told R e =
       handles = different (map (λ l. l .handle) (R .links)) (cc);
       dlci = (leb-true 1 (R .d) (and-left _ _ lo), leb-true (R .d) 63 (and-right (leb 1 (R .d)) _ lo));
       dynamic = dynamic-passed R (cc);
-      channels = channels-passed R rule (cc);
+      channels = channels-passed R (by .rule) (cc);
       fragments = fragments-passed R nothingOpen (sentIn R (R .records)) (cc);
+      checks = checks-passed R (by .fcs) (cc);
       information = information-passed R (cc);
       sizes = sizes-passed R k (cc);
       beginnings = beginnings-passed R k told (cc);
-      settled = λ n h. settled-passed rule R L wholes (cc) n h;
-      alone = λ n. alone-passed rule R L wholes (cc) n;
+      settled = λ n h. settled-passed by R L wholes (cc) n h;
+      alone = λ n. alone-passed by R L wholes (cc) n;
     }

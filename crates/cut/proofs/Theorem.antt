@@ -1,6 +1,6 @@
 -- The theorem: tolerant import of a cut of an honest recording finds exactly what is left of it.
 use Prim.Native.Nat.{ℕ, _+_, _-_, _*_, _/_, _≤_, _<_}
-use mathlib.Core.Path.{_≡_, refl, sym, ap, _∙_}
+use mathlib.Core.Path.{_≡_, refl, sym, ap, _∙_, fun-ext}
 use mathlib.Core.Logic.{_≢_}
 use mathlib.Core.Bool.{true, false, _&&_}
 use mathlib.Core.List.{List, [], _∷_, _++_, map, nil≢cons, List·Memᴰ}
@@ -24,11 +24,10 @@ use Rattle.mdr.proofs.Escaping.{all-append}
 use Rattle.mdr.specs.Frame.{unpacksOf}
 use Rattle.container.specs.Container.{Container, recordsIn, records, tailOffset, packetsIn, Lawful}
 use Rattle.channels.specs.Channels.{any}
-use Rattle.channels.specs.Tried.{ChannelRule}
-use Rattle.rfcomm.specs.Pieces.{Piece, judgedBy, counting, noCounts, pieces, isWrong, wrongOn}
+use Rattle.rfcomm.specs.Pieces.{Judging, Judged, kinds, Piece, judgedBy, counting, noCounts, pieces, wrongOn}
 use Rattle.spans.specs.Bytewise.{held}
 use Rattle.spans.specs.Spans.{scanner, emptied, spans, unfinished, onDlci}
-use Rattle.outcome.specs.Import.{Options, hasFrame, chosen, listed, filePieces, read, endsWell, outcome, given, fits, workSuffices, imported}
+use Rattle.outcome.specs.Import.{Options, hasFrame, chosen, listed, filePieces, fileWrong, read, endsWell, outcome, given, fits, workSuffices, imported}
 use Rattle.cut.specs.Recording.{LinkOf, Record, RecordingOf, rows, file, cut, Framing}
 use Rattle.cut.specs.Left.{recordsLeft, tailLeft, sentIn, Data, dataKey, linkKey, informationOf, dataOf, dataLeft, closedIn, wires, wiresOf, closing, framesLeft, midLeft}
 use Rattle.cut.specs.Honest.{pdusIn, JudgedPdu, judgedIn, Honest}
@@ -106,7 +105,7 @@ closing-unpacks W u came (x ∷ xs) =
 
 -- ---- one cut
 
-module _ {rule : ChannelRule} {C : Container} {S : Framing} (R : RecordingOf C S) (G : Spanning S) (H : Honest rule R) (n : ℕ) where
+module _ {by : Judging} {C : Container} {S : Framing} (R : RecordingOf C S) (G : Spanning S) (H : Honest by R) (n : ℕ) where
   abbrev rs : List Record
   rs = recordsLeft R n
 
@@ -117,10 +116,14 @@ module _ {rule : ChannelRule} {C : Container} {S : Framing} (R : RecordingOf C S
   D = dataLeft R n
 
   abbrev J : List JudgedPdu
-  J = judgedIn rule R rs
+  J = judgedIn by R rs
 
   abbrev ps : List Piece
   ps = run counting noCounts (judgedOf J)
+
+  -- frames with a wrong FCS on each DLCI
+  abbrev wrongs : ℕ → ℕ
+  wrongs d = wrongOn d (map (λ q. q .kind) J)
 
   abbrev F : ℕ → ℕ → Key
   F = stretch (cidOf (R .links)) (R .d) (after counting noCounts (judgedOf J))
@@ -137,7 +140,7 @@ module _ {rule : ChannelRule} {C : Container} {S : Framing} (R : RecordingOf C S
   data-whole = rw sent-whole (data-append (sentIn R rs) (sentIn R back))
 
   data-is : dataIn (markedOf J) ≡ D
-  data-is = rw (in-marked rule R rs) (cut-data R n (H .fragments))
+  data-is = rw (in-marked by R rs) (cut-data R n (H .fragments))
 
   on-links : All (OnLink (R .links)) D
   unfolding dataLeft
@@ -221,31 +224,34 @@ module _ {rule : ChannelRule} {C : Container} {S : Framing} (R : RecordingOf C S
   some-piece s ss e z = let q : spans (onDlci (R .d) ps) ≡ s ∷ ss = spans-left ∙ e in nil≢cons (rw z at q)
 
 -- what import gives, as it is left
-unfoldable pub outcomeLeft : {C : Container} {S : Framing} → RecordingOf C S → ℕ → List Span → Outcome
-outcomeLeft R n [] = refuses 6 []
-outcomeLeft R n (s ∷ ss) = gives (R .d ∷ length (s ∷ ss) ∷ midLeft R n ∷ tailLeft R n ∷ length (spanList (s ∷ ss)) ∷ []) (spanList (s ∷ ss))
+unfoldable pub outcomeLeft : {C : Container} {S : Framing} → Judging → RecordingOf C S → ℕ → List Span → Outcome
+outcomeLeft by R n [] = refuses 6 []
+outcomeLeft by R n (s ∷ ss) = gives (R .d ∷ length (s ∷ ss) ∷ midLeft R n ∷ tailLeft R n ∷ length (spanList (s ∷ ss)) ∷ wrongLeft by R n ∷ []) (spanList (s ∷ ss))
 
-module _ {rule : ChannelRule} {C : Container} {S : Framing} (R : RecordingOf C S) (G : Spanning S) (H : Honest rule R) (n : ℕ) where
-  none-left : framesLeft R n ≡ [] → given (listed (ps R G H n) (tailLeft R n) (chosen (some (R .d / 2)) (ps R G H n))) ≡ outcomeLeft R n []
-  unfolding chosen given isWrong wrongOn listed outcomeLeft
+module _ {by : Judging} {C : Container} {S : Framing} (R : RecordingOf C S) (G : Spanning S) (H : Honest by R) (n : ℕ) where
+  none-left : framesLeft R n ≡ [] → given (listed (ps R G H n) (wrongs R G H n) (tailLeft R n) (chosen (some (R .d / 2)) (ps R G H n))) ≡ outcomeLeft by R n []
+  unfolding chosen given listed outcomeLeft
   none-left e = rw (chosen-no (R .d) (hasFrame (ps R G H n)) (near R G H n) (good-no R G H n e))
 
-  some-left : (s : Span) (ss : List Span) → framesLeft R n ≡ s ∷ ss → Unpacks s → given (listed (ps R G H n) (tailLeft R n) (chosen (some (R .d / 2)) (ps R G H n))) ≡ outcomeLeft R n (s ∷ ss)
-  unfolding chosen given isWrong wrongOn listed outcomeLeft
+  some-left : (s : Span) (ss : List Span) → framesLeft R n ≡ s ∷ ss → Unpacks s → given (listed (ps R G H n) (wrongs R G H n) (tailLeft R n) (chosen (some (R .d / 2)) (ps R G H n))) ≡ outcomeLeft by R n (s ∷ ss)
+  unfolding chosen given listed outcomeLeft wrongLeft
   some-left s ss e u = rw (chosen-yes (R .d) (hasFrame (ps R G H n)) (near R G H n) (good-yes R G H n s ss e u) (some-piece R G H n s ss e), spans-left R G H n, e, unfinished-left R G H n)
 
-  listed-left : given (listed (ps R G H n) (tailLeft R n) (chosen (some (R .d / 2)) (ps R G H n))) ≡ outcomeLeft R n (framesLeft R n)
+  listed-left : given (listed (ps R G H n) (wrongs R G H n) (tailLeft R n) (chosen (some (R .d / 2)) (ps R G H n))) ≡ outcomeLeft by R n (framesLeft R n)
   listed-left = go (framesLeft R n) refl (left-unpack R G H n)
     where
-      go : (ss : List Span) → framesLeft R n ≡ ss → All Unpacks ss → given (listed (ps R G H n) (tailLeft R n) (chosen (some (R .d / 2)) (ps R G H n))) ≡ outcomeLeft R n ss
+      go : (ss : List Span) → framesLeft R n ≡ ss → All Unpacks ss → given (listed (ps R G H n) (wrongs R G H n) (tailLeft R n) (chosen (some (R .d / 2)) (ps R G H n))) ≡ outcomeLeft by R n ss
       go [] e a = none-left e
       go (s ∷ ss) e (all-cons u a) = some-left s ss e u
 
   -- ---- the file
 
-  pieces-of : pieces (judgedBy rule (pdusIn R (recordsLeft R n))) ≡ ps R G H n
+  pieces-of : pieces (judgedBy by (pdusIn R (recordsLeft R n))) ≡ ps R G H n
   unfolding pieces
-  pieces-of = rw (in-judged rule R (recordsLeft R n))
+  pieces-of = rw (in-judged by R (recordsLeft R n))
+
+  wrongs-of : (d : ℕ) → wrongOn d (kinds (judgedBy by (pdusIn R (recordsLeft R n)))) ≡ wrongs R G H n d
+  wrongs-of d = rw (← in-judged by R (recordsLeft R n), map-map (λ (j : Judged). j .kind) (λ (q : JudgedPdu). record { pdu = q .pdu; kind = q .kind }) (judgedIn by R (recordsLeft R n)))
 
   module _ (L : Lawful C) (lo : C .head ≤ n) where
     rest : List ℕ
@@ -271,17 +277,21 @@ module _ {rule : ChannelRule} {C : Container} {S : Framing} (R : RecordingOf C S
     unfolding records
     cut-rows = ap (λ (s : List ℕ → ℕ). recordsIn s (drop (C .head) (cut R n))) cut-size ∙ cut-records R L n (H .header .0) lo (H .whole)
 
-    cut-pieces : filePieces C rule (cut R n) ≡ ps R G H n
+    cut-pieces : filePieces C by (cut R n) ≡ ps R G H n
     unfolding filePieces packetsIn pdusIn
     cut-pieces = rw (cut-packet, cut-rows) pieces-of
+
+    cut-wrongs : (d : ℕ) → fileWrong C by (cut R n) d ≡ wrongs R G H n d
+    unfolding packetsIn pdusIn
+    cut-wrongs d = rw (cut-packet, cut-rows) (wrongs-of d)
 
     pub cut-tail : tailOffset C (cut R n) ≡ tailLeft R n
     unfolding tailOffset tailLeft
     cut-tail = rw cut-rows
 
-    cut-read : (o : Options) → o .rule ≡ rule → o .channel ≡ some (R .d / 2) → endsWell C (o .tail) (cut R n) ≡ true → outcome C (cut R n) o ≡ listed (ps R G H n) (tailLeft R n) (chosen (some (R .d / 2)) (ps R G H n))
+    cut-read : (o : Options) → o .judging ≡ by → o .channel ≡ some (R .d / 2) → endsWell C (o .tail) (cut R n) ≡ true → outcome C (cut R n) o ≡ listed (ps R G H n) (wrongs R G H n) (tailLeft R n) (chosen (some (R .d / 2)) (ps R G H n))
     unfolding outcome read
-    cut-read o er ec e = rw (cut-file, cut-link, H .header .2, e, er, ec, cut-pieces, cut-tail)
+    cut-read o er ec e = rw (cut-file, cut-link, H .header .2, e, er, ec, cut-pieces, cut-tail, fun-ext cut-wrongs)
 
     cut-length : length (cut R n) ≤ n
     unfolding cut
@@ -292,24 +302,24 @@ module _ {rule : ChannelRule} {C : Container} {S : Framing} (R : RecordingOf C S
     cut-small = rw (length-take n (file R)) (omega (arith, H .small))
 
     -- import of the cut gives what is left, where its tail rule lets it end
-    pub cut-imported : (o : Options) → o .rule ≡ rule → o .channel ≡ some (R .d / 2) → endsWell C (o .tail) (cut R n) ≡ true → (work : ℕ) → 8 * n ≤ work → imported C (cut R n) work o ≡ outcomeLeft R n (framesLeft R n)
+    pub cut-imported : (o : Options) → o .judging ≡ by → o .channel ≡ some (R .d / 2) → endsWell C (o .tail) (cut R n) ≡ true → (work : ℕ) → 8 * n ≤ work → imported C (cut R n) work o ≡ outcomeLeft by R n (framesLeft R n)
     unfolding imported fits workSuffices
     cut-imported o er ec e work w = rw (le-leb (length (cut R n)) 1048576 cut-small, le-leb (8 * length (cut R n)) work (omega (arith, cut-length)), cut-read o er ec e) listed-left
 
 -- ---- the claim
 
-left-met : {C : Container} {S : Framing} (R : RecordingOf C S) (n : ℕ) (ss : List Span) (out : List ℕ) → length (spanList ss) ≤ length out →
-    (answer (outcomeLeft R n ss) (length out) ≡ answerLeft R n ss) × (output (outcomeLeft R n ss) out ≡ spanList ss ++ drop (length (spanList ss)) out)
-unfolding outcomeLeft answer output wrongLeft isWrong wrongOn answerLeft filled spanList
-left-met R n [] out h = (refl, refl)
-left-met R n (s ∷ ss) out h = (rw le-leb, rw le-leb)
+left-met : {C : Container} {S : Framing} (by : Judging) (R : RecordingOf C S) (n : ℕ) (ss : List Span) (out : List ℕ) → length (spanList ss) ≤ length out →
+    (answer (outcomeLeft by R n ss) (length out) ≡ answerLeft by R n ss) × (output (outcomeLeft by R n ss) out ≡ spanList ss ++ drop (length (spanList ss)) out)
+unfolding outcomeLeft answer output answerLeft filled spanList
+left-met by R n [] out h = (refl, refl)
+left-met by R n (s ∷ ss) out h = (rw le-leb, rw le-leb)
 
--- whatever meets import's definition meets the claim: for every container that keeps the laws, every framing of such wires, both channel rules
+-- whatever meets import's definition meets the claim: for every container that keeps the laws, every framing of such wires, both channel rules, FCS checked or not
 pub cut-claim-of : {C : Container} {S : Framing} → Lawful C → Spanning S → (lent : List ℕ) (work : ℕ) (o : Options) (out : List ℕ) (a : Answer) (out′ : List ℕ) → Meets (imported C lent work o) out a out′ → CutClaimOf C S lent work o out a out′
 unfolding listLeft endsWell
 cut-claim-of {C} L G lent work o out a out′ m R H n lo hi el ec et w room =
-    let i : imported C lent work o ≡ outcomeLeft R n (framesLeft R n) = rw el (cut-imported R G H n L lo o refl ec (rw et) work w) in
-    let k = left-met R n (framesLeft R n) out room in
+    let i : imported C lent work o ≡ outcomeLeft (o .judging) R n (framesLeft R n) = rw el (cut-imported R G H n L lo o refl ec (rw et) work w) in
+    let k = left-met (o .judging) R n (framesLeft R n) out room in
     record { answers = m .answers ∙ rw i (k .0); writes = m .writes ∙ rw i (k .1) }
 
 -- of packed frames

@@ -19,6 +19,7 @@ use Rattle.channels.specs.Signals.{Signal, triple, signals}
 use Rattle.channels.specs.Channels.{any, names, named, admits, admittedAfter, admitted, channelOf, isTried, asksSession}
 use Rattle.channels.specs.Core.{holds}
 use Rattle.channels.specs.Tried.{ChannelRule, source, core, triedBy}
+use Rattle.rfcomm.specs.Pieces.{Judging}
 use Rattle.cut.specs.Recording.{LinkOf, last, RecordingOf, Framing}
 use Rattle.cut.specs.Left.{recordsLeft, sentIn, Data, dataKey, linkKey, dataOf, dataLeft}
 use Rattle.cut.specs.Honest.{pdusIn, MarkedPdu, pdusOf, nothingOpen, markedPdus, DataPdu, Fragments, Channel, before, unnamed, Open, held, unheard, AtData, Channels, by-source, by-core, Honest}
@@ -169,5 +170,5 @@ module _ {C : Container} {S : Framing} (R : RecordingOf C S) (dynamic : All (λ 
   tries-by source fs (by-source cs) = source-tries fs cs
   tries-by core fs (by-core cs) = core-tries cs
 
-pub honest-tries : {C : Container} {S : Framing} (rule : ChannelRule) (R : RecordingOf C S) → Honest rule R → Tries rule R
-honest-tries rule R H = tries-by R (H .dynamic) rule (H .fragments) (H .channels)
+pub honest-tries : {C : Container} {S : Framing} (by : Judging) (R : RecordingOf C S) → Honest by R → Tries (by .rule) R
+honest-tries by R H = tries-by R (H .dynamic) (by .rule) (H .fragments) (H .channels)

@@ -14,7 +14,7 @@ use Rattle.laws.specs.Lists.{flat, All, all-nil, all-cons}
 use Rattle.items.specs.declared.Direction.{Direction}
 use Rattle.items.specs.declared.Direction.the-variants.{Rx, Tx}
 use Rattle.container.specs.Container.{Container, tailOffset, Lawful}
-use Rattle.channels.specs.Tried.{ChannelRule}
+use Rattle.rfcomm.specs.Pieces.{Judging}
 use Rattle.outcome.specs.Import.{Tail, strict, tolerant, Options, endsWell, imported}
 use Rattle.cut.specs.Recording.{Framing, LinkOf, RecordingOf, rows, file, cut}
 use Rattle.cut.specs.Left.{tailLeft, sentIn, linkKey, informationOf, dataOf, dataLeft, wires, framesLeft, midFrame, endsMid, midIn, midLeft}
@@ -23,7 +23,7 @@ use Rattle.cut.proofs.CutRecords.{records-all}
 use Rattle.cut.proofs.CutWires.{Spanning}
 use Rattle.cut.proofs.Theorem.{outcomeLeft, cut-tail, cut-imported}
 
-module _ {C : Container} {S : Framing} (R : RecordingOf C S) (G : Spanning S) {rule : ChannelRule} (H : Honest rule R) (L : Lawful C) where
+module _ {C : Container} {S : Framing} (R : RecordingOf C S) (G : Spanning S) {by : Judging} (H : Honest by R) (L : Lawful C) where
   whole-cut : cut R (length (file R)) ≡ file R
   unfolding cut
   whole-cut = take-length (file R)
@@ -44,7 +44,7 @@ module _ {C : Container} {S : Framing} (R : RecordingOf C S) (G : Spanning S) {r
   whole-ends strict = eq-eqb (tailOffset C (file R)) (length (file R)) whole-tail
   whole-ends tolerant = refl
 
-  pub whole-imported : (o : Options) → o .rule ≡ rule → o .channel ≡ some (R .d / 2) → (work : ℕ) → 8 * length (file R) ≤ work → imported C (file R) work o ≡ outcomeLeft R (length (file R)) (framesLeft R (length (file R)))
+  pub whole-imported : (o : Options) → o .judging ≡ by → o .channel ≡ some (R .d / 2) → (work : ℕ) → 8 * length (file R) ≤ work → imported C (file R) work o ≡ outcomeLeft by R (length (file R)) (framesLeft R (length (file R)))
   whole-imported o er ec work w =
       ap (λ (f : List ℕ). imported C f work o) (sym whole-cut)
       ∙ cut-imported R G H (length (file R)) L whole-head o er ec (ap (endsWell C (o .tail)) whole-cut ∙ whole-ends (o .tail)) work w
@@ -58,7 +58,7 @@ mid-end at came (w ∷ ws) e =
     let g : came ≡ at + length w + length (flat ws) = omega (arith, length-append w (flat ws)) in
     rw (le-ltb came (at + length w) (omega arith), mid-end (at + length w) came ws g) (splitB (ltb at came) (λ q. rw q) (λ q. rw q))
 
-module _ {C : Container} {S : Framing} (R : RecordingOf C S) {rule : ChannelRule} (H : Honest rule R) (none-partial : All (λ (l : LinkOf S). (t : Direction) → l .partial t ≡ []) (R .links)) where
+module _ {C : Container} {S : Framing} (R : RecordingOf C S) {by : Judging} (H : Honest by R) (none-partial : All (λ (l : LinkOf S). (t : Direction) → l .partial t ≡ []) (R .links)) where
   none-mid : (l : LinkOf S) (t : Direction) → l .partial t ≡ [] → informationOf (linkKey l t) (dataOf (sentIn R (R .records))) ≡ flat (wires l t) ++ l .partial t → endsMid R (length (file R)) l t ≡ false
   unfolding endsMid dataLeft
   none-mid l t e i =

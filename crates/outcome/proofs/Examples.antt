@@ -30,7 +30,7 @@ use Rattle.rfcomm.specs.Pieces.{uihKind, frameKind, kindBy, judgedFrom, judgedB
 use Rattle.search.specs.Seek.{seek}
 use Rattle.spans.specs.Scan.{spansN, restN, spansOf, restOf, capped}
 use Rattle.spans.specs.Spans.{spans, unfinished, onDlci}
-use Rattle.outcome.specs.Import.{Options, Tail, strict, tolerant, bySource, onChannel, first, hasFrame, chosen, Finding, Found, found, missing, listed, filePieces, read, endsWell, outcome, given, fits, workSuffices, placesSuffice, imported, importedIn}
+use Rattle.outcome.specs.Import.{Options, Tail, strict, tolerant, bySource, onChannel, first, hasFrame, chosen, Found, found, missing, listed, filePieces, read, endsWell, outcome, given, fits, workSuffices, placesSuffice, imported, importedIn}
 
 abbrev pub sample : List ℕ
 sample =
@@ -43,12 +43,15 @@ sample =
 abbrev frame : List ℕ
 frame = 0x3E ∷ 0x01 ∷ 0x00 ∷ 0x00 ∷ 0x00 ∷ 0x00 ∷ 0x00 ∷ 0x01 ∷ 0x3C ∷ []
 
--- on DLCI 18 the frame, with so many buffers unfinished, the tail offset, and no wrong frame
-abbrev one : ℕ → ℕ → Finding
-one unfinished tail = record { dlci = 18; spans = record { rx = 1; time = 0; wire = frame } ∷ []; unfinished = unfinished; tail = tail; wrong = 0 }
+-- DLCI, spans, unfinished, tail offset, and no frame with a wrong FCS
+abbrev pub finds : ℕ → List Span → ℕ → ℕ → Found
+finds d ss unfinished tail = found (record { dlci = d; spans = ss; unfinished = unfinished; tail = tail; wrong = 0 })
+
+abbrev one : List Span
+one = record { rx = 1; time = 0; wire = frame } ∷ []
 
 pub example :
-    (outcome btsnoop sample (bySource none strict) ≡ found (one 0 62)) ×
+    (outcome btsnoop sample (bySource none strict) ≡ finds 18 one 0 62) ×
     (outcome btsnoop (take 61 sample) (bySource none strict) ≡ missing 5 (16 ∷ [])) ×
     (outcome btsnoop (take 61 sample) (bySource none tolerant) ≡ missing 6 [])
 unfolding outcome isBtsnoop datalink isDatalink endsWell read tailOffset records recordsIn chop chopFrom isWhole recordSize be32 be64 le16 eqK filePieces packetsIn packets packetOf milliseconds fragment h4Packet hciPacket monitorPacket pdus run after joined isComplete stillOpen pduOf completed commandSize isCommand commands body signalOf signalsIn pduSignals signals any names named asksFor admits admittedAfter admitted isTried asksRfcomm asksSession isSabm isUih shortLength infoLength infoStart creditOf isRight fcsOf register shifted shiftOne frameOf uihKind frameKind kindBy triedBy judgedFrom judgedBy counted pieceOf brought pieces seek spansN restN spansOf restOf capped spans unfinished onDlci count nub mem onChannel first hasFrame chosen isWrong wrongOn listed unpacksOf unpackOf judgedFrame isGiven checksumOf
@@ -114,8 +117,8 @@ withBeginning cid address = bareHeader ++ (beginning cid address ++ drop 16 samp
 
 -- DLCI 20 in the frame's own stretch and in another, before the frame: not counted. DLCI 18 in another stretch: counted
 pub unfinished-of-chosen :
-    (outcome btsnoop (withBeginning 0x41 0x51) (bySource none strict) ≡ found (one 0 102)) ×
-    (outcome btsnoop (withBeginning 0x42 0x51) (bySource none strict) ≡ found (one 0 102)) ×
-    (outcome btsnoop (withBeginning 0x42 0x49) (bySource none strict) ≡ found (one 1 102))
+    (outcome btsnoop (withBeginning 0x41 0x51) (bySource none strict) ≡ finds 18 one 0 102) ×
+    (outcome btsnoop (withBeginning 0x42 0x51) (bySource none strict) ≡ finds 18 one 0 102) ×
+    (outcome btsnoop (withBeginning 0x42 0x49) (bySource none strict) ≡ finds 18 one 1 102)
 unfolding outcome isBtsnoop datalink isDatalink endsWell read tailOffset records recordsIn chop chopFrom isWhole recordSize be32 be64 le16 eqK filePieces packetsIn packets packetOf milliseconds fragment h4Packet hciPacket monitorPacket pdus run after joined isComplete stillOpen pduOf completed commandSize isCommand commands body signalOf signalsIn pduSignals signals any names named asksFor admits admittedAfter admitted isTried asksRfcomm asksSession isSabm isUih shortLength infoLength infoStart creditOf isRight fcsOf register shifted shiftOne frameOf uihKind frameKind kindBy triedBy judgedFrom judgedBy counted pieceOf brought pieces seek spansN restN spansOf restOf capped spans unfinished onDlci count nub mem onChannel first hasFrame chosen isWrong wrongOn listed unpacksOf unpackOf judgedFrame isGiven checksumOf
 unfinished-of-chosen = (refl, refl, refl)
