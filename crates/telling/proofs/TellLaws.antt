@@ -68,12 +68,10 @@ puts-stored (suc n) [] d = refl
 puts-stored (suc n) (x ∷ xs) [] = puts-empty (suc n) 0 (x ∷ xs)
 puts-stored (suc n) (x ∷ xs) (y ∷ d) = rw (sym (put-there (suc n) 0 x (y ∷ d) (omega arith))) (puts-later n 0 xs x d ∙ ap (λ (l : List ℕ). x ∷ l) (puts-stored n xs d))
 
-pub tells-all :
-    (s : Shown) (v p q t u w : List ℕ) → p ≡ putAt (s .count) 0 (s .a) v → q ≡ putAt (s .count) 1 (s .b) p → t ≡ putAt (s .count) 2 (s .c) q → u ≡ putAt (s .count) 3 (s .d) t →
-    w ≡ putAt (s .count) 4 (s .e) u → Tells s v (s .number) w
-tells-all s v p q t u w ep eq et eu ew = record {
+pub tells-all : (s : Shown) (v p q w : List ℕ) → p ≡ putAt (s .count) 0 (s .a) v → q ≡ putAt (s .count) 1 (s .b) p → w ≡ putAt (s .count) 2 (s .c) q → Tells s v (s .number) w
+tells-all s v p q w ep eq ew = record {
   number = refl;
-  values = ew ∙ rw (eu, et, eq, ep) (puts-stored (s .count) (s .a ∷ s .b ∷ s .c ∷ s .d ∷ s .e ∷ []) v);
+  values = ew ∙ rw (eq, ep) (puts-stored (s .count) (s .a ∷ s .b ∷ s .c ∷ []) v);
 }
 
 -- ---- a list stored, place by place
