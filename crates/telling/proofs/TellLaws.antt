@@ -20,8 +20,11 @@ shows-as {X} tell u x s e v = subst (λ (y : X). Shows (numberOf (tell y)) (valu
 pub told-as : (a a′ : Answer) → a ≡ a′ → (s : Shown) → Shows (numberOf a) (valuesOf a) s → (v : List ℕ) (r : ℕ) (w : List ℕ) → Tells s v r w → Told a′ v r w
 told-as a a′ e s p v r w t = rw (sym e) (record { number = t .number ∙ p .number; values = t .values ∙ rw (p .values) })
 
+pub calls-told : (o : Outcome) (d : List ℕ) (a : Answer) (e : List ℕ) → Meets o d a e → (v : List ℕ) (r : ℕ) (w : List ℕ) → Told a v r w → Calls o d e v r w
+calls-told o d a e m v r w t = record { writes = m .writes; tells = rw (sym (m .answers)) t }
+
 pub calls : (o : Outcome) (d : List ℕ) (a : Answer) (e : List ℕ) → Meets o d a e → (s : Shown) → Shows (numberOf a) (valuesOf a) s → (v : List ℕ) (r : ℕ) (w : List ℕ) → Tells s v r w → Calls o d e v r w
-calls o d a e m s p v r w t = record { writes = m .writes; tells = told-as a _ (m .answers) s p v r w t }
+calls o d a e m s p v r w t = calls-told o d a e m v r w (told-as a a refl s p v r w t)
 
 -- ---- values stored
 
