@@ -4,7 +4,7 @@ use mathlib.Core.Path.{_≡_, refl, sym, ap, _∙_}
 use mathlib.Core.Bool.{false, _&&_}
 use mathlib.Core.List.{List, [], _∷_}
 use native.Mathlib.Omega.{arith}
-use lib.ListN.{length}
+use lib.ListN.{length, getD}
 use Rattle.laws.proofs.Choice.{no-way}
 use Rattle.laws.specs.Answers.{accepted, refused, Meets}
 use Rattle.laws.proofs.Answers.{meets-refused, meets-as}
@@ -22,6 +22,7 @@ use Rattle.l2cap.specs.Pdus.{pdus}
 use Rattle.l2cap.specs.PduTable.{Reassembled}
 use Rattle.channels.specs.Passing.{ReadChannels}
 use Rattle.rfcomm.specs.Gathering.{ReadPieces}
+use Rattle.rfcomm.specs.declared.Gathered.{Gathered}
 use Rattle.streams.specs.Streams.{told, ListsSpans}
 use Rattle.streams.specs.declared.Listed.{Listed}
 use Rattle.streams.specs.declared.Listed.the-variants.{NoStream as NoneListed, OutShort as ListShort, Spans as SpansListed}
@@ -35,8 +36,9 @@ use Rattle.opening.specs.declared.Opened.{Opened}
 use Rattle.opening.specs.declared.Opened.the-variants.{Read, Refused as Unread}
 use Rattle.capture.specs.Options.{optionsOf}
 use Rattle.capture.specs.Calls.{toldImported, Imports, Left, ImportsFound, PacketsMeet}
-use Rattle.capture.specs.Passes.{Passes}
+use Rattle.capture.specs.Passes.{countOf, Passes}
 use Rattle.capture.specs.declared.Found.{Found}
+use Rattle.capture.specs.declared.Summary.{Summary}
 use Rattle.capture.specs.declared.Imported.{Imported}
 use Rattle.capture.specs.declared.Imported.the-variants.{Spans, Refused, NoStream, OutShort}
 use Rattle.capture.specs.declared.Options.{Options}
@@ -47,44 +49,45 @@ use Rattle.capture.proofs.PassLaws.{composed, left-file}
 no-list : {G : Type 0} → _≡_ {A = ℕ} 0 1 → G
 no-list z = absurd (omega arith)
 
-left-none :
-    (b : Container) (f : List ℕ) (o : import.Options) (r : Imported) (n : ℕ) (u : List ℕ) → ((d a b c e : ℕ) → r ≡ Spans d a b c e → ⊥) → Left b f o (record { answer = r; pieces = n }) u
-left-none b f o r n u x = record { at = λ d a b c e g. absurd (x d a b c e g) }
+left-none : (b : Container) (f : List ℕ) (o : import.Options) (r : Imported) (n : ℕ) (u : List ℕ) → ((s : Summary) → r ≡ Spans s → ⊥) → Left b f o (record { answer = r; pieces = n }) u
+left-none b f o r n u x = record { at = λ s g. absurd (x s g) }
 
 -- a list that is told by values
-record Back (tail : ℕ) (l : Listed) (vs : List ℕ) : Type 0 where
+record Back (tail : ℕ) (wrongs : ℕ → ℕ) (l : Listed) (vs : List ℕ) : Type 0 where
   pub stream : Stream
   pub is : l ≡ SpansListed stream
-  pub values : stream .dlci ∷ stream .spans ∷ stream .unfinished ∷ tail ∷ stream .bytes ∷ [] ≡ vs
+  pub values : stream .dlci ∷ stream .spans ∷ stream .unfinished ∷ tail ∷ stream .bytes ∷ wrongs (stream .dlci) ∷ [] ≡ vs
 
-told-back : (tail : ℕ) (l : Listed) (vs : List ℕ) → told tail l ≡ accepted vs → Back tail l vs
+told-back : (tail : ℕ) (wrongs : ℕ → ℕ) (l : Listed) (vs : List ℕ) → told tail wrongs l ≡ accepted vs → Back tail wrongs l vs
 unfolding told
-told-back tail NoneListed vs e = no-list cc
-told-back tail (ListShort n) vs e = no-list cc
-told-back tail (SpansListed s) vs e = record { stream = s; is = refl; values = cc }
+told-back tail wrongs NoneListed vs e = no-list cc
+told-back tail wrongs (ListShort n) vs e = no-list cc
+told-back tail wrongs (SpansListed s) vs e = record { stream = s; is = refl; values = cc }
 
 -- ---- from the packets on
 
-module _ (tail : ℕ) (l : Listed) where
-  pub told-none : l ≡ NoneListed → toldImported NoStream ≡ told tail l
+module _ (tail : ℕ) (wrong : List ℕ) (l : Listed) where
+  pub told-none : l ≡ NoneListed → toldImported NoStream ≡ told tail (countOf wrong) l
   unfolding told
   told-none e = rw e
 
-  pub told-short : (n : ℕ) → l ≡ ListShort n → toldImported (OutShort n) ≡ told tail l
+  pub told-short : (n : ℕ) → l ≡ ListShort n → toldImported (OutShort n) ≡ told tail (countOf wrong) l
   unfolding told
   told-short n e = rw e
 
-  pub told-spans : (s : Stream) → l ≡ SpansListed s → toldImported (Spans (s .dlci) (s .spans) (s .unfinished) tail (s .bytes)) ≡ told tail l
+  pub told-spans :
+      (s : Stream) → l ≡ SpansListed s → (n : ℕ) → n ≡ getD wrong (s .dlci) 0 →
+      toldImported (Spans (record { dlci = s .dlci; frames = s .spans; unfinished = s .unfinished; tail = tail; written = s .bytes; wrong = n })) ≡ told tail (countOf wrong) l
   unfolding told
-  told-spans s e = rw e
+  told-spans s e n en = rw (e, en)
 
 pub packets-read :
     (f w : List ℕ) (p : Packets) (o : Options) → ReadTo (formatOf (o .container) f) f w p → (v : List ℕ) (made : ℕ) → Reassembled f v made (pdus (packetsFrom f w 0 (p .count))) →
-    (x : List ℕ) (rows : ℕ) → ReadChannels f v made x rows → (u : List ℕ) (n : ℕ) → ReadPieces f x made u n →
-    (out : List ℕ) (l : Listed) (y out′ : List ℕ) → ListsSpans f u n (o .channel) out l y out′ →
-    (r : Imported) → toldImported r ≡ told (p .tail) l → PacketsMeet (o .container) f (optionsOf o) out (record { answer = r; pieces = n }) y out′
-packets-read f w p o rp v made ra x rows rc u n rps out l y out′ ls r e =
-    let s : Passes f o p out l out′ = record {
+    (x : List ℕ) (rows : ℕ) → ReadChannels f v made x rows → (u : List ℕ) (g : Gathered) → ReadPieces (o .fcs) f x made u g →
+    (out : List ℕ) (l : Listed) (y out′ : List ℕ) → ListsSpans f u (g .pieces) (o .channel) out l y out′ →
+    (r : Imported) → toldImported r ≡ told (p .tail) (countOf (g .wrong)) l → PacketsMeet (o .container) f (optionsOf o) out (record { answer = r; pieces = g .pieces }) y out′
+packets-read f w p o rp v made ra x rows rc u g rps out l y out′ ls r e =
+    let s : Passes f o p out g l out′ = record {
       w₁ = w;
       w₂ = v;
       w₃ = x;
@@ -92,7 +95,6 @@ packets-read f w p o rp v made ra x rows rc u n rps out l y out′ ls r e =
       w₅ = y;
       made = made;
       rows = rows;
-      n = n;
       read-packets = rp;
       reassemble = ra;
       read-channels = rc;
@@ -100,12 +102,12 @@ packets-read f w p o rp v made ra x rows rc u n rps out l y out′ ls r e =
       list-spans = ls;
     } in
     record {
-      meets = rw e (composed f o p out l out′ s .meets);
+      meets = rw e (composed f o p out g l out′ s .meets);
       left = record {
-        at = λ d a b c g k.
-            let h = told-back (p .tail) l (d ∷ a ∷ b ∷ c ∷ g ∷ []) (sym e ∙ ap toldImported k) in
-            let i : h .stream .dlci ≡ d = cc in
-            rw i at (left-file f o p out l out′ s (h .stream) (h .is));
+        at = λ t k.
+            let h = told-back (p .tail) (countOf (g .wrong)) l _ (sym e ∙ ap toldImported k) in
+            let i : h .stream .dlci ≡ t .dlci = cc in
+            rw i at (left-file f o p out g l out′ s (h .stream) (h .is));
       };
     }
 
@@ -139,7 +141,7 @@ module _ (b : Container) (f w : List ℕ) (o : import.Options) (out : List ℕ) 
   pub import-refused : (y : Refusal) → x ≡ Unread y → (z : Found) → z ≡ record { answer = Refused y; pieces = 0 } → ImportsFound b f w o out z v out
   import-refused y e z ez = rw ez (record {
     imports = imports-by (Refused y) v out (refusal-meets y e) (op .spared);
-    left = left-none b f o (Refused y) 0 v (λ d a c h i g. no-list cc);
+    left = left-none b f o (Refused y) 0 v (λ s g. no-list cc);
   })
 
   -- it is read

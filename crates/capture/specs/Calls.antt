@@ -12,12 +12,13 @@ use Rattle.outcome.specs.Import.{Options, filePieces, read, given, fits, workSu
 use Rattle.streams.specs.Streams.{Leaves}
 use Rattle.cut.specs.Claim.{CutClaim}
 use Rattle.capture.specs.declared.Found.{Found}
+use Rattle.capture.specs.declared.Summary.{Summary}
 use Rattle.capture.specs.declared.Imported.{Imported}
 use Rattle.capture.specs.declared.Imported.the-variants.{Spans, Refused, NoStream, OutShort}
 
--- each case's number and values in documents 01 and 02: DLCI, frames, unfinished, tail offset, bytes written
+-- each case's number and values in documents 01 and 02: DLCI, frames, unfinished, tail offset, bytes written, frames with a wrong FCS
 abbrev pub toldImported : Imported → Answer
-toldImported (Spans d frames unfinished tail written) = accepted (d ∷ frames ∷ unfinished ∷ tail ∷ written ∷ [])
+toldImported (Spans s) = accepted (s .dlci ∷ s .frames ∷ s .unfinished ∷ s .tail ∷ s .written ∷ s .wrong ∷ [])
 toldImported (Refused x) = toldRefusal x
 toldImported NoStream = refused 6 []
 toldImported (OutShort needed) = refused 7 (needed ∷ [])
@@ -31,9 +32,7 @@ pub record Imports (b : Container) (f w : List ℕ) (o : Options) (out : List �
 
 -- where an import gives spans, work has what counting left of the DLCI chosen, with so many pieces in its table
 pub record Left (b : Container) (f : List ℕ) (o : Options) (r : Found) (w′ : List ℕ) : Type 0 where
-  pub at :
-      (d frames unfinished tail written : ℕ) → r .answer ≡ Spans d frames unfinished tail written →
-      Leaves f (filePieces (containerOf b) (o .rule) f) (o .channel) (r .pieces) w′ d
+  pub at : (s : Summary) → r .answer ≡ Spans s → Leaves f (filePieces (containerOf b) (o .judging) f) (o .channel) (r .pieces) w′ (s .dlci)
 
 pub record ImportsFound (b : Container) (f w : List ℕ) (o : Options) (out : List ℕ) (r : Found) (w′ out′ : List ℕ) : Type 0 where
   pub imports : Imports b f w o out (r .answer) w′ out′

@@ -7,4 +7,4 @@ use Rattle.capture.specs.declared.Options.{Options}
 
 -- beside the container; the code has the source's channel rule alone
 abbrev pub optionsOf : Options → import.Options
-optionsOf o = record { channel = channelOf (o .channel); tail = tailOf (o .tail); rule = source }
+optionsOf o = record { channel = channelOf (o .channel); tail = tailOf (o .tail); judging = record { rule = source; fcs = o .fcs } }

@@ -1,11 +1,13 @@
 // Import: from the bytes of a trace to the list of the spans of one DLCI.
 ghost use mathlib.Core.Path.{_≡_};
+ghost use lib.ListN.{getD};
 ghost use Rattle.trace.specs.Formats.{formatOf};
 ghost use Rattle.packets.specs.Adding.{ReadTo};
 ghost use Rattle.streams.specs.Streams.{told};
 ghost use Rattle.capture.specs.Options.{optionsOf};
 ghost use Rattle.capture.specs.declared.Imported.the-variants.{Refused};
 ghost use Rattle.capture.specs.Calls.{toldImported, PacketsMeet, Imports, ImportsFound};
+ghost use Rattle.capture.specs.Passes.{countOf};
 use channels::read_channels;
 use l2cap::reassemble;
 use opening::Opened;
@@ -18,18 +20,30 @@ use streams::Listed;
 use streams::list_spans;
 use trace::Container;
 use trace::Refusal;
+use words::wide32;
 
 // What a caller chooses, beside the file and the buffers.
 pub struct Options {
     pub container: Container,
     pub channel: Channel,
     pub tail: Tail,
+    // whether FCS is checked
+    pub fcs: bool,
+}
+
+// What import answers of the DLCI chosen: its frames, unfinished, the tail offset, bytes written, and its UIH frames with a wrong FCS.
+pub struct Summary {
+    pub dlci: u8,
+    pub frames: usize,
+    pub unfinished: usize,
+    pub tail: usize,
+    pub written: usize,
+    pub wrong: usize,
 }
 
 // What import answers.
 pub enum Imported {
-    // DLCI, frames, unfinished, tail offset, bytes written
-    Spans(u8, usize, usize, usize, usize),
+    Spans(Summary),
     // 1 to 5, and pcap's 21 and 22
     Refused(Refusal),
     NoStream,
@@ -85,24 +99,47 @@ fn import_packets(
     ensures { λ r. ⌜ PacketsMeet (options .container) (now (file .entry)) (optionsOf options) (now (out .entry)) r (now (work .exit)) (now (out .exit)) ⌝ }
 {
     let channel = options.channel;
+    let fcs = options.fcs;
     let t = reassemble(file, work, p.count);
     let made = t.made;
     let rows = read_channels(file, work, made);
-    let pieces = read_pieces(file, work, made, rows);
-    let l = list_spans(file, work, pieces, channel, out);
+    let g = read_pieces(file, work, made, rows, fcs);
+    let wrong = g.wrong;
+    let l = list_spans(file, work, g.pieces, channel, out);
     Found {
-        answer: answer_of(l, p.tail),
-        pieces,
+        answer: answer_of(l, p.tail, &wrong),
+        pieces: g.pieces,
     }
 }
 
-// The answer of the list, with the tail offset.
-fn answer_of(l: Listed, tail: usize) -> Imported
-    ensures { λ r. ⌜ toldImported r ≡ told tail l ⌝ }
+// How many of the frames with a wrong FCS came on a DLCI.
+fn wrong_on(wrong: &[u32], dlci: u8) -> usize
+    ensures { λ r. ⌜ r ≡ getD (now (wrong .entry)) dlci 0 ⌝ }
+{
+    let k = dlci as usize;
+    if k < wrong.len() {
+        return wide32(wrong[k]);
+    }
+    0
+}
+
+// The answer of the list, with the tail offset, and with the frames on its DLCI that have a wrong FCS.
+fn answer_of(l: Listed, tail: usize, wrong: &[u32]) -> Imported
+    ensures { λ r. ⌜ toldImported r ≡ told tail (countOf (now (wrong .entry))) l ⌝ }
 {
     match l {
         Listed::NoStream => Imported::NoStream,
         Listed::OutShort(n) => Imported::OutShort(n),
-        Listed::Spans(s) => Imported::Spans(s.dlci, s.spans, s.unfinished, tail, s.bytes),
+        Listed::Spans(s) => {
+            let summary = Summary {
+                dlci: s.dlci,
+                frames: s.spans,
+                unfinished: s.unfinished,
+                tail,
+                written: s.bytes,
+                wrong: wrong_on(wrong, s.dlci),
+            };
+            Imported::Spans(summary)
+        }
     }
 }

@@ -1,4 +1,5 @@
--- The options of import by number, in a list: the channel, the tail rule, the container. What a list lacks has its default: any channel, strict, btsnoop.
+-- The options of import by number, in a list: the channel, the tail rule, the container, whether FCS is checked. What a list lacks has its default:
+-- any channel, strict, btsnoop, unchecked.
 use Prim.Native.Nat.{ℕ}
 use mathlib.Core.Path.{_≡_}
 use mathlib.Core.Bool.{cond}
@@ -8,7 +9,7 @@ use lib.ListN.{getD}
 use lib.Dec.{leb}
 use Rattle.channels.specs.Tried.{source}
 use Rattle.outcome.specs.Import.{Options}
-use Rattle.options.specs.Numbers.{tailIn, containerIn}
+use Rattle.options.specs.Numbers.{tailIn, containerIn, fcsIn}
 use Rattle.capture.specs.Options.{optionsOf}
 use Rattle.capture.specs.declared.Options as code
 
@@ -17,9 +18,9 @@ unfoldable pub channelNumber : ℕ → Option ℕ
 channelNumber n = cond (leb n 255) (some n) none
 
 abbrev pub optionsIn : List ℕ → Options
-optionsIn l = record { channel = channelNumber (getD l 0 256); tail = tailIn l; rule = source }
+optionsIn l = record { channel = channelNumber (getD l 0 256); tail = tailIn l; judging = record { rule = source; fcs = fcsIn l } }
 
--- those of the calls that take two numbers
+-- those of the calls that take two numbers: FCS is unchecked
 abbrev pub optionsNumber : ℕ → ℕ → Options
 optionsNumber channel tail = optionsIn (channel ∷ tail ∷ [])
 

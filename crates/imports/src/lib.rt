@@ -2,22 +2,23 @@
 ghost use mathlib.Core.Path.{_≡_};
 ghost use Rattle.trace.specs.declared.Container.the-variants.{Btsnoop};
 ghost use Rattle.capture.specs.Calls.{toldImported};
+ghost use Rattle.capture.specs.declared.Imported.the-variants.{Spans};
 ghost use Rattle.options.specs.Numbers.{containerIn};
 ghost use Rattle.streams.specs.Streams.{channelOf};
-ghost use Rattle.telling.specs.Telling.{numberOf, valuesOf, Shows};
+ghost use Rattle.telling.specs.Telling.{valuesOf, stored, Told};
 ghost use Rattle.imports.specs.Numbers.{channelNumber, optionsIn, optionsNumber, AsOptions};
 ghost use Rattle.imports.specs.Imports.{ImportCalls};
 use capture::Imported;
 use capture::Options;
+use capture::Summary;
 use options::container_in;
+use options::fcs_in;
 use options::option_at;
 use options::tail_in;
 use streams::Channel;
-use telling::Shown;
-use telling::alone;
 use telling::shown_refusal;
+use telling::store;
 use telling::tell;
-use telling::with_five;
 use telling::with_one;
 
 // ---- options by number
@@ -32,7 +33,7 @@ fn channel_of(channel: u64) -> Channel
     Channel::Any
 }
 
-// The options in a list of numbers: the channel, the tail rule, the container.
+// The options in a list of numbers: the channel, the tail rule, the container, whether FCS is checked.
 pub fn options_in(options: &[u64]) -> Options
     ensures { λ r. ⌜ AsOptions (now (options .entry)) r ⌝ }
 {
@@ -41,26 +42,39 @@ pub fn options_in(options: &[u64]) -> Options
         container: container_in(options),
         channel: channel_of(channel),
         tail: tail_in(options),
+        fcs: fcs_in(options),
     }
 }
 
 // ---- the answer
 
-pub fn shown_imported(i: Imported) -> Shown
-    ensures { λ r. ⌜ Shows (numberOf (toldImported i)) (valuesOf (toldImported i)) r ⌝ }
+// Stores the values of a summary.
+fn store_summary(s: Summary, values: &mut [u64])
+    ensures { λ _. ⌜ now (values .exit) ≡ stored (valuesOf (toldImported (Spans s))) (now (values .entry)) ⌝ }
+{
+    let list = [
+        s.dlci as u64,
+        s.frames as u64,
+        s.unfinished as u64,
+        s.tail as u64,
+        s.written as u64,
+        s.wrong as u64,
+    ];
+    store(values, &list);
+}
+
+// Stores the values of an answer, and returns its number.
+pub fn tell_imported(i: Imported, values: &mut [u64]) -> u32
+    ensures { λ r. ⌜ Told (toldImported i) (now (values .entry)) r (now (values .exit)) ⌝ }
 {
     match i {
-        Imported::Spans(dlci, frames, unfinished, tail, written) => with_five(
-            0,
-            dlci as u64,
-            frames as u64,
-            unfinished as u64,
-            tail as u64,
-            written as u64,
-        ),
-        Imported::Refused(x) => shown_refusal(x),
-        Imported::NoStream => alone(6),
-        Imported::OutShort(needed) => with_one(7, needed as u64),
+        Imported::Spans(s) => {
+            store_summary(s, values);
+            0
+        }
+        Imported::Refused(x) => tell(shown_refusal(x), values),
+        Imported::NoStream => 6,
+        Imported::OutShort(needed) => tell(with_one(7, needed as u64), values),
     }
 }
 
@@ -78,8 +92,7 @@ pub fn import_told(
 {
     let o = options_in(options);
     let i = capture::import(file, work, out, o);
-    let s = shown_imported(i);
-    tell(s, values)
+    tell_imported(i, values)
 }
 
 // Imports a btsnoop file by two options.

@@ -97,8 +97,9 @@ pub extern "C" fn lumbryth_capture_order(names: &[u8], out: &mut [u8], values: &
 }
 
 // Imports a trace: writes the list of the spans of one DLCI to the front of out. The options are a list of numbers: a channel,
-// over 255 for any; 0 for the strict rule, any other for the tolerant one; 0 for btsnoop, any other for pcap. A list that ends
-// earlier asks for any channel, strictly, of btsnoop. Values: DLCI, frames, unfinished, tail offset, bytes written.
+// over 255 for any; 0 for the strict rule, any other for the tolerant one; 0 for btsnoop, any other for pcap; 0 for FCS unchecked,
+// any other for checked. A list that ends earlier asks for any channel, strictly, of btsnoop, unchecked. Values: DLCI, frames,
+// unfinished, tail offset, bytes written, frames with a wrong FCS on the DLCI, 0 where it is not checked.
 #[no_mangle]
 pub extern "C" fn lumbryth_import_with(
     file: &[u8],
@@ -112,7 +113,7 @@ pub extern "C" fn lumbryth_import_with(
     import_told(file, work, out, options, values)
 }
 
-// Imports a btsnoop file by two options.
+// Imports a btsnoop file by two options, FCS unchecked. Values: as for lumbryth_import_with.
 #[no_mangle]
 pub extern "C" fn lumbryth_import(
     file: &[u8],
@@ -127,7 +128,7 @@ pub extern "C" fn lumbryth_import(
     import_by(file, work, out, channel, tolerant, values)
 }
 
-// Imports a btsnoop file by the strict rule.
+// Imports a btsnoop file by the strict rule, FCS unchecked. Values: as for lumbryth_import_with.
 #[no_mangle]
 pub extern "C" fn lumbryth_import_strict(
     file: &[u8],
@@ -194,7 +195,7 @@ pub extern "C" fn lumbryth_gaps_with(
 
 // Imports a btsnoop file, and fills the first places of the list lent with the stretches that are open at the end, in the order
 // of their first pieces; the places past them stay, and all of them after a refusal. It wants as many places as the file length
-// divided by 24, rounded down, else 2. Values: as for lumbryth_import.
+// divided by 24, rounded down, else 2. FCS is unchecked. Values: as for lumbryth_import.
 #[no_mangle]
 pub extern "C" fn lumbryth_import_stretches(
     file: &[u8],

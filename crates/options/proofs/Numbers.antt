@@ -1,6 +1,7 @@
 -- From numbers to options.
 use Prim.Native.Nat.{ℕ, zero, suc, _≤_, _<_}
 use mathlib.Core.Path.{_≡_, refl, sym}
+use mathlib.Core.Bool.{Bool, false}
 use mathlib.Core.List.{List, [], _∷_}
 use native.Mathlib.Nat.{le-of-suc-le-suc, not-suc-le-zero}
 use lib.ListN.{length, getD, List·getD-eq-default}
@@ -10,7 +11,7 @@ use Rattle.opening.specs.declared.Tail.{Tail}
 use Rattle.opening.specs.declared.Tail.the-variants.{Strict, Tolerant}
 use Rattle.trace.specs.declared.Container.{Container}
 use Rattle.trace.specs.declared.Container.the-variants.{Btsnoop, Pcap}
-use Rattle.options.specs.Numbers.{tailNumber, tailIn, containerNumber, containerIn}
+use Rattle.options.specs.Numbers.{tailNumber, tailIn, containerNumber, containerIn, fcsNumber, fcsIn}
 
 pub tail-strict : (n : ℕ) → n ≡ 0 → tailOf Strict ≡ tailNumber n
 unfolding tailNumber
@@ -42,7 +43,14 @@ tail-in l n e t q = rw (← e) q
 pub container-in : (l : List ℕ) (n : ℕ) → n ≡ getD l 2 0 → (b : Container) → b ≡ containerNumber n → b ≡ containerIn l
 container-in l n e b q = rw (← e) q
 
--- a list of two options, or none, is of btsnoop
+pub fcs-in : (l : List ℕ) (n : ℕ) → n ≡ getD l 3 0 → (b : Bool) → b ≡ fcsNumber n → b ≡ fcsIn l
+fcs-in l n e b q = rw (← e) q
+
+-- a list of two options, or none, is of btsnoop, and leaves FCS unchecked
 pub container-two : (a b : ℕ) → containerIn (a ∷ b ∷ []) ≡ Btsnoop
 unfolding containerNumber
 container-two a b = refl
+
+pub fcs-two : (a b : ℕ) → fcsIn (a ∷ b ∷ []) ≡ false
+unfolding fcsNumber
+fcs-two a b = refl

@@ -1,8 +1,9 @@
-// What a caller chooses, as numbers in a list: the tail rule and the container, for every call that reads a trace.
+// What a caller chooses, as numbers in a list: the tail rule and the container, for every call that reads a trace; for import, whether
+// FCS is checked.
 ghost use mathlib.Core.Path.{_≡_};
 ghost use lib.ListN.{getD};
 ghost use Rattle.opening.specs.Opening.{tailOf};
-ghost use Rattle.options.specs.Numbers.{tailNumber, tailIn, containerNumber, containerIn};
+ghost use Rattle.options.specs.Numbers.{tailNumber, tailIn, containerNumber, containerIn, fcsNumber, fcsIn};
 use opening::Tail;
 use trace::Container;
 
@@ -36,6 +37,13 @@ fn container_of(container: u64) -> Container
     Container::Pcap
 }
 
+// The switch by number: 0 is off, any other on.
+fn fcs_of(fcs: u64) -> bool
+    ensures { λ r. ⌜ r ≡ fcsNumber fcs ⌝ }
+{
+    fcs != 0
+}
+
 // The tail rule in a list of options.
 pub fn tail_in(options: &[u64]) -> Tail
     ensures { λ r. ⌜ tailOf r ≡ tailIn (now (options .entry)) ⌝ }
@@ -48,4 +56,11 @@ pub fn container_in(options: &[u64]) -> Container
     ensures { λ r. ⌜ r ≡ containerIn (now (options .entry)) ⌝ }
 {
     container_of(option_at(options, 2, 0))
+}
+
+// Whether FCS is checked, in a list of options.
+pub fn fcs_in(options: &[u64]) -> bool
+    ensures { λ r. ⌜ r ≡ fcsIn (now (options .entry)) ⌝ }
+{
+    fcs_of(option_at(options, 3, 0))
 }

@@ -31,15 +31,15 @@ use Rattle.capture.specs.Options.{optionsOf}
 use Rattle.capture.specs.declared.Options as code
 use Rattle.capture.specs.Calls.{toldImported, ImportsFound}
 use Rattle.capture.specs.declared.Found.{Found}
+use Rattle.capture.specs.declared.Summary.{Summary}
 use Rattle.capture.specs.declared.Imported.{Imported}
 use Rattle.capture.specs.declared.Imported.the-variants.{Spans, Refused, NoStream, OutShort}
 use Rattle.capture.proofs.Imported.{the-type}
 use Rattle.stretches.specs.Filled.{stretchesTo}
 use Rattle.stretches.specs.Listing.{SpreadPre, OpenListed}
 use Rattle.stretches.specs.declared.Stretch.{Stretch}
-use Rattle.telling.specs.Telling.{numberOf, valuesOf, Shows, Tells}
-use Rattle.telling.specs.declared.Shown.{Shown}
-use Rattle.telling.proofs.TellLaws.{calls}
+use Rattle.telling.specs.Telling.{Told}
+use Rattle.telling.proofs.TellLaws.{calls-told}
 use Rattle.imports.specs.Numbers.{optionsIn, optionsNumber, AsOptions}
 use Rattle.places.specs.Places.{suffices, openOn, fileStretches, listedBy, ImportsIn, ToldIn, Listable, FoundListed}
 
@@ -78,7 +78,7 @@ module _ (b : Container) (f w : List ℕ) (places : ℕ) (o : Options) (out : Li
       record { meets = p; spared = λ e. no-way s e; list = l .list b o (m .left); few = omega (arith, l .few); cut = cut-in (r .answer) out′ p }
 
   pub in-listable : length f ≤ 1048576 → (r : Found) (v out′ : List ℕ) → ImportsFound b f w o out r v out′ → Listable f v r
-  in-listable h r v out′ m = record { laid = λ d a x c e k. m .left .at d a x c e k .laid; few = λ d a x c e k. omega (arith, m .left .at d a x c e k .few); small = h }
+  in-listable h r v out′ m = record { laid = λ s k. m .left .at s k .laid; few = λ s k. omega (arith, m .left .at s k .few); small = h }
 
 -- ---- the list
 
@@ -94,7 +94,7 @@ refusal-lists (Truncated at) l = refl
 
 listed-refused : (r : Imported) (l : List Stretch) → OneOf (1 ∷ 2 ∷ 3 ∷ []) (tagOf the-type r) → [] ≡ listedBy (toldImported r) l
 unfolding listedBy
-listed-refused (Spans d a b c e) l h = absurd (miss (1 ∷ 2 ∷ 3 ∷ []) 0 tt h)
+listed-refused (Spans s) l h = absurd (miss (1 ∷ 2 ∷ 3 ∷ []) 0 tt h)
 listed-refused (Refused x) l h = refusal-lists x l
 listed-refused NoStream l h = refl
 listed-refused (OutShort n) l h = refl
@@ -104,19 +104,19 @@ pub found-none : (f w : List ℕ) (r : Found) → OneOf (1 ∷ 2 ∷ 3 ∷ []) (
 unfolding stretchesTo
 found-none f w r h = record { list = λ b o l. listed-refused (r .answer) (fileStretches b f o) h; few = omega arith }
 
-module _ (f w : List ℕ) (r : Found) (g : Listable f w r) (d a b c e : ℕ) (k : r .answer ≡ Spans d a b c e) where
+module _ (f w : List ℕ) (r : Found) (g : Listable f w r) (s : Summary) (k : r .answer ≡ Spans s) where
   pub found-plan : (length f / 4 ≤ 1048576) × (r .pieces ≤ 1048576)
-  found-plan = (omega (arith, g .small), omega (arith, g .small, g .few d a b c e k))
+  found-plan = (omega (arith, g .small), omega (arith, g .small, g .few s k))
 
-  module _ (p : Plan) (ep : p ≡ planOf (length f / 4) (r .pieces) d) where
+  module _ (p : Plan) (ep : p ≡ planOf (length f / 4) (r .pieces) (s .dlci)) where
     laid : Laid f w p
-    laid = rw ep (g .laid d a b c e k)
+    laid = rw ep (g .laid s k)
 
     pub found-room : SpreadPre w p
     unfolding planOf
     found-room = record {
       room = record {
-        low = rw ep (omega (arith, g .few d a b c e k));
+        low = rw ep (omega (arith, g .few s k));
         after = rw ep (omega arith);
         rows = laid .rows;
         chain = laid .chain;
@@ -133,16 +133,16 @@ module _ (f w : List ℕ) (r : Found) (g : Listable f w r) (d a b c e : ℕ) (k 
         let z : p .n ≡ r .pieces = rw ep in
         record {
           list = λ y o left.
-              let x = left .at d a b c e k in
+              let x = left .at s k in
               l .list f laid (rw ep (x .told)) ∙ rw (ep, k, x .is, x .pieces);
-          few = omega (arith, l .few, g .few d a b c e k);
+          few = omega (arith, l .few, g .few s k);
         }
 
 told :
     (b : Container) (f w : List ℕ) (places : ℕ) (o : Options) (out : List ℕ) (i : Imported) (listed : ℕ) (w′ out′ : List ℕ) → ImportsIn b f w places o out i listed w′ out′ →
-    (s : Shown) → Shows (numberOf (toldImported i)) (valuesOf (toldImported i)) s → (v : List ℕ) (r : ℕ) (v′ : List ℕ) → Tells s v r v′ → ToldIn b f w places out o v r listed w′ out′ v′
-told b f w places o out i listed w′ out′ m s p v r v′ t = record {
-  calls = calls (importedIn (containerOf b) f (length w) places o) out (toldImported i) out′ (m .meets) s p v r v′ t;
+    (v : List ℕ) (r : ℕ) (v′ : List ℕ) → Told (toldImported i) v r v′ → ToldIn b f w places out o v r listed w′ out′ v′
+told b f w places o out i listed w′ out′ m v r v′ t = record {
+  calls = calls-told (importedIn (containerOf b) f (length w) places o) out (toldImported i) out′ (m .meets) v r v′ t;
   spared = m .spared;
   list = rw (m .meets .answers) at (m .list);
   few = m .few;
@@ -152,11 +152,10 @@ told b f w places o out i listed w′ out′ m s p v r v′ t = record {
 -- by a list of options
 pub told-in :
     (l : List ℕ) (o : code.Options) → AsOptions l o → (f w : List ℕ) (places : ℕ) (out : List ℕ) (i : Imported) (listed : ℕ) (w′ out′ : List ℕ) → ImportsIn (o .container) f w places (optionsOf o) out i listed w′ out′ →
-    (s : Shown) → Shows (numberOf (toldImported i)) (valuesOf (toldImported i)) s → (v : List ℕ) (r : ℕ) (v′ : List ℕ) → Tells s v r v′ →
-    ToldIn (containerIn l) f w places out (optionsIn l) v r listed w′ out′ v′
-told-in l o a f w places out i listed w′ out′ m s p v r v′ t =
+    (v : List ℕ) (r : ℕ) (v′ : List ℕ) → Told (toldImported i) v r v′ → ToldIn (containerIn l) f w places out (optionsIn l) v r listed w′ out′ v′
+told-in l o a f w places out i listed w′ out′ m v r v′ t =
     subst (λ (b : Container). ToldIn b f w places out (optionsIn l) v r listed w′ out′ v′) (a .container)
-    (subst (λ (z : Options). ToldIn (o .container) f w places out z v r listed w′ out′ v′) (a .chosen) (told (o .container) f w places (optionsOf o) out i listed w′ out′ m s p v r v′ t))
+    (subst (λ (z : Options). ToldIn (o .container) f w places out z v r listed w′ out′ v′) (a .chosen) (told (o .container) f w places (optionsOf o) out i listed w′ out′ m v r v′ t))
 
 -- by two numbers
 pub told-two :

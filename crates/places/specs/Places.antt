@@ -16,6 +16,7 @@ use Rattle.cut.specs.Claim.{CutClaim}
 use Rattle.streams.specs.Streams.{planOf}
 use Rattle.capture.specs.Calls.{toldImported, Left}
 use Rattle.capture.specs.declared.Found.{Found}
+use Rattle.capture.specs.declared.Summary.{Summary}
 use Rattle.capture.specs.declared.Imported.{Imported}
 use Rattle.capture.specs.declared.Imported.the-variants.{Spans}
 use Rattle.stretches.specs.Open.{openStretches}
@@ -32,7 +33,7 @@ openOn ps (some d) = openStretches d (onDlci d ps)
 
 -- the stretches that are open at the end of a file
 unfoldable pub fileStretches : Container → List ℕ → Options → List Stretch
-fileStretches b f o = openOn (filePieces (containerOf b) (o .rule) f) (chosen (o .channel) (filePieces (containerOf b) (o .rule) f))
+fileStretches b f o = openOn (filePieces (containerOf b) (o .judging) f) (chosen (o .channel) (filePieces (containerOf b) (o .judging) f))
 
 -- the places after a call that answers so: the open stretches and then the places past them; all as they were after a refusal
 unfoldable pub placesAfter : Answer → List Stretch → List Stretch → List Stretch
@@ -71,8 +72,8 @@ pub record ToldIn (b : Container) (f w : List ℕ) (places : ℕ) (out : List �
 
 -- where it gave spans, the table of pieces stands in work
 pub record Listable (f w : List ℕ) (r : Found) : Type 0 where
-  pub laid : (d frames unfinished tail written : ℕ) → r .answer ≡ Spans d frames unfinished tail written → Laid f w (planOf (length f / 4) (r .pieces) d)
-  pub few : (d frames unfinished tail written : ℕ) → r .answer ≡ Spans d frames unfinished tail written → 32 * r .pieces ≤ length f
+  pub laid : (s : Summary) → r .answer ≡ Spans s → Laid f w (planOf (length f / 4) (r .pieces) (s .dlci))
+  pub few : (s : Summary) → r .answer ≡ Spans s → 32 * r .pieces ≤ length f
   pub small : length f ≤ 1048576
 
 -- the open stretches are listed, whichever container and options the import had

@@ -10,10 +10,9 @@ use capture::Imported;
 use capture::Options;
 use capture::import_found;
 use imports::options_in;
-use imports::shown_imported;
+use imports::tell_imported;
 use streams::plan;
 use stretches::list_open;
-use telling::tell;
 use trace::Refusal;
 
 // An answer's number, and how many stretches stand at the start of work.
@@ -36,9 +35,8 @@ pub fn places_told(
     let o = options_in(options);
     let p = import_places(file, work, out, o, places);
     let answer = p.answer;
-    let s = shown_imported(answer);
     Told {
-        number: tell(s, values),
+        number: tell_imported(answer, values),
         listed: p.listed,
     }
 }
@@ -106,10 +104,10 @@ fn list_found(file: &[u8], w: &mut [u8], found: Found) -> usize
     ensures { λ r. ⌜ FoundListed (now (file .entry)) (now (w .entry)) found (now (w .exit)) r ⌝ }
 {
     let answer = found.answer;
-    let Imported::Spans(dlci, _, _, _, _) = answer else {
+    let Imported::Spans(s) = answer else {
         return 0;
     };
     let q = file.len() / 4;
-    let p = plan(q, found.pieces, dlci as u32);
+    let p = plan(q, found.pieces, s.dlci as u32);
     list_open(w, p)
 }

@@ -29,6 +29,7 @@ use Rattle.measuring.specs.declared.Sums.{Sums}
 use Rattle.outcome.specs.Import.{onChannel, first, hasFrame, chosen}
 use Rattle.streams.specs.Streams.{channelOf, planOf, tablePieces, Tabled, Ready, below, streamOf, choiceOf, Chooses}
 use Rattle.streams.specs.declared.Channel.{Channel}
+use Rattle.streams.specs.declared.Stream.{Stream}
 use Rattle.streams.specs.declared.Choice.{Choice}
 use Rattle.streams.specs.declared.Choice.the-variants.{Nothing, Chosen}
 
@@ -121,7 +122,9 @@ module _ (f w₀ : List ℕ) (n : ℕ) (channel : Channel) (w tried : List ℕ) 
   unfolding first piecesFrom choiceOf
   choosing-end h =
       let z : n - i ≡ 0 = omega arith in
-      record { chooses = rw (← (rw z at (v .same))); front = v .front; told = λ s e. (let y : _≡_ {A = ℕ} 0 1 = cc in absurd (omega arith)) }
+      record { chooses = rw (← (rw z at (v .same))); front = v .front; told = λ s e. impossible e; small = λ s e. impossible e } where
+        impossible : {G : Type 0} {s : Stream} → Nothing ≡ Chosen s → G
+        impossible e = let y : _≡_ {A = ℕ} 0 1 = cc in absurd (omega arith)
 
   module _ (t : Ready f w₀ n) (h : i < n) (d : ℕ) (ed : d ≡ word w (5 * (length f / 4) + 8 * i)) where
     mine : word w₀ (5 * (length f / 4) + 8 * i) ≡ d
@@ -185,4 +188,5 @@ module _ (f w₀ : List ℕ) (n : ℕ) (channel : Channel) (w tried : List ℕ) 
                   chooses = rw (o, c .count, c .bytes, c .live, a);
                   front = front-then (below f n) u w w₀ (front-plan f u w n d p ep (c .front)) (v .front);
                   told = λ s e. (let y : s .dlci ≡ d = cc in rw y (rw ep at (c .told)));
+                  small = λ s e. (let y : s .dlci ≡ d = cc in rw y choosing-small);
                 }

@@ -48,9 +48,10 @@ module _ (f w : List ℕ) (n : ℕ) (channel : Channel) (u : List ℕ) (c : Choi
   lists-none e =
       let z : chosen (channelOf channel) (tablePieces f w n) ≡ none = choice-none (tablePieces f w n) (chosen (channelOf channel) (tablePieces f w n)) (sym e ∙ q .chooses) in
       record {
-        meets = λ tail. meets-refused (given (listed (tablePieces f w n) tail (chosen (channelOf channel) (tablePieces f w n)))) out 6 [] (rw z);
+        meets = λ tail wrongs. meets-refused (given (listed (tablePieces f w n) wrongs tail (chosen (channelOf channel) (tablePieces f w n)))) out 6 [] (rw z);
         front = low f n u w (q .front);
         left = λ s g. (let y : _≡_ {A = ℕ} 0 1 = cc in absurd (omega arith));
+        small = λ s g. (let y : _≡_ {A = ℕ} 0 1 = cc in absurd (omega arith));
       }
 
   module _ (s : Stream) (e : c ≡ Chosen s) where
@@ -64,9 +65,11 @@ module _ (f w : List ℕ) (n : ℕ) (channel : Channel) (u : List ℕ) (c : Choi
     unfolding streamOf
     needed = ap (λ (x : Stream). x .bytes) (of-stream .1)
 
-    gives-list : (tail : ℕ) → given (listed (tablePieces f w n) tail (chosen (channelOf channel) (tablePieces f w n))) ≡ gives (s .dlci ∷ s .spans ∷ s .unfinished ∷ tail ∷ s .bytes ∷ []) list
+    gives-list :
+        (tail : ℕ) (wrongs : ℕ → ℕ) →
+        given (listed (tablePieces f w n) wrongs tail (chosen (channelOf channel) (tablePieces f w n))) ≡ gives (s .dlci ∷ s .spans ∷ s .unfinished ∷ tail ∷ s .bytes ∷ wrongs (s .dlci) ∷ []) list
     unfolding given listed streamOf
-    gives-list tail =
+    gives-list tail wrongs =
         let a : s .spans ≡ length (spans (onDlci (s .dlci) (tablePieces f w n))) = ap (λ (x : Stream). x .spans) (of-stream .1) in
         let b : s .unfinished ≡ unfinished (onDlci (s .dlci) (tablePieces f w n)) = ap (λ (x : Stream). x .unfinished) (of-stream .1) in
         rw (of-stream .0, a, b, needed)
@@ -74,9 +77,10 @@ module _ (f w : List ℕ) (n : ℕ) (channel : Channel) (u : List ℕ) (c : Choi
     pub lists-short : length out < s .bytes → ListsSpans f w n channel out (OutShort (s .bytes)) u out
     unfolding told
     lists-short h = record {
-      meets = λ tail. meets-short _ out _ list (s .bytes) (gives-list tail) needed h;
+      meets = λ tail wrongs. meets-short _ out _ list (s .bytes) (gives-list tail wrongs) needed h;
       front = low f n u w (q .front);
       left = λ t g. (let y : _≡_ {A = ℕ} 0 1 = cc in absurd (omega arith));
+      small = λ t g. (let y : _≡_ {A = ℕ} 0 1 = cc in absurd (omega arith));
     }
 
     module _ (t : Ready f w n) (h : s .bytes ≤ length out) (k : length u ≡ length w) (p : Plan) (ep : p ≡ planOf (length f / 4) n (s .dlci)) where
@@ -103,9 +107,10 @@ module _ (f w : List ℕ) (n : ℕ) (channel : Channel) (u : List ℕ) (c : Choi
       lists-all r out′ y =
           let x : Writes out 0 list r out′ = rw (all-same f w n t u (q .front) p (s .dlci) ep) at y in
           record {
-            meets = λ tail. meets-wrote _ out _ list r out′ (gives-list tail) (omega (arith, needed)) x;
+            meets = λ tail wrongs. meets-wrote _ out _ list r out′ (gives-list tail wrongs) (omega (arith, needed)) x;
             front = low f n u w (q .front);
             left = λ t g. (let y : t ≡ s = cc in rw y leaves);
+            small = λ t g. (let y : t ≡ s = cc in rw y (q .small s e));
           }
 
 -- ---- the pieces linked first
@@ -145,4 +150,4 @@ module _ (f w : List ℕ) (n : ℕ) (t : Tabled f w n) (p : Plan) (ep : p ≡ pl
         }
 
     pub link-lists : (channel : Channel) (out : List ℕ) (r : Listed) (v out′ : List ℕ) → ListsSpans f u n channel out r v out′ → ListsSpans f w n channel out r v out′
-    link-lists channel out r v out′ y = record { meets = rw same at (y .meets); front = front-then (24 * (length f / 4)) v u w (y .front) front; left = rw same at (y .left) }
+    link-lists channel out r v out′ y = record { meets = rw same at (y .meets); front = front-then (24 * (length f / 4)) v u w (y .front) front; left = rw same at (y .left); small = y .small }

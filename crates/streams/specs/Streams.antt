@@ -1,5 +1,5 @@
 -- The DLCI chosen, with what is counted of it; and what the call that lists its spans answers.
-use Prim.Native.Nat.{ℕ, _+_, _*_, _/_, _≤_}
+use Prim.Native.Nat.{ℕ, _+_, _*_, _/_, _<_, _≤_}
 use mathlib.Core.Path.{_≡_}
 use mathlib.Core.List.{List, [], _∷_}
 use mathlib.Core.Option.{Option, none, some}
@@ -68,14 +68,16 @@ pub record Chooses (f w : List ℕ) (n : ℕ) (channel : Channel) (u : List ℕ)
   pub chooses : r ≡ choiceOf (tablePieces f w n) (chosen (channelOf channel) (tablePieces f w n))
   pub front : Front (below f n) u w
   pub told : (s : Stream) → r ≡ Chosen s → AllTold f u (planOf (length f / 4) n (s .dlci)) n
+  pub small : (s : Stream) → r ≡ Chosen s → s .dlci < 64
 
 -- ---- the list
 
--- 6, 7, or DLCI, spans, unfinished, the tail offset that the caller knows, and the bytes written
-unfoldable pub told : ℕ → Listed → Answer
-told tail NoStream = refused 6 []
-told tail (OutShort n) = refused 7 (n ∷ [])
-told tail (Spans s) = accepted (s .dlci ∷ s .spans ∷ s .unfinished ∷ tail ∷ s .bytes ∷ [])
+-- 6, 7, or DLCI, spans, unfinished, the tail offset, the bytes written, and the wrong frames of the DLCI. The caller knows the tail offset, and
+-- the wrong frames on each DLCI.
+unfoldable pub told : ℕ → (ℕ → ℕ) → Listed → Answer
+told tail wrongs NoStream = refused 6 []
+told tail wrongs (OutShort n) = refused 7 (n ∷ [])
+told tail wrongs (Spans s) = accepted (s .dlci ∷ s .spans ∷ s .unfinished ∷ tail ∷ s .bytes ∷ wrongs (s .dlci) ∷ [])
 
 -- what stands in work for the DLCI d, chosen for the pieces ps: a table of n pieces that has its pieces, linked, and their words
 pub record Leaves (f : List ℕ) (ps : List Piece) (channel : Option ℕ) (n : ℕ) (u : List ℕ) (d : ℕ) : Type 0 where
@@ -85,9 +87,10 @@ pub record Leaves (f : List ℕ) (ps : List Piece) (channel : Option ℕ) (n : �
   pub told : AllTold f u (planOf (length f / 4) n d) n
   pub few : 16 + 32 * n ≤ length f
 
--- the answer and the output are those of the list of the DLCI chosen, whatever the tail offset is; where there is a list, work has what
--- counting left
+-- the answer and the output are those of the list of the DLCI chosen, whatever the tail offset and the wrong frames are; where there is a list,
+-- work has what counting left
 pub record ListsSpans (f w : List ℕ) (n : ℕ) (channel : Channel) (out : List ℕ) (r : Listed) (u out′ : List ℕ) : Type 0 where
-  pub meets : (tail : ℕ) → Meets (given (listed (tablePieces f w n) tail (chosen (channelOf channel) (tablePieces f w n)))) out (told tail r) out′
+  pub meets : (tail : ℕ) (wrongs : ℕ → ℕ) → Meets (given (listed (tablePieces f w n) wrongs tail (chosen (channelOf channel) (tablePieces f w n)))) out (told tail wrongs r) out′
   pub front : Front (24 * (length f / 4)) u w
   pub left : (s : Stream) → r ≡ Spans s → Leaves f (tablePieces f w n) (channelOf channel) n u (s .dlci)
+  pub small : (s : Stream) → r ≡ Spans s → s .dlci < 64

@@ -20,8 +20,11 @@ shows-as {X} tell u x s e v = subst (λ (y : X). Shows (numberOf (tell y)) (valu
 pub told-as : (a a′ : Answer) → a ≡ a′ → (s : Shown) → Shows (numberOf a) (valuesOf a) s → (v : List ℕ) (r : ℕ) (w : List ℕ) → Tells s v r w → Told a′ v r w
 told-as a a′ e s p v r w t = rw (sym e) (record { number = t .number ∙ p .number; values = t .values ∙ rw (p .values) })
 
+pub calls-told : (o : Outcome) (d : List ℕ) (a : Answer) (e : List ℕ) → Meets o d a e → (v : List ℕ) (r : ℕ) (w : List ℕ) → Told a v r w → Calls o d e v r w
+calls-told o d a e m v r w t = record { writes = m .writes; tells = rw (sym (m .answers)) t }
+
 pub calls : (o : Outcome) (d : List ℕ) (a : Answer) (e : List ℕ) → Meets o d a e → (s : Shown) → Shows (numberOf a) (valuesOf a) s → (v : List ℕ) (r : ℕ) (w : List ℕ) → Tells s v r w → Calls o d e v r w
-calls o d a e m s p v r w t = record { writes = m .writes; tells = told-as a _ (m .answers) s p v r w t }
+calls o d a e m s p v r w t = calls-told o d a e m v r w (told-as a a refl s p v r w t)
 
 -- ---- values stored
 
@@ -68,12 +71,10 @@ puts-stored (suc n) [] d = refl
 puts-stored (suc n) (x ∷ xs) [] = puts-empty (suc n) 0 (x ∷ xs)
 puts-stored (suc n) (x ∷ xs) (y ∷ d) = rw (sym (put-there (suc n) 0 x (y ∷ d) (omega arith))) (puts-later n 0 xs x d ∙ ap (λ (l : List ℕ). x ∷ l) (puts-stored n xs d))
 
-pub tells-all :
-    (s : Shown) (v p q t u w : List ℕ) → p ≡ putAt (s .count) 0 (s .a) v → q ≡ putAt (s .count) 1 (s .b) p → t ≡ putAt (s .count) 2 (s .c) q → u ≡ putAt (s .count) 3 (s .d) t →
-    w ≡ putAt (s .count) 4 (s .e) u → Tells s v (s .number) w
-tells-all s v p q t u w ep eq et eu ew = record {
+pub tells-all : (s : Shown) (v p q w : List ℕ) → p ≡ putAt (s .count) 0 (s .a) v → q ≡ putAt (s .count) 1 (s .b) p → w ≡ putAt (s .count) 2 (s .c) q → Tells s v (s .number) w
+tells-all s v p q w ep eq ew = record {
   number = refl;
-  values = ew ∙ rw (eu, et, eq, ep) (puts-stored (s .count) (s .a ∷ s .b ∷ s .c ∷ s .d ∷ s .e ∷ []) v);
+  values = ew ∙ rw (eq, ep) (puts-stored (s .count) (s .a ∷ s .b ∷ s .c ∷ []) v);
 }
 
 -- ---- a list stored, place by place

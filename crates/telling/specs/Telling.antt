@@ -36,9 +36,9 @@ pub record Calls (o : Outcome) (d e v : List ℕ) (r : ℕ) (w : List ℕ) : Typ
 
 -- ---- as the code holds it
 
--- how many of five places are values
+-- how many of three places are values
 abbrev pub shownValues : Shown → List ℕ
-shownValues s = take (s .count) (s .a ∷ s .b ∷ s .c ∷ s .d ∷ s .e ∷ [])
+shownValues s = take (s .count) (s .a ∷ s .b ∷ s .c ∷ [])
 
 -- a number and values, shown
 pub record Shows (n : ℕ) (vs : List ℕ) (s : Shown) : Type 0 where

@@ -10,15 +10,13 @@ ghost use Rattle.names.specs.Told.{toldNamed};
 ghost use Rattle.order.specs.Order.{toldOrdered};
 ghost use Rattle.telling.specs.Telling.{numberOf, valuesOf, stored, putAt, Shows, Tells};
 
-// An answer's number, and its values: the first count of a to e.
+// An answer's number, and its values: the first count of a, b and c.
 pub struct Shown {
     pub number: u32,
     pub count: usize,
     pub a: u64,
     pub b: u64,
     pub c: u64,
-    pub d: u64,
-    pub e: u64,
 }
 
 // Stores a value at a place before the count, if the list has it.
@@ -41,8 +39,6 @@ pub fn tell(s: Shown, values: &mut [u64]) -> u32
     put(values, count, 0, s.a);
     put(values, count, 1, s.b);
     put(values, count, 2, s.c);
-    put(values, count, 3, s.d);
-    put(values, count, 4, s.e);
     s.number
 }
 
@@ -69,8 +65,6 @@ pub fn alone(number: u32) -> Shown
         a: 0,
         b: 0,
         c: 0,
-        d: 0,
-        e: 0,
     }
 }
 
@@ -83,8 +77,6 @@ pub fn with_one(number: u32, a: u64) -> Shown
         a,
         b: 0,
         c: 0,
-        d: 0,
-        e: 0,
     }
 }
 
@@ -97,8 +89,6 @@ pub fn with_two(number: u32, a: u64, b: u64) -> Shown
         a,
         b,
         c: 0,
-        d: 0,
-        e: 0,
     }
 }
 
@@ -111,22 +101,6 @@ pub fn with_three(number: u32, a: u64, b: u64, c: u64) -> Shown
         a,
         b,
         c,
-        d: 0,
-        e: 0,
-    }
-}
-
-pub fn with_five(number: u32, a: u64, b: u64, c: u64, d: u64, e: u64) -> Shown
-    ensures { λ r. ⌜ Shows number (a ∷ b ∷ c ∷ d ∷ e ∷ []) r ⌝ }
-{
-    Shown {
-        number,
-        count: 5,
-        a,
-        b,
-        c,
-        d,
-        e,
     }
 }
 

@@ -25,6 +25,7 @@ use Rattle.fixtures.specs.Told.{toldPlanned}
 use Rattle.fixtures.specs.declared.Planned.{Planned}
 use Rattle.fixtures.specs.declared.Planned.the-variants.{Wrote}
 use Rattle.capture.specs.Calls.{Imports}
+use Rattle.capture.specs.declared.Summary.{Summary}
 use Rattle.capture.specs.declared.Imported.{Imported}
 use Rattle.capture.specs.declared.Imported.the-variants.{Spans}
 use Rattle.traceprint.specs.Lies.{Lies}
@@ -86,31 +87,34 @@ accepts (gives us w) d vs e m =
     (λ h. not-accepted (rw h at (m .answers)))
 accepts (refuses n us) d vs e m = not-accepted (m .answers)
 
--- their number is the last value that import answers
+-- their number is among the values that import answers
 
-found-last : (x : Found) (d n u t k : ℕ) (w : List ℕ) → import.given x ≡ gives (d ∷ n ∷ u ∷ t ∷ k ∷ []) w → k ≡ length w
+abbrev valuesOf : Summary → List ℕ
+valuesOf s = s .dlci ∷ s .frames ∷ s .unfinished ∷ s .tail ∷ s .written ∷ s .wrong ∷ []
+
+found-written : (x : Found) (s : Summary) (w : List ℕ) → import.given x ≡ gives (valuesOf s) w → s .written ≡ length w
 unfolding import.given
-found-last (found d′ ss u′ t′) d n u t k w e = cc
-found-last (missing m vs) d n u t k w e = not-given e
+found-written (found y) s w e = cc
+found-written (missing m vs) s w e = not-given e
 
-imported-last : (C : container.Container) (f : List ℕ) (work : ℕ) (o : Options) (d n u t k : ℕ) (w : List ℕ) → imported C f work o ≡ gives (d ∷ n ∷ u ∷ t ∷ k ∷ []) w → k ≡ length w
+imported-written : (C : container.Container) (f : List ℕ) (work : ℕ) (o : Options) (s : Summary) (w : List ℕ) → imported C f work o ≡ gives (valuesOf s) w → s .written ≡ length w
 unfolding imported
-imported-last C f work o d n u t k w e =
+imported-written C f work o s w e =
     splitB (fits f)
     (λ a. splitB (workSuffices f work)
-    (λ b. found-last (outcome C f o) d n u t k w (rw (a, b) at e))
+    (λ b. found-written (outcome C f o) s w (rw (a, b) at e))
     (λ b. not-given (rw (a, b) at e)))
     (λ a. not-given (rw a at e))
 
 pub import-lies : (b : Container) (f work : List ℕ) (o : Options) (out : List ℕ) (r : Imported) (work′ out′ : List ℕ) → Imports b f work o out r work′ out′ → Lies r out′
 import-lies b f work o out r work′ out′ i = record {
-  within = λ d n u t k e.
-      (let g = accepts (imported (containerOf b) f (length work) o) out (d ∷ n ∷ u ∷ t ∷ k ∷ []) out′ (rw e at (i .meets)) in
-      let q = imported-last (containerOf b) f (length work) o d n u t k (g .bytes) (g .gift) in
+  within = λ s e.
+      (let g = accepts (imported (containerOf b) f (length work) o) out (valuesOf s) out′ (rw e at (i .meets)) in
+      let q = imported-written (containerOf b) f (length work) o s (g .bytes) (g .gift) in
       omega (arith, g .room));
 }
 
-pub lies-within : (r : Imported) (out : List ℕ) → Lies r out → (d n u t k : ℕ) → r ≡ Spans d n u t k → k ≤ length out
+pub lies-within : (r : Imported) (out : List ℕ) → Lies r out → (s : Summary) → r ≡ Spans s → s .written ≤ length out
 lies-within r out l = l .within
 
 -- and the last that planning answers

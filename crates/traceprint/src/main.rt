@@ -82,7 +82,7 @@ fn print_spans(spans: &[u8], dlci: usize, frames: usize, unfinished: usize) {
     }
 }
 
-// Import of a btsnoop file, strictly and on any channel. 65,536 bytes of work are more than the 8 times 4,096 that it asks.
+// Import of a btsnoop file, strictly and on any channel, FCS unchecked. 65,536 bytes of work are more than the 8 times 4,096 that it asks.
 fn import_any(file: &[u8], spans: &mut [u8]) -> Imported
     ensures { λ r. ⌜ Lies r (now (spans .exit)) ⌝ }
 {
@@ -91,6 +91,7 @@ fn import_any(file: &[u8], spans: &mut [u8]) -> Imported
         container: Container::Btsnoop,
         channel: Channel::Any,
         tail: Tail::Strict,
+        fcs: false,
     };
     import(file, &mut work, spans, options)
 }
@@ -111,7 +112,7 @@ fn print_unread(x: Refusal) {
 // Why import gives no spans.
 fn print_refusal(a: Imported) {
     match a {
-        Imported::Spans(_, _, _, _, _) => {}
+        Imported::Spans(_) => {}
         Imported::Refused(x) => print_unread(x),
         Imported::NoStream => refuse(6),
         Imported::OutShort(needed) => refuse_with(7, needed),
@@ -122,11 +123,12 @@ fn print_refusal(a: Imported) {
 fn print_trace(file: &[u8]) {
     let mut spans = io::large_buffer();
     let a = import_any(file, &mut spans);
-    let Imported::Spans(dlci, frames, unfinished, _, bytes) = a else {
+    let Imported::Spans(s) = a else {
         print_refusal(a);
         return;
     };
-    print_spans(&spans[..bytes], dlci as usize, frames, unfinished);
+    let bytes = s.written;
+    print_spans(&spans[..bytes], s.dlci as usize, s.frames, s.unfinished);
 }
 
 fn main() {

@@ -7,8 +7,7 @@ use Rattle.imports.proofs.import_told.Reads as reads
 use Rattle.imports.proofs.import_told.Lts as lts
 use Rattle.capture.proofs.import.Reads as import-reads
 use Rattle.imports.proofs.options_in.Reads as options-in-reads
-use Rattle.imports.proofs.shown_imported.Reads as shown-imported-reads
-use Rattle.telling.proofs.tell.Reads as tell-reads
+use Rattle.imports.proofs.tell_imported.Reads as tell-imported-reads
 
 -- src/lib.rt:79:9
 options-in-requires : tie.Need-options-in-requires
@@ -19,12 +18,8 @@ import-requires : tie.Need-import-requires
 import-requires c κs = search needs
 
 -- src/lib.rt:81:9
-shown-imported-requires : tie.Need-shown-imported-requires
-shown-imported-requires c κs = search needs
-
--- src/lib.rt:82:5
-tell-requires : tie.Need-tell-requires
-tell-requires c κs = search needs
+tell-imported-requires : tie.Need-tell-imported-requires
+tell-imported-requires c κs = search needs
 
 -- src/lib.rt:70:1
 same-length : tie.Need-same-length
@@ -48,8 +43,7 @@ import-told-spec =
     (tie.spec
     options-in-requires
     import-requires
-    shown-imported-requires
-    tell-requires
+    tell-imported-requires
     same-length
     same-length-2
     same-length-3

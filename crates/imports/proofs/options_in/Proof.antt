@@ -7,6 +7,7 @@ use Rattle.imports.proofs.options_in.Reads as reads
 use Rattle.imports.proofs.options_in.Lts as lts
 use Rattle.imports.proofs.channel_of.Reads as channel-of-reads
 use Rattle.options.proofs.container_in.Reads as container-in-reads
+use Rattle.options.proofs.fcs_in.Reads as fcs-in-reads
 use Rattle.options.proofs.option_at.Reads as option-at-reads
 use Rattle.options.proofs.tail_in.Reads as tail-in-reads
 
@@ -26,6 +27,10 @@ channel-of-requires c κs = search needs
 tail-in-requires : tie.Need-tail-in-requires
 tail-in-requires c κs = search needs
 
+-- src/lib.rt:44:14
+fcs-in-requires : tie.Need-fcs-in-requires
+fcs-in-requires c κs = search needs
+
 -- src/lib.rt:36:1
 returns : tie.Need-returns
 returns c = search options-in
@@ -38,4 +43,5 @@ options-in-spec =
     container-in-requires
     channel-of-requires
     tail-in-requires
+    fcs-in-requires
     returns)

@@ -22,7 +22,7 @@ cast-plan c = search needs
 
 -- src/lib.rt:175:9
 plan-requires : tie.Need-plan-requires
-plan-requires c κs = found-plan _ _ _ (c .before .before .before .before .before .pre) _ _ _ _ _ (c .before .answer .given .1)
+plan-requires c κs = found-plan _ _ _ (c .before .before .before .before .before .before .pre) _ (c .before .before .answer .given .1)
 
 -- src/lib.rt:176:5
 list-open-requires : tie.Need-list-open-requires

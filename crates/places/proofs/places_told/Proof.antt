@@ -6,9 +6,8 @@ use Rattle.places.proofs.places_told.Tie as tie
 use Rattle.places.proofs.places_told.Reads as reads
 use Rattle.places.proofs.places_told.Lts as lts
 use Rattle.imports.proofs.options_in.Reads as options-in-reads
-use Rattle.imports.proofs.shown_imported.Reads as shown-imported-reads
+use Rattle.imports.proofs.tell_imported.Reads as tell-imported-reads
 use Rattle.places.proofs.import_places.Reads as import-places-reads
-use Rattle.telling.proofs.tell.Reads as tell-reads
 
 -- src/lib.rt:36:9
 options-in-requires : tie.Need-options-in-requires
@@ -19,12 +18,8 @@ import-places-requires : tie.Need-import-places-requires
 import-places-requires c κs = search needs
 
 -- src/lib.rt:39:9
-shown-imported-requires : tie.Need-shown-imported-requires
-shown-imported-requires c κs = search needs
-
--- src/lib.rt:41:17
-tell-requires : tie.Need-tell-requires
-tell-requires c κs = search needs
+tell-imported-requires : tie.Need-tell-imported-requires
+tell-imported-requires c κs = search needs
 
 -- src/lib.rt:26:1
 same-length : tie.Need-same-length
@@ -48,8 +43,7 @@ places-told-spec =
     (tie.spec
     options-in-requires
     import-places-requires
-    shown-imported-requires
-    tell-requires
+    tell-imported-requires
     same-length
     same-length-2
     same-length-3

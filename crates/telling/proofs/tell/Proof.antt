@@ -12,12 +12,6 @@ put-requires-2 c κs = search needs
 put-requires-3 : tie.Need-put-requires-3
 put-requires-3 c κs = search needs
 
-put-requires-4 : tie.Need-put-requires-4
-put-requires-4 c κs = search needs
-
-put-requires-5 : tie.Need-put-requires-5
-put-requires-5 c κs = search needs
-
 same-length : tie.Need-same-length
 same-length c = search needs
 
@@ -31,7 +25,5 @@ tell-spec =
     put-requires
     put-requires-2
     put-requires-3
-    put-requires-4
-    put-requires-5
     same-length
     returns)
