@@ -115,7 +115,9 @@ fn dlci_lines(import: &str, seen: &Seen, dlci: &Dlci, several: bool) -> String {
     let _ = writeln!(text, "DLCI {}: {}.", dlci.dlci, taking(import, seen, dlci));
     if dlci.wrong_fcs > 0 {
         let frames = count(dlci.wrong_fcs, "UIH frame has", "UIH frames have");
-        let _ = writeln!(text, "DLCI {}: {frames} a wrong FCS, and {import} --check-fcs passes over such.", dlci.dlci);
+        let them = if dlci.wrong_fcs == 1 { "it" } else { "them" };
+        let passes = format!("{import} --check-fcs passes {them} over");
+        let _ = writeln!(text, "DLCI {}: {frames} a wrong FCS, and {passes}.", dlci.dlci);
     }
     for refused in &dlci.refused {
         let spans = count(refused.spans, "span does not unpack", "spans do not unpack");

@@ -156,17 +156,17 @@ pub fn lacks(set: &Set) -> String {
     wrong + &losses.collect::<String>()
 }
 
-/// An object for what the list says of the FCS and of losses, each fixture that is as it should be, and each fault.
+/// An object for what the list says of losses and of the FCS, each fixture that is as it should be, and each fault.
 pub fn objects(set: &Set, faults: &[Fault]) -> String {
     let wrong: BTreeSet<&str> = faults.iter().map(|fault| &*fault.what).collect();
     let right = set.fixtures.keys().filter(|name| !wrong.contains(&***name));
     let of = |kind: &str, field: &str, what: &str| object(&[("kind", string(kind)), (field, string(what))]);
-    let mut text = object(&[
+    let mut text: String = set.all("losses").iter().map(|loss| of("losses", "told", loss)).collect();
+    text += &object(&[
         ("kind", string("fcs")),
         ("check_fcs", (set.fcs() == set::CHECKED).to_string()),
         ("wrong_fcs", null_or(set.wrong_fcs())),
     ]);
-    text.extend(set.all("losses").iter().map(|loss| of("losses", "told", loss)));
     text.extend(right.map(|name| of("ok", "name", name)));
     text.extend(
         faults.iter().map(|fault| of(fault.kind, if fault.of_a_name() { "name" } else { "reason" }, &fault.what)),
