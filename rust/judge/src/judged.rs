@@ -49,7 +49,7 @@ pub fn fcs(head: [u8; 2]) -> u8 {
     let mut rest = 0xFF_u8;
     for bit in head.iter().flat_map(|byte| (0..8).map(move |i| byte >> i & 1)) {
         let carry = rest >> 7 ^ bit;
-        rest = rest << 1 ^ 0x07 * carry;
+        rest = (rest << 1) ^ (0x07 * carry);
     }
     (!rest).reverse_bits()
 }
