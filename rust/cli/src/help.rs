@@ -67,7 +67,8 @@ that were not complete are not counted there.
 With --check-fcs, a UIH frame with a wrong FCS is passed over as if it had not come. Those
 on the DLCI that is taken are counted, with information or without. Another DLCI may be
 taken than without --check-fcs, or none; then it is said which is taken without. lumbryth
-channels TRACE shows how many UIH frames on each DLCI have a wrong FCS.
+channels TRACE shows how many UIH frames on each DLCI have a wrong FCS. The FCS is of a
+frame's first two bytes, and tells nothing of the information in it.
 
 Losses that the file itself shows are told, a line each: what, how many, at which byte
 first. They are of the whole file. Hints come after them and are less: by the frames alone,

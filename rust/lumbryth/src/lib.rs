@@ -38,8 +38,8 @@
 //! # Ok::<(), Box<dyn std::error::Error>>(())
 //! ```
 //!
-//! They also say whether the FCS of RFCOMM's UIH frames is checked, which it is not by default. If it is, those with a wrong one are
-//! passed over and counted, so that what a noisy adapter damaged does not come among the frames.
+//! They also say whether the FCS of RFCOMM's UIH frames is checked, which it is not by default. If it is, those with a wrong one, as a
+//! noisy adapter gives them, are passed over and counted. The FCS is of address and control alone, and tells nothing of the information.
 //!
 //! ```
 //! use lumbryth::{import_with, Options};
