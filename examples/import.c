@@ -1,9 +1,10 @@
 /*
- * Reads a trace, btsnoop or pcap, imports it tolerantly, and prints what was found.
+ * Reads a trace, btsnoop or pcap, imports it tolerantly, and prints what was found. With
+ * --check-fcs, RFCOMM's UIH frames with a wrong FCS are passed over, and counted.
  * `import.rs` does and prints the same.
  *
  *     cc -I include -o target/import examples/import.c target/staticlib/liblumbryth.a
- *     target/import TRACE
+ *     target/import TRACE [--check-fcs]
  */
 #include <inttypes.h>
 #include <stdio.h>
@@ -81,15 +82,17 @@ static void print_spans(const uint8_t *list, size_t len)
 int main(int argc, char **argv)
 {
     uint8_t *file, *work, *out = NULL;
-    struct lumbryth_options options = {LUMBRYTH_ANY_CHANNEL, 1, LUMBRYTH_BTSNOOP};
-    uint64_t values[LUMBRYTH_VALUES];
+    struct lumbryth_options options = {LUMBRYTH_ANY_CHANNEL, 1, LUMBRYTH_BTSNOOP, 0};
+    struct lumbryth_imported answer;
+    uint64_t *values = (uint64_t *)&answer;
     uint8_t nothing[1];
     size_t work_len;
     uint32_t refusal;
     long len;
 
-    if (argc != 2) {
-        fprintf(stderr, "usage: import TRACE\n");
+    options.check_fcs = argc == 3 && strcmp(argv[2], "--check-fcs") == 0;
+    if (argc != 2 && !options.check_fcs) {
+        fprintf(stderr, "usage: import TRACE [--check-fcs]\n");
         return 2;
     }
     file = malloc(LUMBRYTH_FILE_MAX + 1);
@@ -122,10 +125,13 @@ int main(int argc, char **argv)
     if (refusal != LUMBRYTH_OK) {
         fprintf(stderr, "%s: refused (%" PRIu32 ")\n", argv[1], refusal);
     } else {
-        printf("DLCI %" PRIu64 ", frames %" PRIu64 ", unfinished %" PRIu64 "\n", values[0], values[1], values[2]);
-        if (values[3] < (uint64_t)len)
-            printf("the file ends inside the record that starts at byte %" PRIu64 "\n", values[3]);
-        print_spans(out, (size_t)values[4]);
+        printf("DLCI %" PRIu64 ", frames %" PRIu64 ", unfinished %" PRIu64 "\n",
+            answer.dlci, answer.frames, answer.unfinished);
+        if (options.check_fcs)
+            printf("UIH frames with a wrong FCS, passed over: %" PRIu64 "\n", answer.wrong_fcs);
+        if (answer.tail < (uint64_t)len)
+            printf("the file ends inside the record that starts at byte %" PRIu64 "\n", answer.tail);
+        print_spans(out, (size_t)answer.bytes);
     }
     free(out);
     free(work);

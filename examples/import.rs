@@ -1,7 +1,8 @@
-//! Reads a trace, btsnoop or pcap, imports it tolerantly, and prints what was found. `import.c`
+//! Reads a trace, btsnoop or pcap, imports it tolerantly, and prints what was found. With
+//! --check-fcs, RFCOMM's UIH frames with a wrong FCS are passed over, and counted. `import.c`
 //! does and prints the same.
 //!
-//!     cargo run --example import -- TRACE
+//!     cargo run --example import -- TRACE [--check-fcs]
 
 use std::env;
 use std::error::Error;
@@ -20,9 +21,13 @@ fn main() -> Result<(), Box<dyn Error>> {
     // asked for as btsnoop, and refused if it is not.
     let is_pcap = PCAP.iter().any(|magic| file.starts_with(magic));
     let container = if is_pcap { Container::Pcap } else { Container::Btsnoop };
-    let options = Options::default().with_tail(TailRule::Tolerant).with_container(container);
+    let check_fcs = env::args_os().nth(2).is_some_and(|word| word == "--check-fcs");
+    let options = Options::default().with_tail(TailRule::Tolerant).with_container(container).with_check_fcs(check_fcs);
     let imported = import_with(&file, &options)?;
     println!("DLCI {}, frames {}, unfinished {}", imported.dlci, imported.frames, imported.unfinished);
+    if check_fcs {
+        println!("UIH frames with a wrong FCS, passed over: {}", imported.wrong_fcs);
+    }
     if let Some(cut) = cut_with(&file, imported.tail, &options) {
         println!("the file ends inside the record that starts at byte {}", cut.offset);
     }

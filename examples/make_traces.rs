@@ -1,14 +1,15 @@
 //! Makes the example traces: `headset.btsnoop`, and `cut.btsnoop`, which is the same
 //! recording cut off inside its last record but one, while a reply is under way;
 //! `headset.pcap` and `cut.pcap`, the same packets with the same times in the other
-//! container; and `two-adapters.btsnoop`.
+//! container; `two-adapters.btsnoop`; and `noisy.btsnoop`.
 //!
 //!     cargo run --example make_traces -- DIR
 //!
 //! A phone opens RFCOMM to a headset, asks for this and that, and the headset replies. The
 //! recording keeps the rules of an honest one (document 01), but for one frame that was
-//! damaged on its way. In the last one a desk with two adapters does so with two headsets
-//! at once. The same bytes come out each time.
+//! damaged on its way. In `two-adapters.btsnoop` a desk with two adapters does so with two
+//! headsets at once. In `noisy.btsnoop` the FCS of three UIH frames is wrong. The same bytes
+//! come out each time.
 
 mod trace;
 
@@ -187,6 +188,39 @@ fn two_adapters() -> Result<Trace, Refusal> {
     Ok(r.trace)
 }
 
+/// A noisy adapter: three UIH frames come on the channel whose FCS is wrong. The first is of
+/// another channel, with a bit of its address changed, and comes between the pieces of a
+/// reply; the second has a credit and no information; the third is a whole notice, which no
+/// ACK follows, so that the headset sends it again.
+fn noisy() -> Result<Trace, Refusal> {
+    // The DLCI of RFCOMM channel 11, which differs from the other in this bit of the address.
+    let (other, bit) = (22, 0x10);
+    let mut r = Recording { trace: Trace::new(1002), us: START };
+    r.send(Tx, &signal(2, 3, &[3, PHONE]), &[]);
+    r.send(Rx, &signal(3, 3, &[HEADSET, PHONE, 0, 0]), &[]);
+    r.ask(MDR, 0, &[0x22, 0x00], &[0x23, 0x00, 0x3C, 0x00], None)?;
+    r.rfcomm(Tx, &uih(other, true, None, b"AT\r"), &[]);
+    r.data(Tx, &pack(MDR, 1, &[0x66, 0x17])?);
+    r.data(Rx, &pack(ACK, 0, &[])?);
+    let reply = pack(MDR, 1, &[0x67, 0x17, 0x01, 0x01, 0x00, 0x00, 0x0E])?;
+    r.data(Rx, &reply[..6]);
+    let mut frame = uih(other, false, None, b"\r\nOK\r\n");
+    frame[0] ^= bit;
+    r.rfcomm(Rx, &frame, &[]);
+    r.data(Rx, &reply[6..]);
+    r.data(Tx, &pack(ACK, 0, &[])?);
+    let mut credit = uih(DLCI, false, Some(5), &[]);
+    let notice = uih(DLCI, false, None, &pack(MDR, 0, &[0x25, 0x00, 0x3B, 0x00])?);
+    let mut changed = notice.clone();
+    for frame in [&mut credit, &mut changed] {
+        *frame.last_mut().expect("the FCS is there") ^= 0x04;
+        r.rfcomm(Rx, frame, &[]);
+    }
+    r.rfcomm(Rx, &notice, &[]);
+    r.data(Tx, &pack(ACK, 1, &[])?);
+    Ok(r.trace)
+}
+
 fn main() -> Result<(), Box<dyn Error>> {
     let dir = env::args_os().nth(1).ok_or("say which directory to write the traces to")?;
     let trace = headset()?;
@@ -202,5 +236,8 @@ fn main() -> Result<(), Box<dyn Error>> {
     let trace = two_adapters()?;
     fs::write(Path::new(&dir).join("two-adapters.btsnoop"), &trace.file)?;
     println!("two adapters: {} records, {} bytes", trace.starts.len(), trace.file.len());
+    let trace = noisy()?;
+    fs::write(Path::new(&dir).join("noisy.btsnoop"), &trace.file)?;
+    println!("a noisy adapter: {} records, {} bytes", trace.starts.len(), trace.file.len());
     Ok(())
 }

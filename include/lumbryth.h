@@ -24,7 +24,8 @@
  * - At the front of `values` it stores what it answers or, after a refusal, what
  *   the refusal carries: as many as `values_len` has room for. LUMBRYTH_VALUES
  *   places are room for all, but for lumbryth_gaps and lumbryth_gaps_with, which
- *   store LUMBRYTH_GAPS. Places past those stay as they were.
+ *   store LUMBRYTH_GAPS. Places past those stay as they were. Values that are added
+ *   later come at the end, so a caller that lends room for fewer goes on as before.
  * - What it writes goes to the front of `out`; the bytes of `out` behind that stay
  *   as they were, and after a refusal all of them do.
  * - An output that is too short is refusal 7 (LUMBRYTH_OUT_SHORT), which carries the
@@ -101,7 +102,7 @@ extern "C" {
 #define LUMBRYTH_NAME_MAX 118        /* the longest name that is given */
 #define LUMBRYTH_PACKET_MAX 65540    /* the longest packet of a btsnoop record; one that says more is damaged */
 #define LUMBRYTH_PCAP_PACKET_MAX 65544 /* the same of a pcap record, which has the direction too, 4 bytes */
-#define LUMBRYTH_VALUES 5            /* the most values that a call stores, but for the gaps */
+#define LUMBRYTH_VALUES 6            /* the most values that a call stores, but for the gaps */
 
 /* A channel that stands for: any. So does every other number over 255. */
 #define LUMBRYTH_ANY_CHANNEL 256
@@ -217,7 +218,9 @@ uint32_t lumbryth_capture_order(const uint8_t *names, size_t names_len,
  * Values: DLCI, frames (every span in the list, also those that do not unpack),
  * unfinished (how many stretches and directions of the DLCI hold bytes without an end
  * marker, 3C; a PDU of which only a part was recorded is not counted), tail offset,
- * bytes written.
+ * bytes written, wrong FCS (how many UIH frames of the DLCI were passed over because their
+ * FCS is wrong; always 0 here, as only the calls with options check it, if they are asked
+ * to).
  * The tail offset is where reading stopped: the file's length, or where the record
  * starts that passes the file's end, from the file's start. If it is less than
  * `file_len`, the file was cut, or is damaged there: no packet has over
@@ -249,26 +252,38 @@ struct lumbryth_options {
     uint64_t channel;   /* 0 to 255; any other number, and the default: any channel */
     uint64_t tolerant;  /* 0, and the default: the strict rule; any other number: tolerant */
     uint64_t container; /* 0, and the default: btsnoop; any other number: pcap */
+    uint64_t check_fcs; /* 0, and the default: FCS not checked; any other number: checked */
 };
 #define LUMBRYTH_OPTIONS (sizeof(struct lumbryth_options) / sizeof(uint64_t))
 
-/* What an import stores in `values`, with room for LUMBRYTH_VALUES. */
+/* What an import stores in `values`, with room for LUMBRYTH_VALUES. Fields that are added
+ * later come at the end. */
 struct lumbryth_imported {
     uint64_t dlci;
     uint64_t frames;
     uint64_t unfinished;
     uint64_t tail;
     uint64_t bytes;
+    uint64_t wrong_fcs;
 };
 
 /*
  * Imports as lumbryth_import does, by a list of options: a btsnoop or a pcap file. For
  * example
  *
- *   struct lumbryth_options options = {LUMBRYTH_ANY_CHANNEL, 1, LUMBRYTH_PCAP};
+ *   struct lumbryth_options options = {LUMBRYTH_ANY_CHANNEL, 1, LUMBRYTH_PCAP, 0};
  *   struct lumbryth_imported answer;
  *   number = lumbryth_import_with(file, file_len, work, work_len, out, out_len,
  *       (const uint64_t *)&options, LUMBRYTH_OPTIONS, (uint64_t *)&answer, LUMBRYTH_VALUES);
+ *
+ * With `check_fcs`, the FCS of each UIH frame is checked: the byte after the information
+ * (bytes after it are not looked at) against TS 07.10's check over address and control. A
+ * UIH frame whose FCS is wrong is passed over as if it were none: its information is not
+ * taken, no DLCI is seen by it, and what came before it and comes after it joins. The DLCI
+ * is chosen by the other frames, so it may be another than without `check_fcs`, or none
+ * (6). The last value is how many UIH frames of the DLCI have a wrong FCS, with information
+ * or without, anywhere in the file; it is 0 without `check_fcs`, and 6 does not carry it. Of
+ * other frames, SABM too, the FCS is not checked.
  *
  * Refusals: 1 to 7, in this order; of pcap 1, 2, 21, 22, 5, 6, 7.
  */
@@ -319,8 +334,9 @@ uint32_t lumbryth_import_stretches(const uint8_t *file, size_t file_len,
     uint32_t channel, uint32_t tolerant, uint64_t *values, size_t values_len);
 
 /*
- * The same by a list of options: of a btsnoop or a pcap file. Places, and the refusal
- * without enough of them, are as there. Refusals: as for lumbryth_import_with.
+ * The same by a list of options: of a btsnoop or a pcap file, with the FCS checked or not.
+ * The stretches are those of the bytes that are taken. Places, and the refusal without
+ * enough of them, are as there. Refusals: as for lumbryth_import_with.
  */
 uint32_t lumbryth_import_stretches_with(const uint8_t *file, size_t file_len,
     uint8_t *work, size_t work_len, struct lumbryth_stretch *stretches, size_t stretches_len,

@@ -2,7 +2,8 @@
  * Imports a trace tolerantly and prints the stretches that hold bytes at its end, with
  * `way` taken apart and put together again. With a second word, `pcap`, the trace is asked
  * for as pcap. A btsnoop file is imported by both calls, which answer the same, also where
- * the list of options does not say the container.
+ * the list of options does not say the container. Then it is imported with the FCS checked.
+ * Of a caller that lends room for fewer values, the others stay as they were.
  *
  *     stretches TRACE [pcap]
  */
@@ -20,18 +21,43 @@ static struct lumbryth_stretch stretches[LUMBRYTH_FILE_MAX / 24];
 #define PLACES (sizeof stretches / sizeof *stretches)
 
 /* Imports by options, the first so many of them. */
-static uint32_t import_with(size_t len, uint64_t container, size_t options_len, uint64_t *values)
+static uint32_t import_with(size_t len, uint64_t container, uint64_t check_fcs, size_t options_len, uint64_t *values)
 {
-    struct lumbryth_options options = {LUMBRYTH_ANY_CHANNEL, 1, LUMBRYTH_BTSNOOP};
+    struct lumbryth_options options = {LUMBRYTH_ANY_CHANNEL, 1, LUMBRYTH_BTSNOOP, 0};
     options.container = container;
+    options.check_fcs = check_fcs;
     return lumbryth_import_stretches_with(file, len, work, sizeof work, stretches, PLACES, out, sizeof out,
         (const uint64_t *)&options, options_len, values, LUMBRYTH_VALUES);
+}
+
+/* Whether both calls with options, with the FCS checked and with room for the first so many
+ * values, store those and leave the others. */
+static int stores(size_t len, uint64_t container, const uint64_t *values, size_t values_len)
+{
+    const struct lumbryth_options options = {LUMBRYTH_ANY_CHANNEL, 1, container, 1};
+    uint64_t first[LUMBRYTH_VALUES], second[LUMBRYTH_VALUES];
+    size_t i;
+    for (i = 0; i < LUMBRYTH_VALUES; i++)
+        first[i] = second[i] = 77;
+    if (lumbryth_import_with(file, len, work, sizeof work, out, sizeof out,
+            (const uint64_t *)&options, LUMBRYTH_OPTIONS, first, values_len) != LUMBRYTH_OK)
+        return 0;
+    if (lumbryth_import_stretches_with(file, len, work, sizeof work, stretches, PLACES, out, sizeof out,
+            (const uint64_t *)&options, LUMBRYTH_OPTIONS, second, values_len) != LUMBRYTH_OK)
+        return 0;
+    for (i = 0; i < LUMBRYTH_VALUES; i++) {
+        if (first[i] != (i < values_len ? values[i] : 77) || first[i] != second[i])
+            return 0;
+    }
+    return 1;
 }
 
 int main(int argc, char **argv)
 {
     static struct lumbryth_stretch before[PLACES];
     uint64_t values[LUMBRYTH_VALUES], again[LUMBRYTH_VALUES], i;
+    uint64_t container = LUMBRYTH_BTSNOOP;
+    struct lumbryth_imported checked;
     uint32_t refusal;
     size_t len, options_len;
     int pcap = argc == 3 && strcmp(argv[2], "pcap") == 0;
@@ -41,21 +67,22 @@ int main(int argc, char **argv)
     len = fread(file, 1, sizeof file, f);
     fclose(f);
     if (pcap) {
-        refusal = import_with(len, LUMBRYTH_PCAP, LUMBRYTH_OPTIONS, values);
+        container = LUMBRYTH_PCAP;
         /* As btsnoop it is refused. */
-        if (import_with(len, LUMBRYTH_BTSNOOP, LUMBRYTH_OPTIONS, again) != LUMBRYTH_NOT_BTSNOOP)
+        if (import_with(len, LUMBRYTH_BTSNOOP, 0, LUMBRYTH_OPTIONS, again) != LUMBRYTH_NOT_BTSNOOP)
             return 1;
+        refusal = import_with(len, LUMBRYTH_PCAP, 0, LUMBRYTH_OPTIONS, values);
     } else {
         refusal = lumbryth_import_stretches(file, len, work, sizeof work, stretches, PLACES, out, sizeof out,
             LUMBRYTH_ANY_CHANNEL, 1, values, LUMBRYTH_VALUES);
         memcpy(before, stretches, sizeof before);
         for (options_len = 2; options_len <= LUMBRYTH_OPTIONS; options_len++) {
             memset(stretches, 0, sizeof stretches);
-            if (import_with(len, LUMBRYTH_BTSNOOP, options_len, again) != refusal
+            if (import_with(len, LUMBRYTH_BTSNOOP, 0, options_len, again) != refusal
                 || memcmp(values, again, sizeof values) != 0 || memcmp(before, stretches, sizeof before) != 0)
                 return 1;
         }
-        if (import_with(len, LUMBRYTH_PCAP, LUMBRYTH_OPTIONS, again) != LUMBRYTH_NOT_PCAP)
+        if (import_with(len, LUMBRYTH_PCAP, 0, LUMBRYTH_OPTIONS, again) != LUMBRYTH_NOT_PCAP)
             return 1;
     }
     if (refusal != LUMBRYTH_OK)
@@ -70,5 +97,21 @@ int main(int argc, char **argv)
             ", sessions %" PRIu32 ", links %" PRIu32 ", held %" PRIu32 "\n",
             adapter, handle, LUMBRYTH_WAY_RX(s.way) ? "rx" : "tx", s.cid, s.dlci, s.sessions, s.links, s.held);
     }
+
+    /* Not checked, nothing is counted; a list that does not say it is not checked either. */
+    if (values[5] != 0 || import_with(len, container, 1, LUMBRYTH_OPTIONS - 1, again) != LUMBRYTH_OK
+        || memcmp(values, again, sizeof values) != 0)
+        return 1;
+    /* Any number but 0 checks. */
+    if (import_with(len, container, 1, LUMBRYTH_OPTIONS, (uint64_t *)&checked) != LUMBRYTH_OK
+        || import_with(len, container, UINT64_MAX - 1, LUMBRYTH_OPTIONS, again) != LUMBRYTH_OK
+        || memcmp(&checked, again, sizeof checked) != 0 || sizeof checked != sizeof again)
+        return 1;
+    for (i = 0; i <= LUMBRYTH_VALUES; i++) {
+        if (!stores(len, container, again, (size_t)i))
+            return 1;
+    }
+    printf("FCS checked: frames %" PRIu64 ", unfinished %" PRIu64 ", wrong FCS %" PRIu64 "\n",
+        checked.frames, checked.unfinished, checked.wrong_fcs);
     return 0;
 }

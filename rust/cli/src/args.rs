@@ -14,6 +14,8 @@ pub struct Look {
     pub trace: PathBuf,
     pub channel: Option<u8>,
     pub tolerant: bool,
+    /// Whether UIH frames with a wrong FCS are passed over.
+    pub check_fcs: bool,
 }
 
 #[derive(Debug, PartialEq)]
@@ -51,10 +53,14 @@ struct Takes {
     flags: &'static [&'static str],
 }
 
-const IMPORT: Takes =
-    Takes { command: "import", values: &["--out", "--channel", "--exclude"], flags: &["--tolerant", "--dry-run"] };
+const IMPORT: Takes = Takes {
+    command: "import",
+    values: &["--out", "--channel", "--exclude"],
+    flags: &["--tolerant", "--check-fcs", "--dry-run"],
+};
 const RECORDS: Takes = Takes { command: "records", values: &[], flags: &["--json"] };
-const FRAMES: Takes = Takes { command: "frames", values: &["--channel"], flags: &["--tolerant", "--json"] };
+const FRAMES: Takes =
+    Takes { command: "frames", values: &["--channel"], flags: &["--tolerant", "--check-fcs", "--json"] };
 const CHANNELS: Takes = Takes { command: "channels", values: &[], flags: &["--json"] };
 const CHECK: Takes = Takes { command: "check", values: &[], flags: &["--json"] };
 
@@ -93,7 +99,7 @@ impl Given {
             [_, second, ..] => return Err(format!("one trace at a time: '{}' is one too many", shown(second))),
         };
         let channel = self.once("--channel")?.map(|value| channel(value)).transpose()?;
-        Ok(Look { trace, channel, tolerant: self.has("--tolerant") })
+        Ok(Look { trace, channel, tolerant: self.has("--tolerant"), check_fcs: self.has("--check-fcs") })
     }
 }
 

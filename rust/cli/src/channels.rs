@@ -113,6 +113,12 @@ fn dlci_lines(import: &str, seen: &Seen, dlci: &Dlci, several: bool) -> String {
         let _ = writeln!(text, "DLCI {} on {}: {}.", dlci.dlci, named(*link, several), numbers(share));
     }
     let _ = writeln!(text, "DLCI {}: {}.", dlci.dlci, taking(import, seen, dlci));
+    if dlci.wrong_fcs > 0 {
+        let frames = count(dlci.wrong_fcs, "UIH frame has", "UIH frames have");
+        let them = if dlci.wrong_fcs == 1 { "it" } else { "them" };
+        let passes = format!("{import} --check-fcs passes {them} over");
+        let _ = writeln!(text, "DLCI {}: {frames} a wrong FCS, and {passes}.", dlci.dlci);
+    }
     for refused in &dlci.refused {
         let spans = count(refused.spans, "span does not unpack", "spans do not unpack");
         let first = if refused.spans == 1 { "" } else { "the first: " };
@@ -219,6 +225,7 @@ fn dlci_objects(seen: &Seen, dlci: &Dlci) -> String {
         ("spans", dlci.all.spans.to_string()),
         ("frames", dlci.all.frames.to_string()),
         ("unfinished", dlci.all.unfinished.to_string()),
+        ("wrong_fcs", dlci.wrong_fcs.to_string()),
         ("asked_by", null_or(asked)),
     ]);
     for (link, share) in &dlci.links {
@@ -251,8 +258,8 @@ fn others(seen: &Seen, taken: Option<u8>) -> impl Iterator<Item = &Dlci> {
 }
 
 /// What other DLCIs have frames than the one taken, if one is: a sentence each.
-pub fn other_lines(trace: Trace, taken: Option<u8>) -> Vec<String> {
-    let Ok(seen) = look::look(trace) else { return Vec::new() };
+pub fn other_lines(trace: Trace, check_fcs: bool, taken: Option<u8>) -> Vec<String> {
+    let Ok(seen) = look::look(trace, check_fcs) else { return Vec::new() };
     let line = |dlci: &Dlci| {
         let (number, channel) = (dlci.dlci, dlci.channel());
         let frames = count(dlci.all.frames, "frame that unpacks", "frames that unpack");
@@ -271,9 +278,18 @@ pub fn other_lines(trace: Trace, taken: Option<u8>) -> Vec<String> {
     others(&seen, taken).map(line).collect()
 }
 
+/// What is taken without --check-fcs, if that is another DLCI than the one taken with it, or none is.
+pub fn unchecked_line(trace: Trace, channel: Option<u8>, taken: Option<u8>) -> Option<String> {
+    let seen = look::look(trace, false).ok()?;
+    let other = seen.taken(channel).filter(|dlci| Some(dlci.dlci) != taken)?;
+    let frames = count(other.all.frames, "frame that unpacks", "frames that unpack");
+    let (number, channel) = (other.dlci, other.channel());
+    Some(format!("Without --check-fcs, DLCI {number}, channel {channel}, is taken, which has {frames}."))
+}
+
 /// What `other_lines` says, an object a line.
-pub fn other_objects(trace: Trace, taken: u8) -> String {
-    let Ok(seen) = look::look(trace) else { return String::new() };
+pub fn other_objects(trace: Trace, check_fcs: bool, taken: u8) -> String {
+    let Ok(seen) = look::look(trace, check_fcs) else { return String::new() };
     let other = |dlci: &Dlci| {
         object(&[
             ("kind", string("other")),

@@ -8,7 +8,7 @@ use std::path::Path;
 use crate::losses;
 use crate::set::{self, Set};
 use crate::sha256::sum;
-use crate::words::{count, object, shown, string};
+use crate::words::{count, null_or, object, shown, string, wrong_fcs};
 use lumbryth::FILE_MAX;
 
 /// What is wrong with a set, or with a name of it.
@@ -143,21 +143,30 @@ pub fn told(set: &Set) -> String {
     format!("{} frames in the trace, end {end}: {name}\n", fact("frames"))
 }
 
-/// What a list says of losses: a line for each, and one if it does not say; none if none was seen.
-pub fn losses(set: &Set) -> String {
+/// What a list says that the set lacks. Of UIH frames with a wrong FCS a line, if they were passed over; of losses a line for each,
+/// and one if it does not say; none if none was seen.
+pub fn lacks(set: &Set) -> String {
+    let dlci = set.fact("dlci").unwrap_or("not told");
+    let wrong = set.wrong_fcs().map_or(String::new(), |n| wrong_fcs(dlci, n) + "\n");
     let told = set.all("losses");
     if told.is_empty() {
-        return "Losses: the list does not tell.\n".to_string();
+        return wrong + "Losses: the list does not tell.\n";
     }
-    told.iter().filter(|loss| **loss != losses::NONE).map(|loss| format!("Losses: {loss}.\n")).collect()
+    let losses = told.iter().filter(|loss| **loss != losses::NONE).map(|loss| format!("Losses: {loss}.\n"));
+    wrong + &losses.collect::<String>()
 }
 
-/// An object for what the list says of losses, each fixture that is as it should be, and each fault.
+/// An object for what the list says of losses and of the FCS, each fixture that is as it should be, and each fault.
 pub fn objects(set: &Set, faults: &[Fault]) -> String {
     let wrong: BTreeSet<&str> = faults.iter().map(|fault| &*fault.what).collect();
     let right = set.fixtures.keys().filter(|name| !wrong.contains(&***name));
     let of = |kind: &str, field: &str, what: &str| object(&[("kind", string(kind)), (field, string(what))]);
     let mut text: String = set.all("losses").iter().map(|loss| of("losses", "told", loss)).collect();
+    text += &object(&[
+        ("kind", string("fcs")),
+        ("check_fcs", (set.fcs() == set::CHECKED).to_string()),
+        ("wrong_fcs", null_or(set.wrong_fcs())),
+    ]);
     text.extend(right.map(|name| of("ok", "name", name)));
     text.extend(
         faults.iter().map(|fault| of(fault.kind, if fault.of_a_name() { "name" } else { "reason" }, &fault.what)),

@@ -41,6 +41,8 @@ lumbryth check DIR checks the set by it; so does, in DIR, sha256sum -c fixtures.
   --channel N      only RFCOMM channel N, 0 to 31; else the first that carries frames
   --tolerant       read a file that ends inside a record up to there, and say what was
                    kept and what is missing; else such a file is refused
+  --check-fcs      pass over RFCOMM's UIH frames whose check byte, the FCS, is wrong, as
+                   a noisy adapter gives them, and say how many; else it is not checked
   --exclude NAME   leave out the frames of a command, such as POWER_GET_STATUS, or of
                    none, NO_COMMAND; may be given again for more
   --dry-run        write nothing: print the names of the files, and on standard error
@@ -61,6 +63,12 @@ frames, lumbryth channels TRACE shows why.
 Unfinished are bytes at the end that have no end marker: told by handle, direction
 (received is from the headset), DLCI and how many are held. They make no file. Packets
 that were not complete are not counted there.
+
+With --check-fcs, a UIH frame with a wrong FCS is passed over as if it had not come. Those
+on the DLCI that is taken are counted, with information or without. Another DLCI may be
+taken than without --check-fcs, or none; then it is said which is taken without. lumbryth
+channels TRACE shows how many UIH frames on each DLCI have a wrong FCS. The FCS is of a
+frame's first two bytes, and tells nothing of the information in it.
 
 Losses that the file itself shows are told, a line each: what, how many, at which byte
 first. They are of the whole file. Hints come after them and are less: by the frames alone,
@@ -90,6 +98,8 @@ is told with the adapter. The frames of all adapters come in one list, in order 
 completion, which does not tell the adapters apart.
 
   --channel N      only RFCOMM channel N, 0 to 31; else the first that carries frames
+  --check-fcs      pass over RFCOMM's UIH frames whose check byte, the FCS, is wrong, and
+                   say how many there are on the DLCI; else it is not checked
   --json           an object a line: import, unfinished, hint, frame, then other, for each
                    other DLCI that has frames
   --               what follows is no option
@@ -115,8 +125,9 @@ Lists what TRACE has inside, and what import makes of it, a line for each fact. 
 handle, with packets and PDUs each way (rx is from the headset). Under it its channels: CID,
 direction, what it is, PSM if a request tells it, PDUs. Then each DLCI, in the order in
 which import looks at them: its RFCOMM channel, frames (spans that unpack), spans (bytes
-from 3E through 3C), pieces, and how many are unfinished; how import takes it; and why spans
-do not unpack. If import takes none, the last line says why.
+from 3E through 3C), pieces, and how many are unfinished; how import takes it; how many UIH
+frames on it have a wrong FCS, if any, which import --check-fcs passes over; and why spans do
+not unpack. If import takes none, the last line says why.
 
 If the trace has more than one adapter, each handle is told with its adapter, since two
 adapters may use the same handle; and what each DLCI has is also told for each adapter and
@@ -143,10 +154,12 @@ usage: lumbryth check DIR [TRACE] [options]
 Checks a set of fixtures that import wrote to DIR, by its list, fixtures.sha256: names each
 fixture that is missing, changed or unreadable, and each that is extra. With TRACE, imports that again
 as the set was asked for, and names in what it differs. Files that are no fixtures are
-passed over. Losses that the list tells are told again.
+passed over. Losses that the list tells are told again, and if import was asked to check the
+FCS, how many UIH frames it passed over.
 
-  --json           an object a line: losses; each fixture, ok, missing, changed, unreadable
-                   or extra; and what is wrong with the list, or differs from the trace
+  --json           an object a line: losses; fcs; each fixture, ok, missing, changed,
+                   unreadable or extra; and what is wrong with the list, or differs from
+                   the trace
   --               what follows is no option
 
 Exit status: 0 if nothing is wrong; 1 if something is, or cannot be read; 2 if the command

@@ -30,7 +30,7 @@ use args::{Check, Command, Import, Look};
 use check::Fault;
 use look::Trace;
 use lumbryth::{import_stretches_with, plan, Fixture, Gaps, Imported, Stretch, TailRule};
-use refused::refused;
+use refused::{refused, Asked};
 use set::Set;
 use words::{count, shown};
 use write::Stopped;
@@ -126,11 +126,11 @@ fn found(look: &Look) -> Result<Found, Failure> {
 fn imported(look: &Look, file: Vec<u8>) -> Result<Found, Failure> {
     let trace = Trace::of(&file);
     let tail = if look.tolerant { TailRule::Tolerant } else { TailRule::Strict };
-    let mut options = trace.options().with_tail(tail);
+    let mut options = trace.options().with_tail(tail).with_check_fcs(look.check_fcs);
     options.channel = look.channel;
     match import_stretches_with(&file, &options).and_then(|found| Ok((found, trace.gaps(tail)?))) {
         Ok(((imported, open), gaps)) => Ok(Found { file, imported, open, gaps }),
-        Err(refusal) => Err(Failure::Refused(refused(&look.trace, look.channel, trace, refusal))),
+        Err(refusal) => Err(Failure::Refused(refused(&look.trace, look.into(), trace, refusal))),
     }
 }
 
@@ -143,18 +143,21 @@ fn planned(look: &Look, exclude: &[String], found: &Found) -> Result<(Vec<Fixtur
     Ok((fixtures, set))
 }
 
-/// The other DLCIs that carry frames, a line each.
-fn others(trace: Trace, imported: &Imported) -> String {
-    channels::other_lines(trace, Some(imported.dlci)).iter().map(|line| format!("{line}\n")).collect()
+/// The DLCI that is taken where the FCS is not checked, if it is another, and the other DLCIs that carry frames, a line each.
+fn others(trace: Trace, look: &Look, imported: &Imported) -> String {
+    let taken = Some(imported.dlci);
+    let unchecked = look.check_fcs.then(|| channels::unchecked_line(trace, look.channel, taken)).flatten();
+    let others = channels::other_lines(trace, look.check_fcs, taken);
+    unchecked.iter().chain(&others).map(|line| format!("{line}\n")).collect()
 }
 
 fn run_import(options: &Import) -> Result<(), Failure> {
     let found = found(&options.look)?;
     let (fixtures, set) = planned(&options.look, &options.exclude, &found)?;
     let (trace, Found { imported, open, gaps, .. }) = (found.trace(), &found);
-    let mut findings = report::findings(trace, imported, open, options.look.channel.is_some(), "among the fixtures");
+    let mut findings = report::findings(trace, &options.look, imported, open, "among the fixtures");
     findings += &report::missing(trace, imported, gaps);
-    findings += &others(trace, imported);
+    findings += &others(trace, &options.look, imported);
     let excluded = imported.frames - report::broken(imported) - fixtures.len();
     if !options.exclude.is_empty() {
         findings += &format!("{} left out by --exclude.\n", count(excluded, "frame", "frames"));
@@ -173,19 +176,19 @@ fn run_frames(look: &Look, json: bool) -> Result<(), Failure> {
     let found = found(look)?;
     let (trace, Found { imported, open, gaps, .. }) = (found.trace(), &found);
     if json {
-        let others = channels::other_objects(trace, imported.dlci);
-        return print(&(report::frame_objects(trace, imported, open, gaps) + &others));
+        let others = channels::other_objects(trace, look.check_fcs, imported.dlci);
+        return print(&(report::frame_objects(trace, look, imported, open, gaps) + &others));
     }
-    let mut findings = report::findings(trace, imported, open, look.channel.is_some(), "listed");
+    let mut findings = report::findings(trace, look, imported, open, "listed");
     findings += &report::missing(trace, imported, gaps);
-    findings += &others(trace, imported);
+    findings += &others(trace, look, imported);
     print(&(findings + &report::frames(imported)))
 }
 
 fn run_records(path: &Path, json: bool) -> Result<(), Failure> {
     let file = source::read(path).map_err(Failure::Refused)?;
     let trace = Trace::of(&file);
-    let told = |refusal| Failure::Refused(refused(path, None, trace, refusal));
+    let told = |refusal| Failure::Refused(refused(path, Asked::default(), trace, refusal));
     let (found, gaps) = (trace.records().map_err(told)?, trace.gaps(TailRule::Tolerant).map_err(told)?);
     print(&if json { report::record_objects(trace, &found, &gaps) } else { report::records(trace, &found, &gaps) })
 }
@@ -193,8 +196,8 @@ fn run_records(path: &Path, json: bool) -> Result<(), Failure> {
 fn run_channels(path: &Path, json: bool) -> Result<(), Failure> {
     let file = source::read(path).map_err(Failure::Refused)?;
     let trace = Trace::of(&file);
-    let told = |refusal| Failure::Refused(refused(path, None, trace, refusal));
-    let (seen, gaps) = (look::look(trace).map_err(told)?, trace.gaps(TailRule::Tolerant).map_err(told)?);
+    let told = |refusal| Failure::Refused(refused(path, Asked::default(), trace, refusal));
+    let (seen, gaps) = (look::look(trace, false).map_err(told)?, trace.gaps(TailRule::Tolerant).map_err(told)?);
     print(&if json { channels::objects(trace, &seen, &gaps) } else { channels::text(trace, &seen, &gaps) })
 }
 
@@ -215,7 +218,7 @@ fn run_check(options: &Check) -> Result<(), Failure> {
         faults.extend(imported_again(trace, &there)?);
     }
     let text =
-        if options.json { check::objects(&there, &faults) } else { check::losses(&there) + &check::lines(&faults) };
+        if options.json { check::objects(&there, &faults) } else { check::lacks(&there) + &check::lines(&faults) };
     if faults.is_empty() {
         let by = if options.trace.is_some() { "as the list and the trace have them" } else { "as the list has them" };
         let words = format!("{}, all {by}: {}\n", count(there.fixtures.len(), "fixture", "fixtures"), shown(dir));
@@ -231,7 +234,7 @@ fn imported_again(trace: &Path, there: &Set) -> Result<Vec<Fault>, Failure> {
         return Ok(vec![Fault::list("it does not say how the set was asked for")]);
     };
     let tolerant = asked.tail == TailRule::Tolerant;
-    let look = Look { trace: trace.to_path_buf(), channel: asked.channel, tolerant };
+    let look = Look { trace: trace.to_path_buf(), channel: asked.channel, tolerant, check_fcs: asked.check_fcs };
     let file = source::read(trace).map_err(Failure::Refused)?;
     let mut faults = Vec::new();
     if Some(&*sha256::sum(&file)) != there.fact("trace sha256") {

@@ -2,6 +2,7 @@
 
 use std::path::Path;
 
+use crate::args::Look;
 use crate::words::{count, shown};
 use crate::{channels, losses, report};
 use look::Trace;
@@ -11,8 +12,21 @@ use lumbryth::{Refusal, TailRule};
 const CONVERT: &str =
     "to save it as pcap: editcap -F pcap TRACE NEW; or in Wireshark, Save As, and choose pcap, not pcapng";
 
+/// How an import was asked for, as far as a refusal depends on it.
+#[derive(Clone, Copy, Default)]
+pub struct Asked {
+    pub channel: Option<u8>,
+    pub check_fcs: bool,
+}
+
+impl From<&Look> for Asked {
+    fn from(look: &Look) -> Asked {
+        Asked { channel: look.channel, check_fcs: look.check_fcs }
+    }
+}
+
 /// What a refusal says of a trace.
-fn words(trace: Trace, channel: Option<u8>, refusal: Refusal) -> String {
+fn words(trace: Trace, asked: Asked, refusal: Refusal) -> String {
     let only = |header: &str| format!("the file has only {}, and {header}", count(trace.file.len(), "byte", "bytes"));
     match (refusal, report::end_of(trace)) {
         (Refusal::NotBtsnoop, _) if trace.file.is_empty() => "the file is empty".to_string(),
@@ -35,8 +49,9 @@ fn words(trace: Trace, channel: Option<u8>, refusal: Refusal) -> String {
         ),
         (Refusal::Truncated { .. }, Some((words, _))) => words,
         (Refusal::NoStream, Some((words, _))) => {
-            let place = channel.map_or("in the trace".to_string(), |channel| format!("on channel {channel}"));
-            format!("nothing {place} unpacks as a frame; {words}")
+            let place = asked.channel.map_or("in the trace".to_string(), |channel| format!("on channel {channel}"));
+            let fcs = if asked.check_fcs { " with a right FCS" } else { "" };
+            format!("nothing {place}{fcs} unpacks as a frame; {words}")
         }
         (other, _) => other.to_string(),
     }
@@ -61,15 +76,17 @@ fn hints(trace: Trace, refusal: Refusal) -> Vec<String> {
 }
 
 /// A refusal of a trace, with its number, in words; then what else the trace shows, and what helps.
-pub fn refused(path: &Path, channel: Option<u8>, trace: Trace, refusal: Refusal) -> String {
+pub fn refused(path: &Path, asked: Asked, trace: Trace, refusal: Refusal) -> String {
     // On another channel than the one asked for there may be frames; and why nothing is found may be that it is not in the file.
     let mut more: Vec<String> = Vec::new();
     if refusal == Refusal::NoStream {
-        more.extend(channels::other_lines(trace, None));
+        // So there may be in what came with a wrong FCS.
+        more.extend(asked.check_fcs.then(|| channels::unchecked_line(trace, asked.channel, None)).flatten());
+        more.extend(channels::other_lines(trace, asked.check_fcs, None));
         let lost = trace.gaps(TailRule::Tolerant).unwrap_or_default();
         more.extend(losses::seen(trace, &lost).iter().map(|loss| loss.sentence()));
     }
     more.extend(hints(trace, refusal));
     let more: String = more.iter().map(|line| format!("\nlumbryth: {line}")).collect();
-    format!("refused ({}): {}: {}{more}", refusal.number(), words(trace, channel, refusal), shown(path))
+    format!("refused ({}): {}: {}{more}", refusal.number(), words(trace, asked, refusal), shown(path))
 }

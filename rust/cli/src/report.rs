@@ -3,11 +3,12 @@
 use std::fmt::Write;
 use std::path::Path;
 
+use crate::args::Look;
 use crate::hints::{self, Hint, Kind};
 use crate::losses;
 use crate::time::utc;
 use crate::words::{
-    capital, count, datalink, datalink_fields, hex, named, null_or, object, several, shown, string, way,
+    capital, count, datalink, datalink_fields, hex, named, null_or, object, several, shown, string, way, wrong_fcs,
 };
 use crate::write::Done;
 use look::{adapters, Kind as Held, Link, Trace};
@@ -89,9 +90,9 @@ fn unfinished(open: &[Stretch], several: bool) -> Vec<String> {
     open.iter().map(sentence).collect()
 }
 
-/// What an import found. `open` are the stretches that hold bytes at the end, `asked` is whether it was asked for a channel, and
-/// `place` is where the frames are: among the fixtures, or listed.
-pub fn findings(trace: Trace, imported: &Imported, open: &[Stretch], asked: bool, place: &str) -> String {
+/// What an import found, by how it was asked for. `open` are the stretches that hold bytes at the end, and `place` is where the
+/// frames are: among the fixtures, or listed.
+pub fn findings(trace: Trace, look: &Look, imported: &Imported, open: &[Stretch], place: &str) -> String {
     let mut text = format!(
         "{}, {}: DLCI {}, channel {}.\n",
         count(imported.frames, "frame", "frames"),
@@ -103,6 +104,9 @@ pub fn findings(trace: Trace, imported: &Imported, open: &[Stretch], asked: bool
         imported.dlci,
         imported.dlci / 2,
     );
+    if look.check_fcs {
+        let _ = writeln!(text, "{}", wrong_fcs(imported.dlci, imported.wrong_fcs));
+    }
     let adapters = adapters(trace).len();
     if adapters > 1 {
         let _ = writeln!(
@@ -123,7 +127,7 @@ pub fn findings(trace: Trace, imported: &Imported, open: &[Stretch], asked: bool
         let _ = writeln!(text, "Missing: whatever was not complete before that, or came later.");
         let _ = writeln!(text, "A reply that is not {place} may have been sent all the same.");
     }
-    if !asked {
+    if look.channel.is_none() {
         let channel = imported.dlci / 2;
         let _ = writeln!(text, "What is proved of a cut is for a channel that is asked for, here --channel {channel}.");
     }
@@ -202,12 +206,14 @@ pub fn end_fields(trace: Trace) -> Vec<(&'static str, String)> {
 }
 
 /// What `findings`, `missing` and `frames` say, an object a line.
-pub fn frame_objects(trace: Trace, imported: &Imported, open: &[Stretch], gaps: &Gaps) -> String {
+pub fn frame_objects(trace: Trace, look: &Look, imported: &Imported, open: &[Stretch], gaps: &Gaps) -> String {
     let numbers =
         [("dlci", imported.dlci as usize), ("channel", imported.dlci as usize / 2), ("frames", imported.frames)];
     let mut fields = vec![("kind", string("import"))];
     fields.extend(numbers.map(|(name, number)| (name, number.to_string())));
     fields.push(("unfinished", imported.unfinished.to_string()));
+    fields.push(("check_fcs", look.check_fcs.to_string()));
+    fields.push(("wrong_fcs", null_or(look.check_fcs.then_some(imported.wrong_fcs))));
     fields.push(("adapters", adapters(trace).len().to_string()));
     fields.extend(end_fields(trace));
     fields.push(("losses", losses::fields(trace, gaps)));

@@ -15,6 +15,10 @@ use lumbryth::{fixture_name, Container, Ending, Fixture, Gaps, Imported, TailRul
 /// The list's name. A reader of fixtures takes only names with -rx. or -tx. that end with .bin.
 pub const NAME: &str = "fixtures.sha256";
 
+/// Whether UIH frames with a wrong FCS were passed over. A list that does not say it is of an import that did not look.
+pub const CHECKED: &str = "checked";
+const NOT_CHECKED: &str = "not checked";
+
 const TITLE: &str = "# lumbryth fixture set 1";
 const LAST: &str = "# lines above sha256: ";
 
@@ -37,6 +41,7 @@ pub struct Set {
 pub struct Asked {
     pub channel: Option<u8>,
     pub tail: TailRule,
+    pub check_fcs: bool,
     pub exclude: Vec<String>,
 }
 
@@ -84,6 +89,7 @@ impl Set {
             ("container", container(trace)),
             ("dlci", imported.dlci.to_string()),
             ("end", end(trace)),
+            ("fcs", if look.check_fcs { CHECKED } else { NOT_CHECKED }.to_string()),
             ("fixtures", fixtures.len().to_string()),
             ("frames", imported.frames.to_string()),
             ("tail offset", imported.tail.to_string()),
@@ -98,6 +104,7 @@ impl Set {
             facts.push(("exclude", "none".to_string()));
         }
         facts.extend(losses::facts(trace, gaps).into_iter().map(|loss| ("losses", loss)));
+        facts.extend(look.check_fcs.then(|| ("wrong fcs", imported.wrong_fcs.to_string())));
         for (counter, span) in (1..).zip(&imported.spans) {
             let reason = match fixture_name(span.ms, counter, span.direction, &span.wire) {
                 Ok(name) if fixtures.contains_key(&name) => continue,
@@ -176,19 +183,39 @@ impl Set {
             "tolerant" => TailRule::Tolerant,
             _ => return None,
         };
+        let check_fcs = match self.fcs() {
+            CHECKED => true,
+            NOT_CHECKED => false,
+            _ => return None,
+        };
         let names = self.all("exclude").into_iter().filter(|name| *name != "none");
         let exclude: Vec<String> = names.map(String::from).collect();
-        exclude.iter().all(|name| is_name(name)).then_some(Asked { channel, tail, exclude })
+        exclude.iter().all(|name| is_name(name)).then_some(Asked { channel, tail, check_fcs, exclude })
+    }
+
+    /// What became of UIH frames with a wrong FCS.
+    pub fn fcs(&self) -> &str {
+        self.fact("fcs").unwrap_or(NOT_CHECKED)
+    }
+
+    /// How many UIH frames with a wrong FCS were passed over, if the list says it.
+    pub fn wrong_fcs(&self) -> Option<usize> {
+        self.fact("wrong fcs")?.parse().ok()
     }
 
     /// Facts that only this set has, and those that only the other has. The name of the trace is free, and so are losses if one of
-    /// the two does not tell them.
+    /// the two does not tell them, and that the FCS is not checked if one does not say it.
     pub fn differences(&self, other: &Set) -> (Vec<String>, Vec<String>) {
-        let untold = self.fact("losses").is_none() || other.fact("losses").is_none();
-        let free = |name: &str| name == "trace name" || name == "losses" && untold;
+        let untold = |name: &str| self.fact(name).is_none() || other.fact(name).is_none();
+        let free = |name: &str, value: &str| match name {
+            "trace name" => true,
+            "losses" => untold(name),
+            "fcs" => value == NOT_CHECKED && untold(name),
+            _ => false,
+        };
         let only = |one: &Set, two: &Set| {
             let two: BTreeSet<_> = two.facts.iter().collect();
-            let facts = one.facts.iter().filter(|fact| !free(&fact.0) && !two.contains(fact));
+            let facts = one.facts.iter().filter(|fact| !free(&fact.0, &fact.1) && !two.contains(fact));
             facts.map(|(name, value)| format!("{name}: {value}")).collect()
         };
         (only(self, other), only(other, self))

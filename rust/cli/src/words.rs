@@ -1,7 +1,7 @@
 //! Names and numbers as they are printed, and text for other programs.
 
 use std::ffi::OsStr;
-use std::fmt::Write;
+use std::fmt::{Display, Write};
 use std::os::unix::ffi::OsStrExt;
 
 use look::{Link, Trace};
@@ -56,6 +56,15 @@ pub fn named(link: Link, several: bool) -> String {
         format!("adapter {}, handle {}", link.adapter, link.handle)
     } else {
         format!("handle {}", link.handle)
+    }
+}
+
+/// What the FCS of the UIH frames on a DLCI shows, where it is checked.
+pub fn wrong_fcs(dlci: impl Display, n: usize) -> String {
+    match n {
+        0 => format!("No UIH frame on DLCI {dlci} has a wrong FCS."),
+        1 => format!("1 UIH frame on DLCI {dlci} has a wrong FCS and was passed over."),
+        n => format!("{n} UIH frames on DLCI {dlci} have a wrong FCS and were passed over."),
     }
 }
 

@@ -213,7 +213,7 @@ fn other(found: &Set, set: &Set) -> Option<String> {
     if there.is_empty() && here.is_empty() && found.fixtures == set.fixtures {
         return None;
     }
-    let asked: Vec<&str> = ["exclude", "channel", "tail rule"]
+    let asked: Vec<&str> = ["exclude", "channel", "tail rule", "fcs"]
         .into_iter()
         .filter(|name| {
             let of = |facts: &[String]| facts.iter().any(|fact| fact.starts_with(&format!("{name}: ")));
@@ -222,7 +222,7 @@ fn other(found: &Set, set: &Set) -> Option<String> {
         .collect();
     Some(match asked.first() {
         Some(name) => {
-            let values: Vec<&str> = found.facts.iter().filter(|fact| fact.0 == *name).map(|fact| &*fact.1).collect();
+            let values = if *name == "fcs" { vec![found.fcs()] } else { found.all(name) };
             format!(
                 "the directory has a set of this trace that was asked for otherwise, with {name} {}",
                 values.join(" ")

@@ -140,7 +140,7 @@ fn the_example_in_objects() {
     let losses = r#""end":"record","losses":{"open":{"count":1,"first":752,"adapter":0}}}"#;
     let text = objects("frames", &trace);
     let lines: Vec<&str> = text.lines().collect();
-    let import = r#"{"kind":"import","dlci":18,"channel":9,"frames":10,"unfinished":1,"adapters":2,"#;
+    let import = r#"{"kind":"import","dlci":18,"channel":9,"frames":10,"unfinished":1,"check_fcs":false,"wrong_fcs":null,"adapters":2,"#;
     assert_eq!(lines[0], format!("{import}{losses}"));
     assert_eq!(lines[1], r#"{"kind":"unfinished","adapter":1,"handle":6,"direction":"rx","dlci":18,"held":8}"#);
     assert_eq!(lines.len(), 12);
@@ -160,7 +160,7 @@ fn the_example_in_objects() {
     ];
     assert_eq!(lines[6..8], told);
     let told = [
-        r#"{"kind":"dlci","dlci":18,"channel":9,"pieces":11,"spans":10,"frames":10,"unfinished":1,"asked_by":9}"#,
+        r#"{"kind":"dlci","dlci":18,"channel":9,"pieces":11,"spans":10,"frames":10,"unfinished":1,"wrong_fcs":0,"asked_by":9}"#,
         r#"{"kind":"share","dlci":18,"adapter":0,"handle":6,"pieces":4,"spans":4,"frames":4,"unfinished":0}"#,
         r#"{"kind":"share","dlci":18,"adapter":1,"handle":6,"pieces":7,"spans":6,"frames":6,"unfinished":1}"#,
     ];
@@ -286,7 +286,7 @@ fn each_key_has_the_adapter() {
                 (adapter, 64, direction, true, &between),
                 (0, 64, Rx, true, &end),
             ]);
-            let seen = look(look::Trace::of(&file)).unwrap();
+            let seen = look(look::Trace::of(&file), false).unwrap();
             let imported = import(&file, None, TailRule::Strict);
             assert_eq!(imported.map_or(0, |imported| imported.frames), found, "{between:?} on adapter {adapter}");
             assert_eq!(seen.taken(None).map_or(0, |dlci| dlci.all.frames), found, "{between:?} on adapter {adapter}");
@@ -533,7 +533,7 @@ fn links_renamed() {
         }
         let (new, links) = renamed(&file);
         assert_eq!(gaps(&new, TailRule::Tolerant), gaps(&file, TailRule::Tolerant));
-        let (seen, again) = (look(look::Trace::of(&file)).unwrap(), look(look::Trace::of(&new)).unwrap());
+        let (seen, again) = (look(look::Trace::of(&file), false).unwrap(), look(look::Trace::of(&new), false).unwrap());
         for channel in (0..=31).map(Some).chain([None]) {
             let found = import_stretches(&file, channel, TailRule::Tolerant);
             match (found, import_stretches(&new, channel, TailRule::Tolerant)) {

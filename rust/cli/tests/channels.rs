@@ -349,7 +349,7 @@ fn a_cut_file_is_looked_at_up_to_there() {
         let file = &whole[..n];
         agrees(file);
         let start = bounds.iter().copied().rfind(|&start| start <= n).unwrap();
-        let looked = |file| look(look::Trace::of(file));
+        let looked = |file| look(look::Trace::of(file), false);
         assert_eq!(looked(file), looked(&whole[..start]).map(|seen| Seen { tail: start, ..seen }), "cut at {n}");
         if n % 9 == 0 {
             let output = words(&[&"channels", &place.file("trace", file)]);
@@ -443,7 +443,7 @@ fn an_object_a_line() {
     files.extend((0..40).map(|_| made::trace(&mut rng)));
     let mut kinds = BTreeSet::new();
     for file in files {
-        let seen = look(look::Trace::of(&file)).unwrap();
+        let seen = look(look::Trace::of(&file), false).unwrap();
         let output = words(&[&"channels", &place.file("trace", &file), &"--json"]);
         assert_eq!((status(&output), err(&output)), (0, String::new()));
         let text = out(&output);
@@ -475,21 +475,27 @@ fn an_object_a_line() {
     let told = r#"{"kind":"channel","adapter":0,"handle":6,"direction":"rx","cid":112,"psms":[4097],"standing":"named","tried":false,"pdus":1,"reason":"no request for it has PSM 0x0003, RFCOMM"}"#;
     assert_eq!(lines[6], told);
     let told = [
-        r#"{"kind":"dlci","dlci":40,"channel":20,"pieces":5,"spans":4,"frames":2,"unfinished":1,"asked_by":20}"#,
+        r#"{"kind":"dlci","dlci":40,"channel":20,"pieces":5,"spans":4,"frames":2,"unfinished":1,"wrong_fcs":0,"asked_by":20}"#,
         r#"{"kind":"share","dlci":40,"adapter":0,"handle":6,"pieces":5,"spans":4,"frames":2,"unfinished":1}"#,
         r#"{"kind":"refused","dlci":40,"refusal":17,"spans":2,"reason":"the frame's checksum is 30 where its bytes give 70"}"#,
-        r#"{"kind":"dlci","dlci":19,"channel":9,"pieces":1,"spans":1,"frames":1,"unfinished":0,"asked_by":null}"#,
+        r#"{"kind":"dlci","dlci":19,"channel":9,"pieces":1,"spans":1,"frames":1,"unfinished":0,"wrong_fcs":0,"asked_by":null}"#,
     ];
     assert_eq!(lines[10..14], told);
 }
 
-/// The look and the proved import agree, for each channel and without one.
+/// The look and the proved import agree, for each channel and without one. So they do with the FCS checked; what comes back is the look without.
 #[track_caller]
 fn agrees(file: &[u8]) -> Seen {
+    agrees_by(file, true);
+    agrees_by(file, false)
+}
+
+#[track_caller]
+fn agrees_by(file: &[u8], check_fcs: bool) -> Seen {
     let trace = look::Trace::of(file);
-    let seen = look(trace).unwrap();
+    let seen = look(trace, check_fcs).unwrap();
     assert_eq!(seen.skipped as u64, trace.gaps(TailRule::Tolerant).unwrap().skipped.count);
-    let mut options = trace.options().with_tail(TailRule::Tolerant);
+    let mut options = trace.options().with_tail(TailRule::Tolerant).with_check_fcs(check_fcs);
     for channel in (0..=31).map(Some).chain([None]) {
         options.channel = channel;
         match (import_stretches_with(file, &options), seen.taken(channel)) {
@@ -504,6 +510,7 @@ fn agrees(file: &[u8]) -> Seen {
                 );
                 let refused: usize = dlci.refused.iter().map(|refused| refused.spans).sum();
                 assert_eq!(dlci.all.spans, dlci.all.frames + refused);
+                assert_eq!(imported.wrong_fcs, if check_fcs { dlci.wrong_fcs } else { 0 }, "channel {channel:?}");
                 // What is unfinished, by adapter and handle.
                 let mut proved = BTreeMap::new();
                 open.iter().for_each(|stretch| *proved.entry((stretch.adapter, stretch.handle)).or_insert(0) += 1);
@@ -532,11 +539,14 @@ fn shares_a_handle(seen: &Seen) -> bool {
 fn the_look_agrees_with_the_import() {
     let mut rng = made::Rng(1);
     let mut hit = BTreeSet::new();
-    let mut counts = [0; 10];
+    let mut counts = [0; 13];
     for _ in 0..6_000 {
         let file = made::trace(&mut rng);
         let seen = agrees(&file);
         let taken: Vec<_> = (0..32).filter_map(|channel| seen.taken(Some(channel))).collect();
+        // What is taken without a channel, and with the FCS checked.
+        let right = look(look::Trace::of(&file), true).unwrap();
+        let (first, checked) = (seen.taken(None), right.taken(None));
         let shared =
             |dlci: &look::Dlci| seen.dlcis.iter().any(|other| other.dlci == dlci.dlci ^ 1 && other.all.pieces > 0);
         let facts = [
@@ -551,6 +561,10 @@ fn the_look_agrees_with_the_import() {
             // Several adapters, with frames on more than one of them; and two that use one handle.
             taken.iter().any(|dlci| carriers(dlci).map(|link| link.adapter).collect::<BTreeSet<_>>().len() > 1),
             !taken.is_empty() && shares_a_handle(&seen),
+            // A wrong FCS on a DLCI that is taken all the same; another DLCI then, or none.
+            checked.is_some_and(|dlci| dlci.wrong_fcs > 0),
+            checked.is_some_and(|dlci| first.is_some_and(|first| first.dlci != dlci.dlci)),
+            checked.is_none() && first.is_some(),
         ];
         counts.iter_mut().zip(facts).for_each(|(count, fact)| *count += usize::from(fact));
         let channels = seen.handles.iter().flat_map(|handle| &handle.channels).filter(|channel| channel.pdus > 0);
@@ -572,7 +586,7 @@ fn the_look_agrees_in_pcap() {
         let seen = agrees(&pcap);
         agrees(rng.cut(&pcap, 24));
         // Where there is one adapter, the same is seen as in btsnoop, but for its index and where the reading stopped.
-        let there = look(look::Trace::of(&file)).unwrap();
+        let there = look(look::Trace::of(&file), false).unwrap();
         let adapters = there.adapters();
         if adapters.iter().all(|adapter| *adapter == 0) {
             assert_eq!(Seen { tail: there.tail, ..seen.clone() }, there);
@@ -593,14 +607,15 @@ fn the_look_agrees_in_pcap() {
 #[test]
 fn damaged_files_agree() {
     let mut rng = made::Rng(2);
-    let [headset, adapters] = ["headset.btsnoop", "two-adapters.btsnoop"].map(|name| fs::read(example(name)).unwrap());
-    let pcap = FORMS.map(|form| twin(&headset, form));
-    for (n, whole) in [headset, adapters].into_iter().chain(pcap).enumerate() {
+    let files =
+        ["headset.btsnoop", "two-adapters.btsnoop", "noisy.btsnoop"].map(|name| fs::read(example(name)).unwrap());
+    let pcap = FORMS.map(|form| twin(&files[0], form));
+    for (n, whole) in files.into_iter().chain(pcap).enumerate() {
         let (mut read, mut refused) = (0, 0);
         for _ in 0..2_000 {
             let file = rng.damaged(&whole);
             let trace = look::Trace::of(&file);
-            match look(trace) {
+            match look(trace, false) {
                 Ok(_) => {
                     agrees(&file);
                     read += 1;

@@ -417,7 +417,7 @@ fn the_list_keeps_losses() {
         assert!(out(&output).contains(&lines), "{}", out(&output));
     }
     let json = out(&words(&[&"check", &"--json", &dir]));
-    let first = format!("{{\"kind\":\"losses\",\"told\":\"{dropped}\"}}\n{{\"kind\":\"losses\",\"told\":\"{stray}\"}}\n{{\"kind\":\"ok\"");
+    let first = format!("{{\"kind\":\"losses\",\"told\":\"{dropped}\"}}\n{{\"kind\":\"losses\",\"told\":\"{stray}\"}}\n{{\"kind\":\"fcs\"");
     assert!(json.starts_with(&first), "{json}");
     // Also where something is wrong.
     fs::remove_file(dir.join(&listing(&dir)[3])).unwrap();

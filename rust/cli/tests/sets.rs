@@ -47,6 +47,7 @@ fn the_list_says_where_a_set_came_from() {
         "# dlci: 18",
         "# end: at a record's end, more may have been recorded",
         "# exclude: none",
+        "# fcs: not checked",
         "# fixtures: 30",
         "# frames: 31",
         "# losses: none seen",
@@ -155,8 +156,10 @@ fn a_set_is_checked() {
     let json = words(&[&"check", &"--json", &dir]);
     assert_eq!(status(&json), 1);
     let text = out(&json);
-    assert_eq!(text.lines().count(), 32);
-    assert!(text.starts_with("{\"kind\":\"losses\",\"told\":\"none seen\"}\n"), "{text}");
+    assert_eq!(text.lines().count(), 33);
+    let first =
+        "{\"kind\":\"losses\",\"told\":\"none seen\"}\n{\"kind\":\"fcs\",\"check_fcs\":false,\"wrong_fcs\":null}\n";
+    assert!(text.starts_with(first), "{text}");
     assert_eq!(text.lines().filter(|line| line.starts_with("{\"kind\":\"ok\",\"name\":\"mdr-packet-")).count(), 26);
     assert!(text.contains(&format!("{{\"kind\":\"missing\",\"name\":\"{}\"}}\n", names[5])));
     assert!(text.ends_with("{\"kind\":\"extra\",\"name\":\"more-rx.\\u001b.bin\"}\n"), "{text}");
@@ -281,6 +284,7 @@ fn sets_are_not_mixed() {
     told(&[&"import", &trace, &"--out", &dir, &"--exclude=NO_COMMAND"], &format!("{otherwise} exclude none: "));
     told(&[&"import", &trace, &"--out", &dir, &"--channel=9"], &format!("{otherwise} channel any: "));
     told(&[&"import", &trace, &"--out", &dir, &"--tolerant"], &format!("{otherwise} tail rule strict: "));
+    told(&[&"import", &trace, &"--out", &dir, &"--check-fcs"], &format!("{otherwise} fcs not checked: "));
     // The same trace by another name is the same, and so is a set whose list is lost.
     let copy = place.file("copy", &fs::read(&trace).unwrap());
     assert_eq!(status(&words(&[&"import", &copy, &"--out", &dir])), 0);

@@ -4,6 +4,7 @@
 //! with credits, with fragments of all links mixed, and with other traffic between. In a trace of the Linux monitor the links are
 //! those of one to three adapters, which may use the same handle. Some frames are damaged, there is junk
 //! between frames, and the last frame may be a partial one: all of that is the devices' own business.
+//! Some adapters are noisy: the FCS of some RFCOMM frames is wrong.
 
 use std::collections::VecDeque;
 
@@ -115,9 +116,20 @@ struct Maker<'a> {
     trace: Trace,
     us: u64,
     fragment: usize,
+    /// How many RFCOMM frames of a hundred have a wrong FCS.
+    noise: usize,
 }
 
 impl Maker<'_> {
+    /// A PDU with an RFCOMM frame, whose FCS may be wrong: it is changed, or the bit of a command, for which it is not right then.
+    fn rfcomm(&mut self, cid: u16, mut frame: Vec<u8>) -> Vec<u8> {
+        if self.rng.percent(self.noise) {
+            let at = if self.rng.percent(80) { frame.len() - 1 } else { 0 };
+            frame[at] ^= if at == 0 { 2 } else { 1 << self.rng.within(0, 7) };
+        }
+        pdu(cid, &frame)
+    }
+
     fn tick(&mut self) -> u64 {
         let step = self.rng.pick(&[1, 999, 1_000, 1_001, 40_000]);
         self.us += self.rng.within(0, step) as u64;
@@ -178,15 +190,17 @@ impl Maker<'_> {
             self.send(link, from, signal(2, 3, &[0x1001, 0x0070]));
             self.send(link, to, signal(3, 3, &[0x0071, 0x0070, 0, 0]));
         }
-        let (go, come) = (link.cid(from), link.cid(to));
-        self.send(link, from, pdu(go, &control(0, true, 0x3F)));
-        self.send(link, to, pdu(come, &control(0, true, 0x73)));
+        let mut frames = vec![(from, control(0, true, 0x3F)), (to, control(0, true, 0x73))];
         for &dlci in dlcis {
-            self.send(link, from, pdu(go, &uih(0, true, None, &[0x83, 0x11, dlci, 0xF0, 7, 0, 0x7A, 0x03, 0, 7])));
-            self.send(link, to, pdu(come, &uih(0, false, None, &[0x81, 0x11, dlci, 0xE0, 7, 0, 0x7A, 0x03, 0, 7])));
-            self.send(link, from, pdu(go, &control(dlci, true, 0x3F)));
-            self.send(link, to, pdu(come, &control(dlci, true, 0x73)));
-            self.send(link, from, pdu(go, &uih(0, true, None, &[0xE3, 0x05, dlci << 2 | 3, 0x8D])));
+            frames.push((from, uih(0, true, None, &[0x83, 0x11, dlci, 0xF0, 7, 0, 0x7A, 0x03, 0, 7])));
+            frames.push((to, uih(0, false, None, &[0x81, 0x11, dlci, 0xE0, 7, 0, 0x7A, 0x03, 0, 7])));
+            frames.push((from, control(dlci, true, 0x3F)));
+            frames.push((to, control(dlci, true, 0x73)));
+            frames.push((from, uih(0, true, None, &[0xE3, 0x05, dlci << 2 | 3, 0x8D])));
+        }
+        for (direction, frame) in frames {
+            let pdu = self.rfcomm(link.cid(direction), frame);
+            self.send(link, direction, pdu);
         }
     }
 
@@ -208,14 +222,15 @@ impl Maker<'_> {
                 continue;
             };
             let credit = if self.rng.percent(25) { Some(self.rng.byte()) } else { None };
-            link.push(direction, pdu(link.cid(direction), &uih(*dlci, command, credit, &piece)));
+            link.push(direction, self.rfcomm(link.cid(direction), uih(*dlci, command, credit, &piece)));
             if self.rng.percent(10) {
-                link.push(direction, pdu(link.cid(direction), &uih(*dlci, command, Some(4), &[])));
+                link.push(direction, self.rfcomm(link.cid(direction), uih(*dlci, command, Some(4), &[])));
             }
             if second && self.rng.percent(15) {
                 // A frame on another service's channel is nobody's frame.
                 let cid = if direction == link.opener { 0x0071 } else { 0x0070 };
-                link.push(direction, pdu(cid, &uih(*dlci, true, None, &frame(self.rng))));
+                let frame = frame(self.rng);
+                link.push(direction, self.rfcomm(cid, uih(*dlci, true, None, &frame)));
             }
         }
     }
@@ -237,7 +252,8 @@ pub fn trace(rng: &mut Rng, datalink: u32) -> Generated {
     let count = rng.within(1, 3);
     let fragment = rng.pick(&[5, 17, 27, 64, 339]);
     let us = 1_600_000_000_000_000 + rng.within(0, 200_000_000_000_000) as u64;
-    let mut maker = Maker { rng, trace: Trace::new(datalink), us, fragment };
+    let noise = rng.pick(&[0, 5, 40]);
+    let mut maker = Maker { rng, trace: Trace::new(datalink), us, fragment, noise };
     let mut links = Vec::new();
     for _ in 0..count {
         let (adapter, handle) = names.swap_remove(maker.rng.within(0, names.len() - 1));

@@ -27,6 +27,8 @@ pub struct Piece {
     pub dlci: u8,
     pub ms: u64,
     pub information: Vec<u8>,
+    /// Whether the frame's FCS is right.
+    pub right: bool,
 }
 
 /// What a reader sees in a trace.
@@ -37,6 +39,19 @@ pub struct Seen {
     /// How many of the PDUs came in more than one fragment.
     pub joined: usize,
     pub pieces: Vec<Piece>,
+    /// Each UIH frame whose FCS is wrong, with information or without: its record and its DLCI.
+    pub wrong: Vec<(usize, u8)>,
+}
+
+/// The FCS that a UIH frame should have, by its address and control: the remainder by x^8 + x^2 + x + 1 of their bits, the lowest of
+/// each byte first, begun with ones; its complement, the highest term in the lowest bit.
+pub fn fcs(head: [u8; 2]) -> u8 {
+    let mut rest = 0xFF_u8;
+    for bit in head.iter().flat_map(|byte| (0..8).map(move |i| byte >> i & 1)) {
+        let carry = rest >> 7 ^ bit;
+        rest = (rest << 1) ^ (0x07 * carry);
+    }
+    (!rest).reverse_bits()
 }
 
 /// The spans that the pieces of a DLCI give, from 3E through 3C, and how many are under way at

@@ -7,6 +7,10 @@
 //! bytes, direction and time, in order, and how many are under way at the end. Cuts of the trace are held to what tshark
 //! found in the records that are left. Then faults are planted in what our side reads, and each of them has to show.
 //!
+//! Each import is judged with the FCS not checked and with it checked. tshark shows an FCS and does not say whether it is right; that
+//! is computed here. Checked, the information of frames with a wrong one is taken out of what tshark found, and the library's count of
+//! them has to be that of tshark's UIH frames on the DLCI.
+//!
 //! The traces are btsnoop files of each datalink and pcap files of each form. What tshark reads otherwise than the documents have it
 //! is in none of them: directions other than 0 and 1, packets too short for one, packets over 262,144 bytes. But a pcap file with
 //! microseconds that is cut 4 or 8 bytes into its second record is among the cuts: tshark takes it for a file of another kind.
@@ -47,6 +51,11 @@ struct Tally {
     dlcis: usize,
     cuts: usize,
     faults: usize,
+    /// With the FCS checked: the spans of all DLCIs, the UIH frames with a wrong one on those that have a frame all the same, and
+    /// how many DLCIs have a frame only without the check.
+    checked: usize,
+    wrong: usize,
+    emptied: usize,
     /// Traces in pcap; cuts into a second record; and of these, those that only the library reads as they were written.
     pcap: usize,
     second: usize,
@@ -78,19 +87,38 @@ fn judge_pdus(seen: &Seen, container: Container, file: &[u8], tally: &mut Tally)
     Ok(())
 }
 
-/// Holds what the library imports for each DLCI, and without a channel, to what tshark found on it. A file that was cut
-/// ends at the tail.
-fn judge_spans(pieces: &[Piece], made: &Generated, file: &[u8], tail: usize, tally: &mut Tally) -> Result<(), String> {
+/// Holds what the library imports, with the FCS checked and without, to what tshark found. A file that was cut ends at the tail.
+fn judge_spans(seen: &Seen, made: &Generated, file: &[u8], tail: usize, tally: &mut Tally) -> Result<(), String> {
+    judge_by(false, seen, made, file, tail, tally)?;
+    judge_by(true, seen, made, file, tail, tally).map_err(|words| format!("with the FCS checked: {words}"))
+}
+
+/// Whether something unpacks on a DLCI.
+fn carries(pieces: &[Piece], dlci: u8) -> bool {
+    spans(pieces, dlci).0.iter().any(|span| unpack(&span.wire).is_ok())
+}
+
+/// Holds what the library imports for each DLCI, and without a channel, to what tshark found on it.
+fn judge_by(
+    check_fcs: bool,
+    seen: &Seen,
+    made: &Generated,
+    file: &[u8],
+    tail: usize,
+    tally: &mut Tally,
+) -> Result<(), String> {
     let dlcis = &made.dlcis;
-    if let Some(piece) = pieces.iter().find(|piece| !dlcis.contains(&piece.dlci)) {
+    if let Some(piece) = seen.pieces.iter().find(|piece| !dlcis.contains(&piece.dlci)) {
         return Err(format!("record {}: DLCI {} is not in use", piece.record, piece.dlci));
     }
+    let pieces: Vec<Piece> = seen.pieces.iter().filter(|piece| piece.right || !check_fcs).cloned().collect();
+    let pieces = &pieces[..];
     // The DLCIs on which something unpacks; of those the first seen is taken where no channel is given.
-    let carries = |dlci: u8| spans(pieces, dlci).0.iter().any(|span| unpack(&span.wire).is_ok());
-    let first = pieces.iter().map(|piece| piece.dlci).find(|&dlci| carries(dlci));
-    let wanted = dlcis.iter().map(|&dlci| (Some(dlci / 2), Some(dlci).filter(|&dlci| carries(dlci))));
+    let first = pieces.iter().map(|piece| piece.dlci).find(|&dlci| carries(pieces, dlci));
+    let wanted = dlcis.iter().map(|&dlci| (Some(dlci / 2), Some(dlci).filter(|&dlci| carries(pieces, dlci))));
     for (channel, dlci) in wanted.chain([(None, first)]) {
-        let options = channel.iter().fold(tolerant(made.container), |options, channel| options.with_channel(*channel));
+        let options = tolerant(made.container).with_check_fcs(check_fcs);
+        let options = channel.iter().fold(options, |options, channel| options.with_channel(*channel));
         let imported = import_with(file, &options);
         let Some(dlci) = dlci else {
             if imported != Err(Refusal::NoStream) {
@@ -105,13 +133,19 @@ fn judge_spans(pieces: &[Piece], made: &Generated, file: &[u8], tail: usize, tal
                 return Err(format!("DLCI {dlci}, span {}\nhere:  {here:?}\nthere: {there:?}", i + 1));
             }
         }
-        let here = (imported.dlci, imported.frames, imported.spans.len(), imported.unfinished, imported.tail);
-        let there = (dlci, there.len(), there.len(), under_way, tail);
+        let wrong = seen.wrong.iter().filter(|(_, other)| check_fcs && *other == dlci).count();
+        let frames = imported.frames;
+        let here =
+            (imported.dlci, frames, imported.spans.len(), imported.unfinished, imported.tail, imported.wrong_fcs);
+        let there = (dlci, there.len(), there.len(), under_way, tail, wrong);
         if here != there {
-            return Err(format!("DLCI, frames, spans, unfinished, tail: {here:?} here, {there:?} there"));
+            return Err(format!("DLCI, frames, spans, unfinished, tail, wrong FCS: {here:?} here, {there:?} there"));
         }
-        if channel.is_some() {
-            tally.spans += imported.frames;
+        if channel.is_some() && check_fcs {
+            tally.checked += frames;
+            tally.wrong += wrong;
+        } else if channel.is_some() {
+            tally.spans += frames;
             tally.unfinished += under_way;
             tally.dlcis += 1;
         }
@@ -134,8 +168,10 @@ fn judge_cut(seen: &Seen, generated: &Generated, n: usize) -> Result<(), String>
     let left = ends.iter().filter(|&&end| end <= n).count();
     let tail = if left == 0 { generated.container.header() } else { ends[left - 1] };
     judge_records(left, generated.container, &generated.starts[..left], &generated.file[..n], tail)?;
-    let pieces = seen.pieces.iter().filter(|piece| piece.record <= left).cloned().collect::<Vec<_>>();
-    judge_spans(&pieces, generated, &generated.file[..n], tail, &mut Tally::default())
+    let pieces = seen.pieces.iter().filter(|piece| piece.record <= left).cloned().collect();
+    let wrong = seen.wrong.iter().filter(|(record, _)| *record <= left).copied().collect();
+    let seen = Seen { pieces, wrong, ..Seen::default() };
+    judge_spans(&seen, generated, &generated.file[..n], tail, &mut Tally::default())
         .map_err(|words| format!("cut at {n}: {words}"))
 }
 
@@ -160,22 +196,30 @@ fn judge_misread(path: &Path, seen: &Seen, made: &Generated) -> Result<usize, St
     Ok(misread)
 }
 
+/// Where the record of a piece starts and ends.
+fn bounds(piece: &Piece, generated: &Generated) -> (usize, usize) {
+    let end = generated.starts.get(piece.record).copied().unwrap_or(generated.file.len());
+    (generated.starts[piece.record - 1], end)
+}
+
 /// Where the last record starts and ends that completes a piece which ends a span, with the span's last byte in it.
 fn closing(seen: &Seen, generated: &Generated) -> Option<(usize, usize)> {
-    let bounds = |i: usize| {
-        let record = seen.pieces[i].record;
-        let end = generated.starts.get(record).copied().unwrap_or(generated.file.len());
-        (generated.starts[record - 1], end)
-    };
     let closes = |&i: &usize| {
         let dlci = seen.pieces[i].dlci;
         let more = spans(&seen.pieces[..=i], dlci).0.len() > spans(&seen.pieces[..i], dlci).0.len();
-        let (start, end) = bounds(i);
+        let (start, end) = bounds(&seen.pieces[i], generated);
         // The record's header, at most 9 bytes before the data, the 3C and the FCS.
         let least = generated.container.record_header() + 9 + 2;
         more && seen.pieces[i].information.last() == Some(&0x3C) && end - start >= least
     };
-    (0..seen.pieces.len()).rev().find(closes).map(bounds)
+    (0..seen.pieces.len()).rev().find(closes).map(|i| bounds(&seen.pieces[i], generated))
+}
+
+/// Where the last FCS stands that is right, of a piece on a DLCI that has a frame where the FCS is checked.
+fn right_fcs(seen: &Seen, generated: &Generated) -> Option<usize> {
+    let right: Vec<Piece> = seen.pieces.iter().filter(|piece| piece.right).cloned().collect();
+    let piece = right.iter().rfind(|piece| carries(&right, piece.dlci))?;
+    Some(bounds(piece, generated).1 - 1)
 }
 
 /// Plants faults in copies of a trace that only our side reads: how many, or which of them went unseen.
@@ -192,17 +236,18 @@ fn plant(seen: &Seen, generated: &Generated) -> Result<usize, String> {
         Container::Pcap => (start + if file[0] == 0xA1 { 2 } else { 1 }, start + 16 + 3),
         _ => (start + 21, start + 11),
     };
-    let faults = [
+    let mut faults = vec![
         // The last byte is the FCS; information comes before it.
         ("a byte of information", changed(end - 2, 0x01)),
         ("a time", changed(time, 0x01)),
         ("a direction", changed(direction, 0x01)),
         ("a record that is lost", [&file[..start], &file[end..]].concat()),
     ];
+    faults.extend(right_fcs(seen, generated).map(|at| ("an FCS", changed(at, 0x01))));
     for (name, copy) in &faults {
         let tally = &mut Tally::default();
         if judge_pdus(seen, generated.container, copy, tally).is_ok()
-            || judge_spans(&seen.pieces, generated, copy, copy.len(), tally).is_ok()
+            || judge_spans(seen, generated, copy, copy.len(), tally).is_ok()
         {
             return Err(format!("a planted fault went unseen: {name}"));
         }
@@ -216,10 +261,14 @@ fn judge(path: &Path, made: &Generated, rng: &mut Rng, tally: &mut Tally) -> Res
     let seen = tshark::read(path)?;
     judge_records(seen.records, made.container, &made.starts, file, file.len())?;
     judge_pdus(&seen, made.container, file, tally)?;
-    judge_spans(&seen.pieces, made, file, file.len(), tally)?;
-    let tolerant = tolerant(made.container);
-    if import_with(file, &tolerant.with_tail(TailRule::Strict)) != import_with(file, &tolerant) {
-        return Err("the strict rule finds something else than the tolerant".to_string());
+    judge_spans(&seen, made, file, file.len(), tally)?;
+    let right: Vec<Piece> = seen.pieces.iter().filter(|piece| piece.right).cloned().collect();
+    let emptied = |dlci: u8| carries(&seen.pieces, dlci) && !carries(&right, dlci);
+    tally.emptied += made.dlcis.iter().filter(|dlci| emptied(**dlci)).count();
+    for tolerant in [false, true].map(|check_fcs| tolerant(made.container).with_check_fcs(check_fcs)) {
+        if import_with(file, &tolerant.with_tail(TailRule::Strict)) != import_with(file, &tolerant) {
+            return Err("the strict rule finds something else than the tolerant".to_string());
+        }
     }
     for _ in 0..CUTS {
         judge_cut(&seen, made, rng.within(made.container.header(), file.len()))?;
@@ -240,10 +289,10 @@ fn judge(path: &Path, made: &Generated, rng: &mut Rng, tally: &mut Tally) -> Res
 }
 
 /// A trace that is shipped as an example.
-fn shipped(path: &Path, container: Container) -> Result<Generated, String> {
+fn shipped(path: &Path, container: Container, dlcis: &[u8]) -> Result<Generated, String> {
     let file = fs::read(path).map_err(|error| format!("{}: {error}", path.display()))?;
     let found = records_with(&file, &tolerant(container)).map_err(|refusal| refusal.to_string())?;
-    Ok(Generated { container, file, starts: found.starts, dlcis: vec![18] })
+    Ok(Generated { container, file, starts: found.starts, dlcis: dlcis.to_vec() })
 }
 
 /// A btsnoop file of this datalink, or a pcap file of this form.
@@ -271,9 +320,14 @@ fn run(traces: usize, seed: u64, dir: &Path) -> Result<Tally, String> {
         fs::remove_file(&path).map_err(|error| error.to_string())?;
     }
     let examples = Path::new(env!("CARGO_MANIFEST_DIR")).join("../../examples");
-    for (name, container) in [("headset.btsnoop", Container::Btsnoop), ("headset.pcap", Container::Pcap)] {
+    let shipped_traces = [
+        ("headset.btsnoop", Container::Btsnoop, &[18][..]),
+        ("headset.pcap", Container::Pcap, &[18]),
+        ("noisy.btsnoop", Container::Btsnoop, &[18, 22]),
+    ];
+    for (name, container, dlcis) in shipped_traces {
         // A copy, as cuts of it are put beside it.
-        let example = shipped(&examples.join(name), container)?;
+        let example = shipped(&examples.join(name), container, dlcis)?;
         let path = dir.join(name);
         fs::write(&path, &example.file).map_err(|error| error.to_string())?;
         judge(&path, &example, &mut rng, &mut tally).map_err(|words| format!("{name}: {words}"))?;
@@ -294,7 +348,7 @@ fn main() -> ExitCode {
         Ok(tally) => {
             let _ = fs::remove_dir(&dir);
             println!(
-                "tshark and the library agree on {} traces, {} of them in pcap and two of them the examples: {} records, {} PDUs ({} of them in \
+                "tshark and the library agree on {} traces, {} of them in pcap and three of them the examples: {} records, {} PDUs ({} of them in \
                  fragments), {} pieces on {} DLCIs, {} spans, {} unfinished; and on {} cuts of them; {} planted faults, each seen",
                 tally.traces,
                 tally.pcap,
@@ -307,6 +361,13 @@ fn main() -> ExitCode {
                 tally.unfinished,
                 tally.cuts,
                 tally.faults
+            );
+            println!(
+                "with the FCS checked, they agree on {} spans, and that {} UIH frames on their DLCIs have a wrong one; {} DLCIs have no \
+                 frame left then",
+                tally.checked,
+                tally.wrong,
+                tally.emptied
             );
             println!(
                 "of {} pcap files that are cut 4 or 8 bytes into the second record, the library reads the first as it was written; tshark does \

@@ -3,7 +3,7 @@
 use std::path::Path;
 use std::process::{Command, Output};
 
-use crate::judged::{Pdu, Piece, Seen};
+use crate::judged::{fcs, Pdu, Piece, Seen};
 use lumbryth::Direction;
 
 /// Runs tshark on a trace.
@@ -50,6 +50,14 @@ pub fn read(path: &Path) -> Result<Seen, String> {
         }
         let dlci = hex(value(record, "btrfcomm.dlci")?)? as u8;
         let length = value(record, "btrfcomm.len")?;
+        // It shows the FCS, and does not say whether that is right.
+        let byte =
+            |key| raw(record, key)?.and_then(|bytes| bytes.first().copied()).ok_or(format!("{key} is not shown"));
+        let head = [byte("btrfcomm.address_raw")?, byte("btrfcomm.control_raw")?];
+        let right = hex(value(record, "btrfcomm.fcs")?)? == u16::from(fcs(head));
+        if !right {
+            seen.wrong.push((number, dlci));
+        }
         // What tshark reads inside DLCI 0 is its own affair.
         if dlci == 0 || length == "0" {
             continue;
@@ -58,7 +66,7 @@ pub fn read(path: &Path) -> Result<Seen, String> {
         if information.len().to_string() != length {
             return Err(format!("record {number}: {} bytes are shown, of length {length}", information.len()));
         }
-        seen.pieces.push(Piece { record: number, direction, link, cid, dlci, ms, information });
+        seen.pieces.push(Piece { record: number, direction, link, cid, dlci, ms, information, right });
     }
     Ok(seen)
 }

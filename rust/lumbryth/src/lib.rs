@@ -37,6 +37,18 @@
 //! assert_eq!((imported.dlci, imported.frames), (18, 31));
 //! # Ok::<(), Box<dyn std::error::Error>>(())
 //! ```
+//!
+//! They also say whether the FCS of RFCOMM's UIH frames is checked, which it is not by default. If it is, those with a wrong one, as a
+//! noisy adapter gives them, are passed over and counted. The FCS is of address and control alone, and tells nothing of the information.
+//!
+//! ```
+//! use lumbryth::{import_with, Options};
+//!
+//! let file = std::fs::read("../../examples/noisy.btsnoop")?;
+//! let imported = import_with(&file, &Options::default().with_check_fcs(true))?;
+//! assert_eq!((imported.dlci, imported.frames, imported.wrong_fcs), (18, 10, 3));
+//! # Ok::<(), Box<dyn std::error::Error>>(())
+//! ```
 
 #![deny(missing_docs)]
 #![deny(unsafe_code)]
@@ -66,7 +78,7 @@ pub const PACKET_MAX: u32 = 65_540;
 /// A channel number that stands for any.
 const ANY_CHANNEL: u32 = 256;
 /// The most values that a call stores, but for that of the gaps.
-const VALUES: usize = 5;
+const VALUES: usize = 6;
 /// The values of the gaps: two for each sign.
 const GAPS: usize = 14;
 
@@ -99,15 +111,16 @@ pub enum TailRule {
     Tolerant,
 }
 
-/// What a caller chooses: by default any channel, the strict rule, and btsnoop.
+/// What a caller chooses: by default any channel, the strict rule, btsnoop, and the FCS not checked.
 ///
 /// ```
 /// use lumbryth::{Container, Options, TailRule};
 ///
 /// let options = Options::default().with_channel(9).with_tail(TailRule::Tolerant);
 /// assert_eq!((options.channel, options.tail), (Some(9), TailRule::Tolerant));
-/// assert_eq!(options.container, Container::Btsnoop);
+/// assert_eq!((options.container, options.check_fcs), (Container::Btsnoop, false));
 /// assert_eq!(options.with_container(Container::Pcap).container, Container::Pcap);
+/// assert!(options.with_check_fcs(true).check_fcs);
 /// ```
 #[derive(Debug, Clone, Copy, PartialEq, Eq, Hash, Default)]
 #[non_exhaustive]
@@ -118,6 +131,9 @@ pub struct Options {
     pub tail: TailRule,
     /// What the file is.
     pub container: Container,
+    /// Whether the FCS of UIH frames is checked. An import then passes over those with a wrong one as if they were none, and counts
+    /// those of its DLCI in [`Imported::wrong_fcs`]. It may give another DLCI than without, or [`Refusal::NoStream`].
+    pub check_fcs: bool,
 }
 
 impl Options {
@@ -136,10 +152,15 @@ impl Options {
         Options { container, ..self }
     }
 
+    /// The same with the FCS of UIH frames checked, or not.
+    pub fn with_check_fcs(self, check_fcs: bool) -> Options {
+        Options { check_fcs, ..self }
+    }
+
     /// The list that the library takes.
-    fn numbers(&self) -> [u64; 3] {
+    fn numbers(&self) -> [u64; 4] {
         let (channel, tolerant) = numbers(self.channel, self.tail);
-        [u64::from(channel), u64::from(tolerant), self.container.number()]
+        [u64::from(channel), u64::from(tolerant), self.container.number(), u64::from(self.check_fcs)]
     }
 }
 
@@ -214,6 +235,9 @@ pub struct Imported {
     pub tail: usize,
     /// The spans, in the order in which they were complete.
     pub spans: Vec<Span>,
+    /// How many UIH frames of the DLCI have a wrong FCS, with information or without, and were passed over; 0 if the FCS is not
+    /// checked ([`Options::check_fcs`]).
+    pub wrong_fcs: usize,
 }
 
 /// A stretch and direction that holds bytes without an end marker at the end of a trace.
@@ -481,10 +505,10 @@ pub fn capture_order<N: AsRef<[u8]>>(names: &[N]) -> Result<Vec<Vec<u8>>, Refusa
 /// assert_eq!(import(&cut, None, TailRule::Tolerant), Err(Refusal::NoStream));
 /// ```
 pub fn import(file: &[u8], channel: Option<u8>, tail: TailRule) -> Result<Imported, Refusal> {
-    import_with(file, &Options { channel, tail, container: Container::Btsnoop })
+    import_with(file, &Options { channel, tail, ..Options::default() })
 }
 
-/// Imports as [`import`] does, by options: a btsnoop or a pcap file.
+/// Imports as [`import`] does, by options: a btsnoop or a pcap file, with the FCS of UIH frames checked or not.
 ///
 /// ```
 /// use lumbryth::{import_with, Container, Options, Refusal, TailRule};
@@ -497,6 +521,14 @@ pub fn import(file: &[u8], channel: Option<u8>, tail: TailRule) -> Result<Import
 ///
 /// let pcap = Options::default().with_container(Container::Pcap);
 /// assert_eq!(import_with(cut, &pcap), Err(Refusal::NotPcap));
+///
+/// // Some UIH frames of the example have a wrong FCS.
+/// let file = std::fs::read("../../examples/noisy.btsnoop")?;
+/// let taken = import_with(&file, &Options::default())?;
+/// assert_eq!((taken.frames, taken.wrong_fcs), (11, 0));
+/// let checked = import_with(&file, &Options::default().with_check_fcs(true))?;
+/// assert_eq!((checked.frames, checked.wrong_fcs), (10, 3));
+/// # Ok::<(), Box<dyn std::error::Error>>(())
 /// ```
 pub fn import_with(file: &[u8], options: &Options) -> Result<Imported, Refusal> {
     let options = options.numbers();
@@ -534,7 +566,7 @@ pub fn import_stretches(file: &[u8], channel: Option<u8>, tail: TailRule) -> Res
     Ok(with_stretches(list, &values, &stretches))
 }
 
-/// Imports as [`import_stretches`] does, by options: a btsnoop or a pcap file.
+/// Imports as [`import_stretches`] does, by options: a btsnoop or a pcap file, with the FCS of UIH frames checked or not.
 ///
 /// ```
 /// use lumbryth::{import_stretches_with, Container, Options, TailRule};
@@ -589,6 +621,7 @@ fn imported(mut list: Vec<u8>, values: &[u64; VALUES]) -> Imported {
         unfinished: values[2] as usize,
         tail: values[3] as usize,
         spans: items::spans(&list),
+        wrong_fcs: values[5] as usize,
     }
 }
 

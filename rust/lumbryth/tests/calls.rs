@@ -1,5 +1,5 @@
 //! The calls by document 01's examples: each refusal with its number, values and words, and what is empty, long or full. Then the
-//! same of pcap files.
+//! same of pcap files, and imports that check the FCS.
 
 #[allow(dead_code)]
 #[path = "../../../examples/trace/mod.rs"]
@@ -11,6 +11,7 @@ use lumbryth::{
     Direction, Ending, Fixture, Frame, FrameType, Gap, Gaps, Options, Records, Refusal, Span, TailRule,
 };
 use trace::pcap::{twin, Form, FORMS, PLAIN};
+use trace::{control, uih, Trace};
 
 /// Document 01's worked example.
 const EXAMPLE: [u8; 62] = [
@@ -658,5 +659,224 @@ fn each_gap_once_in_pcap() {
             (0, &[]),
         ];
         assert_eq!(pcap_signs(&recorded(&others)), none);
+    }
+}
+
+/// A trace of RFCOMM frames on CID 0x41, one to a record: direction, frame.
+fn frames_of(frames: &[(Direction, Vec<u8>)]) -> Vec<u8> {
+    let mut trace = Trace::new(1002);
+    for (us, (direction, frame)) in (0..).step_by(1000).zip(frames) {
+        trace.fragment(*direction, us, 64, true, &trace::pdu(0x41, frame));
+    }
+    trace.file
+}
+
+/// The frame with another FCS, which is its last byte.
+fn wrong(mut frame: Vec<u8>) -> Vec<u8> {
+    *frame.last_mut().unwrap() ^= 0x80;
+    frame
+}
+
+fn checked() -> Options {
+    Options::default().with_check_fcs(true)
+}
+
+/// DLCI, frames, unfinished and UIH frames with a wrong FCS, by both calls, in btsnoop and in pcap.
+#[track_caller]
+fn found(file: &[u8], options: &Options) -> Result<(u8, usize, usize, usize), Refusal> {
+    let imported = import_with(file, options);
+    assert_eq!(import_stretches_with(file, options).map(|(imported, _)| imported), imported);
+    let numbers = |imported: lumbryth::Imported| {
+        assert_eq!(imported.frames, imported.spans.len());
+        (imported.dlci, imported.frames, imported.unfinished, imported.wrong_fcs)
+    };
+    let numbers = imported.map(numbers);
+    for form in FORMS {
+        let imported = import_with(&twin(file, form), &options.with_container(Container::Pcap));
+        let again = imported.map(|found| (found.dlci, found.frames, found.unfinished, found.wrong_fcs));
+        assert_eq!(again, numbers, "{form:?}");
+    }
+    numbers
+}
+
+/// Document 01's worked example has FCS 00, where 14 is right; off, nothing is checked.
+#[test]
+fn the_example_with_the_fcs_checked() {
+    for fcs in 0..=255 {
+        let mut file = EXAMPLE;
+        file[61] = fcs;
+        for options in [Options::default(), Options::default().with_channel(9)] {
+            assert_eq!(found(&file, &options), Ok((18, 1, 0, 0)));
+            let due = if fcs == 0x14 { Ok((18, 1, 0, 0)) } else { Err(Refusal::NoStream) };
+            assert_eq!(found(&file, &options.with_check_fcs(true)), due, "FCS {fcs:02X}");
+        }
+    }
+}
+
+/// Of each address and control one FCS is right, over these two bytes as they stand and no other.
+#[test]
+fn the_fcs_of_each_head() {
+    let wire = pack(0x01, 0, &[]).unwrap();
+    let heads: [(&[u8], u8); 6] = [
+        (&[0x49, 0xEF], 0x14),
+        (&[0x4B, 0xEF], 0xCE),
+        (&[0x48, 0xEF], 0x79),
+        (&[0x4A, 0xEF], 0xA3),
+        (&[0x49, 0xFF, 0x55], 0x08),
+        (&[0x4B, 0xFF, 0xAA], 0xD2),
+    ];
+    for (head, right) in heads {
+        // A length of one byte or two; a credit stands behind it.
+        for length in [&[19][..], &[18, 0]] {
+            let frame = |fcs| [&head[..2], length, &head[2..], &wire, &[fcs]].concat();
+            for fcs in 0..=255 {
+                let file = frames_of(&[(Direction::Rx, frame(fcs))]);
+                assert_eq!(found(&file, &Options::default()), Ok((18, 1, 0, 0)));
+                let due = if fcs == right { Ok((18, 1, 0, 0)) } else { Err(Refusal::NoStream) };
+                assert_eq!(found(&file, &checked()), due, "{head:02X?} {fcs:02X}");
+            }
+            // The byte behind the information is the FCS, whatever follows it.
+            for more in [&[][..], &[0], &[right ^ 1], &[0, right]] {
+                let file = |fcs| frames_of(&[(Direction::Rx, [&frame(fcs)[..], more].concat())]);
+                assert_eq!(found(&file(right), &checked()), Ok((18, 1, 0, 0)));
+                assert_eq!(found(&file(right ^ 1), &checked()), Err(Refusal::NoStream));
+            }
+        }
+    }
+}
+
+/// What is counted: UIH frames with a wrong FCS on the DLCI that is taken, with information or without, anywhere.
+#[test]
+fn wrong_fcs_is_counted() {
+    use Direction::{Rx, Tx};
+    let wire = pack(0x01, 0, &[]).unwrap();
+    let good = (Rx, uih(18, false, None, &wire));
+    let each: [(Direction, Vec<u8>, usize); 9] = [
+        (Tx, wrong(uih(18, true, None, &wire)), 1),
+        (Rx, wrong(uih(18, false, None, &[])), 1),
+        (Rx, wrong(uih(18, false, Some(7), &[])), 1),
+        (Rx, wrong(uih(18, false, Some(7), &[0; 200])), 1),
+        // Another DLCI, and DLCI 0.
+        (Rx, wrong(uih(19, false, None, &wire)), 0),
+        (Rx, wrong(uih(0, false, None, &wire)), 0),
+        // A SABM; a UIH frame without its FCS; and one with the right one.
+        (Rx, wrong(control(18, true, 0x3F)), 0),
+        (Rx, uih(18, false, None, &[0x3C]).split_last().unwrap().1.to_vec(), 0),
+        (Tx, uih(18, true, Some(7), &[]), 0),
+    ];
+    for (direction, frame, count) in &each {
+        let frame = (*direction, frame.clone());
+        for frames in [[frame.clone(), good.clone()], [good.clone(), frame.clone()]] {
+            assert_eq!(found(&frames_of(&frames), &checked()), Ok((18, 1, 0, *count)), "{:02X?}", frame.1);
+        }
+    }
+    let all: Vec<_> = each.iter().map(|(direction, frame, _)| (*direction, frame.clone())).chain([good]).collect();
+    assert_eq!(found(&frames_of(&all), &checked()), Ok((18, 1, 0, 4)));
+    assert_eq!(found(&frames_of(&all), &checked().with_channel(9)), Ok((18, 1, 0, 4)));
+    // Off, each is taken, and nothing is counted.
+    assert_eq!(found(&frames_of(&all), &Options::default()), Ok((18, 2, 0, 0)));
+    // Only the whole records of a file count.
+    let file = [&frames_of(&all)[..], &[0; 30]].concat();
+    let imported = import_with(&file, &checked().with_tail(TailRule::Tolerant)).unwrap();
+    assert_eq!((imported.wrong_fcs, imported.tail), (4, file.len() - 30 + 24));
+    // A channel that is named for another service is not tried, and what comes on it is not counted.
+    let mut trace = Trace::new(1002);
+    trace.fragment(Tx, 0, 64, true, &trace::signal(2, 1, &[0x1001, 0x50]));
+    for (cid, frame) in [(0x50, &all[0].1), (0x51, &all[0].1), (0x51, &all[9].1)] {
+        trace.fragment(Rx, 0, 64, true, &trace::pdu(cid, frame));
+    }
+    assert_eq!(found(&trace.file, &checked()), Ok((18, 1, 0, 1)));
+}
+
+/// What is passed over leaves no trace: what comes before and after it joins. A SABM is taken whatever its FCS is.
+#[test]
+fn wrong_fcs_is_passed_over() {
+    use Direction::Rx;
+    let wire = pack(0x01, 0, &[]).unwrap();
+    let (begin, end) = wire.split_at(4);
+    let piece = |information: &[u8]| (Rx, uih(18, false, None, information));
+    let between = |frame: Vec<u8>| frames_of(&[piece(&wire), piece(begin), (Rx, frame), piece(end)]);
+    for information in [&wire[..], &[0x3C], &[], end] {
+        let file = between(wrong(uih(18, false, None, information)));
+        let imported = import_with(&file, &checked()).unwrap();
+        assert_eq!((imported.frames, imported.unfinished, imported.wrong_fcs), (2, 0, 1));
+        assert!(imported.spans.iter().all(|span| span.wire == wire));
+        assert_eq!(imported.spans[1].ms, 3);
+    }
+    for sabm in [control(18, true, 0x3F), wrong(control(18, true, 0x3F)), wrong(control(0, true, 0x2F))] {
+        let (imported, open) = import_stretches_with(&between(sabm), &checked()).unwrap();
+        assert_eq!((imported.frames, imported.unfinished, imported.wrong_fcs), (1, 1, 0));
+        assert_eq!((open[0].sessions + open[0].links, open[0].held), (0, 4));
+    }
+}
+
+/// The DLCI is chosen by what is right: another than without the check, or none.
+#[test]
+fn the_dlci_with_the_fcs_checked() {
+    use Direction::{Rx, Tx};
+    let wire = pack(0x01, 0, &[]).unwrap();
+    let frames = [
+        (Rx, wrong(uih(18, false, None, &wire))),
+        (Tx, wrong(uih(40, true, Some(1), &[]))),
+        (Tx, uih(40, true, None, &wire)),
+        (Rx, uih(18, false, None, b"AT")),
+        (Rx, uih(19, false, None, &wire)),
+        (Rx, wrong(uih(19, false, None, &wire))),
+    ];
+    let file = frames_of(&frames);
+    let channel = |channel| (Options::default().with_channel(channel), checked().with_channel(channel));
+    assert_eq!(found(&file, &Options::default()), Ok((18, 1, 0, 0)));
+    assert_eq!(found(&file, &checked()), Ok((40, 1, 0, 1)));
+    assert_eq!((found(&file, &channel(9).0), found(&file, &channel(9).1)), (Ok((18, 1, 0, 0)), Ok((19, 1, 0, 1))));
+    assert_eq!((found(&file, &channel(20).0), found(&file, &channel(20).1)), (Ok((40, 1, 0, 0)), Ok((40, 1, 0, 1))));
+    // The order is that of the right ones too: 40 comes before 18 if the first on 18 is wrong.
+    let file = frames_of(&[&frames[..3], &[(Rx, uih(18, false, None, &wire))]].concat());
+    assert_eq!((found(&file, &Options::default()), found(&file, &checked())), (Ok((18, 2, 0, 0)), Ok((40, 1, 0, 1))));
+    // Nothing that is right.
+    let file = frames_of(&frames[..2]);
+    assert_eq!(found(&file, &Options::default()), Ok((18, 1, 0, 0)));
+    refused(import_with(&file, &checked()), Refusal::NoStream, 6, &[]);
+}
+
+/// The example of a noisy adapter; and those whose FCS is right everywhere, at every cut.
+#[test]
+fn the_examples_with_the_fcs_checked() {
+    let noisy: &[u8] = include_bytes!("../../../examples/noisy.btsnoop");
+    assert_eq!(found(noisy, &Options::default()), Ok((18, 11, 0, 0)));
+    assert_eq!(found(noisy, &checked()), Ok((18, 10, 0, 3)));
+    let broken = |options| {
+        let spans = import_with(noisy, &options).unwrap().spans;
+        spans.iter().filter(|span| unpack(&span.wire).is_err()).count()
+    };
+    assert_eq!((broken(Options::default()), broken(checked())), (1, 0));
+    let traces: [&[u8]; 3] = [
+        include_bytes!("../../../examples/headset.btsnoop"),
+        include_bytes!("../../../examples/cut.btsnoop"),
+        include_bytes!("../../../examples/two-adapters.btsnoop"),
+    ];
+    for trace in traces {
+        for n in (16..trace.len()).step_by(11).chain([trace.len()]) {
+            for options in [Options::default(), Options::default().with_tail(TailRule::Tolerant)] {
+                let on = options.with_check_fcs(true);
+                assert_eq!(import_with(&trace[..n], &on), import_with(&trace[..n], &options), "{n} bytes");
+                assert_eq!(import_stretches_with(&trace[..n], &on), import_stretches_with(&trace[..n], &options));
+            }
+        }
+    }
+}
+
+/// The other calls that take options do not look at this one.
+#[test]
+fn only_imports_check_the_fcs() {
+    let noisy: &[u8] = include_bytes!("../../../examples/noisy.btsnoop");
+    for n in (0..noisy.len()).step_by(5).chain([noisy.len()]) {
+        let file = &noisy[..n];
+        for options in [Options::default(), Options::default().with_tail(TailRule::Tolerant), strict()] {
+            let on = options.with_check_fcs(true);
+            assert_eq!(records_with(file, &on), records_with(file, &options));
+            assert_eq!(gaps_with(file, &on), gaps_with(file, &options));
+            assert_eq!(ending_with(file, &on), ending_with(file, &options));
+            assert_eq!(cut_with(file, 16, &on), cut_with(file, 16, &options));
+        }
     }
 }

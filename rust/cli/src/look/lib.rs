@@ -73,8 +73,9 @@ pub fn adapters(trace: Trace) -> BTreeSet<u16> {
     packets::each(trace, &found.starts).filter_map(adapter).collect()
 }
 
-/// Looks inside a trace, up to where it ends if that is inside a record. Refuses as [`Trace::records`] does.
-pub fn look(trace: Trace) -> Result<Seen, Refusal> {
+/// Looks inside a trace, up to where it ends if that is inside a record. With `check_fcs`, UIH frames with a wrong FCS are passed
+/// over, as import does if it is asked to. Refuses as [`Trace::records`] does.
+pub fn look(trace: Trace, check_fcs: bool) -> Result<Seen, Refusal> {
     let found = trace.records()?;
     let (mut channels, mut joining, mut skipped) = (Channels::default(), Joining::default(), 0);
     for held in packets::each(trace, &found.starts) {
@@ -89,7 +90,7 @@ pub fn look(trace: Trace) -> Result<Seen, Refusal> {
             Held::Other => {}
         }
     }
-    let (mut lines, mut joining) = (Lines::default(), Joining::default());
+    let (mut lines, mut joining) = (Lines::new(check_fcs), Joining::default());
     for held in packets::each(trace, &found.starts) {
         if let Held::Packet(packet) = held {
             if let Some(pdu) = joining.join(&packet) {

@@ -43,6 +43,8 @@ pub struct Dlci {
     pub links: Vec<(Link, Share)>,
     /// The spans that do not unpack, by the number of the refusal.
     pub refused: Vec<Refused>,
+    /// How many UIH frames on it have a wrong FCS, with information or without, whether they are passed over or not.
+    pub wrong_fcs: usize,
 }
 
 impl Dlci {
@@ -63,13 +65,26 @@ pub struct Refused {
 enum Frame<'a> {
     /// Opens a DLCI.
     Sabm(u8),
-    /// Carries information on a DLCI.
-    Uih(u8, &'a [u8]),
+    /// Carries information on a DLCI, or none; and whether its FCS is right.
+    Uih(u8, &'a [u8], bool),
 }
 
-/// The frame of a PDU, if it opens something or carries something.
+/// The FCS that a UIH frame should have, by its address and control.
+fn fcs(address: u8, control: u8) -> u8 {
+    let mut check = 0xFF;
+    for byte in [address, control] {
+        check ^= byte;
+        for _ in 0..8 {
+            check = check >> 1 ^ if check % 2 == 1 { 0xE0 } else { 0 };
+        }
+    }
+    !check
+}
+
+/// The frame of a PDU, if it opens something or carries information.
 fn frame(bytes: &[u8]) -> Option<Frame<'_>> {
-    let (dlci, control) = (bytes.first()? / 4, *bytes.get(1)?);
+    let (address, control) = (*bytes.first()?, *bytes.get(1)?);
+    let dlci = address / 4;
     if matches!(control, 0x2F | 0x3F) {
         return Some(Frame::Sabm(dlci));
     }
@@ -82,9 +97,9 @@ fn frame(bytes: &[u8]) -> Option<Frame<'_>> {
         _ => (low / 2 + 128 * usize::from(*bytes.get(3)?), 4),
     };
     let start = start + usize::from(control == 0xFF);
-    // The check byte has to be there too.
-    let information = bytes.get(start..start + length + 1)?.split_last()?.1;
-    (dlci != 0 && !information.is_empty()).then_some(Frame::Uih(dlci, information))
+    // The FCS has to be there too.
+    let (check, information) = bytes.get(start..start + length + 1)?.split_last()?;
+    Some(Frame::Uih(dlci, information, *check == fcs(address, control)))
 }
 
 /// How often a connection's session, and its link of each DLCI, was opened.
@@ -105,6 +120,10 @@ struct Buffer {
 /// What is known so far.
 #[derive(Default)]
 pub struct Lines {
+    /// Whether UIH frames with a wrong FCS are passed over.
+    check_fcs: bool,
+    /// How many there are on each DLCI.
+    wrong_fcs: HashMap<u8, usize>,
     opened: HashMap<Link, Opened>,
     dlcis: Vec<Dlci>,
     /// Where a connection is among those of a DLCI.
@@ -113,6 +132,10 @@ pub struct Lines {
 }
 
 impl Lines {
+    pub fn new(check_fcs: bool) -> Lines {
+        Lines { check_fcs, ..Lines::default() }
+    }
+
     /// Takes a PDU, which is tried as RFCOMM or not.
     pub fn pdu(&mut self, pdu: &Pdu, tried: bool) {
         let opened = self.opened.entry(pdu.link).or_default();
@@ -123,9 +146,12 @@ impl Lines {
         match frame(&pdu.payload).filter(|_| tried) {
             Some(Frame::Sabm(0)) => opened.sessions += 1,
             Some(Frame::Sabm(dlci)) => *opened.links.entry(dlci).or_default() += 1,
-            Some(Frame::Uih(dlci, information)) => {
-                let opened = (opened.sessions, opened.links.get(&dlci).copied().unwrap_or(0));
-                self.piece(pdu, dlci, opened, information);
+            Some(Frame::Uih(dlci, information, right)) => {
+                *self.wrong_fcs.entry(dlci).or_default() += usize::from(!right);
+                if dlci != 0 && !information.is_empty() && (right || !self.check_fcs) {
+                    let opened = (opened.sessions, opened.links.get(&dlci).copied().unwrap_or(0));
+                    self.piece(pdu, dlci, opened, information);
+                }
             }
             None => {}
         }
@@ -133,7 +159,8 @@ impl Lines {
 
     fn piece(&mut self, pdu: &Pdu, dlci: u8, opened: (usize, usize), information: &[u8]) {
         let place = self.dlcis.iter().position(|line| line.dlci == dlci).unwrap_or_else(|| {
-            self.dlcis.push(Dlci { dlci, all: Share::default(), links: Vec::new(), refused: Vec::new() });
+            let (links, refused) = (Vec::new(), Vec::new());
+            self.dlcis.push(Dlci { dlci, all: Share::default(), links, refused, wrong_fcs: 0 });
             self.dlcis.len() - 1
         });
         let line = &mut self.dlcis[place];
@@ -160,6 +187,7 @@ impl Lines {
         for line in &mut self.dlcis {
             line.all = line.links.iter().fold(Share::default(), |all, (_, share)| all.and(*share));
             line.refused.sort_by_key(|refused| refused.refusal.number());
+            line.wrong_fcs = self.wrong_fcs.get(&line.dlci).copied().unwrap_or(0);
         }
         self.dlcis
     }

@@ -1,6 +1,6 @@
 //! Traces made at random, of what devices send and of what they should not: several adapters and handles, channels named for RFCOMM
 //! and for other services or not at all, sessions and links opened anew, PDUs in fragments that get lost, frames that unpack and
-//! that do not.
+//! that do not, and RFCOMM frames whose FCS is wrong.
 
 use std::collections::{BTreeMap, VecDeque};
 
@@ -67,6 +67,8 @@ struct Maker<'a> {
     links: Vec<Link>,
     cids: Vec<u16>,
     dlcis: Vec<u8>,
+    /// How many RFCOMM frames of a hundred have a wrong FCS.
+    noise: usize,
     /// What is left of a frame of which a piece was sent, for each link, direction, CID and DLCI.
     rest: BTreeMap<(Link, bool, u16, u8), Vec<u8>>,
     /// Fragments that wait, for each link and direction.
@@ -167,6 +169,11 @@ impl Maker<'_> {
                 frame
             }
         };
+        if self.rng.percent(self.noise) {
+            // The FCS is changed, or the bit of a command, for which it is not right then.
+            let at = if self.rng.percent(80) { frame.len() - 1 } else { 0 };
+            frame[at] ^= if at == 0 { 2 } else { 1 << self.rng.within(0, 7) };
+        }
         if self.rng.percent(4) {
             frame.truncate(self.rng.within(0, frame.len()));
         }
@@ -253,8 +260,9 @@ pub fn trace(rng: &mut Rng) -> Vec<u8> {
     let links = (0..rng.within(1, 3)).map(|_| (rng.pick(&adapters), rng.pick(&handles))).collect();
     let cids = some(rng, &[0x40, 0x41, 0x41, 0x45, 0x70, 0xFFFF, 0x3F, 0x04, 0x01], 5);
     let dlcis = some(rng, &[1, 2, 3, 18, 19, 18, 19, 40, 41, 62, 63], 5);
+    let noise = rng.pick(&[0, 0, 10, 60]);
     let (us, rest, waiting) = (1_700_000_000_000_000, BTreeMap::new(), BTreeMap::new());
-    let mut maker = Maker { rng, trace: Trace::new(datalink), datalink, us, links, cids, dlcis, rest, waiting };
+    let mut maker = Maker { rng, trace: Trace::new(datalink), datalink, us, links, cids, dlcis, noise, rest, waiting };
     for _ in 0..maker.rng.within(1, 60) {
         let (links, direction) = (maker.links.clone(), maker.rng.pick(&[Rx, Tx]));
         let link = maker.rng.pick(&links);
