@@ -10,7 +10,7 @@ use std::collections::BTreeSet;
 use std::hint::black_box;
 use std::path::Path;
 
-use crate::answer::{Answer, Case, Checked, Container, Difference, Lender, Subject, NO_CHANNEL};
+use crate::answer::{Answer, Case, Checked, Container, Difference, Lender, Subject, NO_CHANNEL, VALUES};
 use crate::containers;
 use crate::expected::{self, LONGEST_FILE};
 use crate::gaps;
@@ -384,7 +384,7 @@ impl Files {
     }
 
     fn import(&mut self, subject: &dyn Subject) {
-        let mut values = [0; 5];
+        let mut values = [0; VALUES];
         for (file, answer) in self.files.iter().zip(&self.answers) {
             let lent = (&mut self.work[..], &mut self.out[..]);
             let number = imported(self.container, subject, black_box(file), lent.0, lent.1, &mut values);
@@ -688,7 +688,7 @@ pub fn once(label: &str, kib: usize, subject: &dyn Subject, options: &Options) -
     let mut work = vec![0; 8 * bytes];
     // No list of spans is longer than that of the shortest, which are two bytes long.
     let mut out = vec![0; 8 * bytes];
-    let (mut number, mut values) = (0, [0; 5]);
+    let (mut number, mut values) = (0, [0; VALUES]);
     for _ in 0..options.times {
         number = imported(container, subject, black_box(&file), &mut work, &mut out, &mut values);
     }

@@ -8,6 +8,7 @@ mod containers;
 mod deep;
 mod editcap;
 mod expected;
+mod fcs;
 mod gaps;
 mod hard;
 mod honest;
@@ -169,11 +170,12 @@ fn verdict(checked: Checked) -> bool {
 /// Runs a group, and says by which way the imports that it was held to were found.
 fn compared((name, group): &(&str, Group), subject: &dyn Subject, options: &Options) -> bool {
     let good = verdict(group(subject, options));
-    let [direct, renamed, model] = expected::asked();
+    let [direct, renamed, model, rewritten] = expected::asked();
     if direct + renamed + model > 0 {
         println!(
             "{name}: held to the Rust {direct} times by the file as it is, {renamed} times with a handle of its own for \
-             each adapter's index and handle; to the model {model} times, with more of these than handles"
+             each adapter's index and handle; to the model {model} times, with more of these than handles; {rewritten} of \
+             these times by the file without the frames that have a wrong FCS"
         );
     }
     good

@@ -93,7 +93,7 @@ impl Misfiled {
         };
         (self.change_stretches)(&mut answer, file);
         let number = model::store(&answer, out, values);
-        let open = || model::open(container(&options), file, answer.values[0], reading);
+        let open = || model::open(container(&options), file, answer.values[0], chosen(&options).checks, reading);
         (self.fill)(number, places, &if number == 0 { open() } else { Vec::new() });
         self.spoil(number, work);
         number
@@ -119,7 +119,7 @@ impl Misfiled {
 
     pub fn gaps(&self, file: &[u8], work: &mut [u8], options: &[u64], values: &mut [u64]) -> u32 {
         let options = (self.gaps)(file, options);
-        let mut answer = gaps::answer_in(container(&options), file, work.len(), chosen(&options).1, self.signs);
+        let mut answer = gaps::answer_in(container(&options), file, work.len(), chosen(&options).tolerant, self.signs);
         (self.change_gaps)(&mut answer, file);
         let number = model::store(&answer, &mut [], values);
         self.spoil(number, work);

@@ -1,7 +1,7 @@
 //! Wrong answers planted on purpose: each must be reported, or the comparison could
 //! not fail.
 
-use crate::answer::{chosen, Answer, Container, Stretch, Subject, NO_CHANNEL};
+use crate::answer::{chosen, Answer, Asked, Container, Stretch, Subject, NO_CHANNEL};
 use crate::expected::LONGEST_FILE;
 use crate::misfiled::{self, Misfiled};
 use crate::misread::{self, Misread};
@@ -70,8 +70,8 @@ const NONE: Planted = Planted {
     misfiled: misfiled::NONE,
 };
 
-fn by_options(file: &[u8], work: usize, (channel, tolerant): (u32, bool)) -> Answer {
-    read(file, work, channel, tolerant, RIGHT)
+fn by_options(file: &[u8], work: usize, asked: Asked) -> Answer {
+    model::import_from(Container::Btsnoop, file, work, asked, RIGHT)
 }
 
 /// How many places a file wants; one that is too long is refused before.
@@ -147,7 +147,7 @@ impl Subject for Planted {
     ) -> u32 {
         let answer = (self.import_in)(self, file, work.len(), stretches.len(), channel, tolerant != 0);
         let number = (self.store)(&answer, out, values);
-        let open = || model::open(Container::Btsnoop, file, answer.values[0], self.reading);
+        let open = || model::open(Container::Btsnoop, file, answer.values[0], false, self.reading);
         (self.fill)(number, stretches, &if number == 0 { open() } else { Vec::new() });
         number
     }
@@ -794,23 +794,25 @@ fn faults_of_options() -> Vec<(&'static str, &'static str, Planted)> {
         (
             "tolerant",
             "options: the channel is not looked at",
-            Planted { import_with: |_, f, w, o| by_options(f, w, (NO_CHANNEL, chosen(o).1)), ..NONE },
+            Planted { import_with: |_, f, w, o| by_options(f, w, Asked { channel: NO_CHANNEL, ..chosen(o) }), ..NONE },
         ),
         (
             "tolerant",
             "options: the rule is strict whatever they say",
-            Planted { import_with: |_, f, w, o| by_options(f, w, (chosen(o).0, false)), ..NONE },
+            Planted { import_with: |_, f, w, o| by_options(f, w, Asked { tolerant: false, ..chosen(o) }), ..NONE },
         ),
         (
             STRICT,
             "options: the rule is tolerant whatever they say",
-            Planted { import_with: |_, f, w, o| by_options(f, w, (chosen(o).0, true)), ..NONE },
+            Planted { import_with: |_, f, w, o| by_options(f, w, Asked { tolerant: true, ..chosen(o) }), ..NONE },
         ),
         (
             "tolerant",
             "options: the channel is read from the place of the rule",
             Planted {
-                import_with: |_, f, w, o| by_options(f, w, (chosen(o.get(1..).unwrap_or(&[])).0, chosen(o).1)),
+                import_with: |_, f, w, o| {
+                    by_options(f, w, Asked { channel: chosen(o.get(1..).unwrap_or(&[])).channel, ..chosen(o) })
+                },
                 ..NONE
             },
         ),
@@ -818,7 +820,9 @@ fn faults_of_options() -> Vec<(&'static str, &'static str, Planted)> {
             STRICT,
             "options: the rule is read from the place of the channel",
             Planted {
-                import_with: |_, f, w, o| by_options(f, w, (chosen(o).0, o.first().is_some_and(|&n| n != 0))),
+                import_with: |_, f, w, o| {
+                    by_options(f, w, Asked { tolerant: o.first().is_some_and(|&n| n != 0), ..chosen(o) })
+                },
                 ..NONE
             },
         ),
@@ -826,21 +830,27 @@ fn faults_of_options() -> Vec<(&'static str, &'static str, Planted)> {
             "tolerant",
             "options: the rule is read from the place after its own",
             Planted {
-                import_with: |_, f, w, o| by_options(f, w, (chosen(o).0, o.get(2).is_some_and(|&n| n != 0))),
+                import_with: |_, f, w, o| {
+                    by_options(f, w, Asked { tolerant: o.get(2).is_some_and(|&n| n != 0), ..chosen(o) })
+                },
                 ..NONE
             },
         ),
         (
             "tolerant",
             "options: 1 alone is tolerant",
-            Planted { import_with: |_, f, w, o| by_options(f, w, (chosen(o).0, o.get(1) == Some(&1))), ..NONE },
+            Planted {
+                import_with: |_, f, w, o| by_options(f, w, Asked { tolerant: o.get(1) == Some(&1), ..chosen(o) }),
+                ..NONE
+            },
         ),
         (
             "tolerant",
             "options: a channel is cut to 32 bits",
             Planted {
                 import_with: |_, f, w, o| {
-                    by_options(f, w, (o.first().map_or(NO_CHANNEL, |&n| (n as u32).min(NO_CHANNEL)), chosen(o).1))
+                    let channel = o.first().map_or(NO_CHANNEL, |&n| (n as u32).min(NO_CHANNEL));
+                    by_options(f, w, Asked { channel, ..chosen(o) })
                 },
                 ..NONE
             },
@@ -850,7 +860,8 @@ fn faults_of_options() -> Vec<(&'static str, &'static str, Planted)> {
             "options: a channel is cut to 8 bits",
             Planted {
                 import_with: |_, f, w, o| {
-                    by_options(f, w, (o.first().map_or(NO_CHANNEL, |&n| u32::from(n as u8)), chosen(o).1))
+                    let channel = o.first().map_or(NO_CHANNEL, |&n| u32::from(n as u8));
+                    by_options(f, w, Asked { channel, ..chosen(o) })
                 },
                 ..NONE
             },
@@ -858,20 +869,22 @@ fn faults_of_options() -> Vec<(&'static str, &'static str, Planted)> {
         (
             STRICT,
             "options: without a channel, 0 is asked for",
-            Planted {
-                import_with: |_, f, w, o| by_options(f, w, if o.is_empty() { (0, false) } else { chosen(o) }),
-                ..NONE
-            },
+            Planted { import_with: |_, f, w, o| by_options(f, w, chosen(if o.is_empty() { &[0] } else { o })), ..NONE },
         ),
         (
             STRICT,
             "options: without a rule, it is tolerant",
-            Planted { import_with: |_, f, w, o| by_options(f, w, (chosen(o).0, o.len() < 2 || chosen(o).1)), ..NONE },
+            Planted {
+                import_with: |_, f, w, o| {
+                    by_options(f, w, Asked { tolerant: o.len() < 2 || chosen(o).tolerant, ..chosen(o) })
+                },
+                ..NONE
+            },
         ),
         (
             "tolerant",
             "options: of more than there are, none counts",
-            Planted { import_with: |_, f, w, o| by_options(f, w, chosen(if o.len() > 3 { &[] } else { o })), ..NONE },
+            Planted { import_with: |_, f, w, o| by_options(f, w, chosen(if o.len() > 4 { &[] } else { o })), ..NONE },
         ),
         (
             "tolerant",
@@ -1003,7 +1016,7 @@ fn faults_of_pcap() -> Vec<(&'static str, &'static str, Planted)> {
             calls(|r, f, w, o| {
                 let answer = model::import_with(f, w, o, r);
                 let tail = crate::pcap::read(f, r.pcap).1;
-                match answer.number == 22 && !chosen(o).1 && tail < f.len() {
+                match answer.number == 22 && !chosen(o).tolerant && tail < f.len() {
                     true => Answer::refused(5, &[tail as u64]),
                     false => answer,
                 }
