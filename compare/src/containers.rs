@@ -127,10 +127,6 @@ impl<'a> ByContainer<'a> {
         }
     }
 
-    pub fn container(&self) -> Container {
-        self.container
-    }
-
     /// How many calls were to be answered with each number.
     pub fn answers(&self) -> [u64; NUMBERS] {
         let [strict, tolerant] = &self.imports;

@@ -30,6 +30,7 @@ mod rng;
 mod sample;
 mod signs;
 mod stats;
+mod sums;
 mod times;
 mod tolerant;
 mod trace;
@@ -129,7 +130,7 @@ fn cases(counts: &[u64]) -> String {
 
 pub type Group = fn(&dyn Subject, &Options) -> Checked;
 
-const GROUPS: [(&str, Group); 9] = [
+const GROUPS: [(&str, Group); 10] = [
     ("codec", codec::run),
     ("names", names::run),
     ("plan", plan::run),
@@ -138,6 +139,7 @@ const GROUPS: [(&str, Group); 9] = [
     ("tolerant", tolerant::run),
     ("gaps", signs::run),
     ("pcap", containers::run),
+    ("fcs", sums::run),
     ("vectors", vectors::run),
 ];
 
