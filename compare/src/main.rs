@@ -18,6 +18,7 @@ mod lacking;
 mod misfiled;
 mod misprint;
 mod misread;
+mod missummed;
 mod mistaken;
 mod model;
 mod names;
@@ -45,7 +46,7 @@ const USAGE: &str = "\
 usage: compare GROUP [--seed N] [--size N] [--against proved|model]
        compare all [--seed N] [--size N] [--against proved|model]
        compare traceprint PROGRAM [--seed N] [--size N]
-       compare selfcheck
+       compare selfcheck [--only TEXT]
        compare bench GROUP|growth|adapters [--only TEXT] [--kib N,N,..] [--judge] [--against proved|model]
        compare once LABEL KIB [--times N] [--against proved|model]
        compare sample GROUP FILE
@@ -61,7 +62,7 @@ PROGRAM is the built traceprint.
 `bench gaps` how long the signs take as a part of import, `bench adapters` one handle
 on many adapters against as many links that are spread over handles, `bench pcap` the
 same packets in pcap and in btsnoop.
---only takes the rows whose label has TEXT, --kib the sizes of the files of import
+--only takes the rows, or the planted faults, whose label has TEXT, --kib the sizes of the files of import
 (16 to 1024), and --judge says at the end which rows are over their limit. `once`
 imports the trace of a row --times times and does nothing else; as pcap, if LABEL
 begins with that word.";
@@ -223,6 +224,11 @@ fn arguments() -> Result<(Vec<String>, Options), String> {
 fn selfcheck(options: Options) -> bool {
     let options = Options { quiet: true, size: options.size.or(Some(200)), ..options };
     let (calls, mut missed) = planted::unreported(&GROUPS, &options);
+    if options.only.is_some() {
+        println!("selfcheck: {} of {calls} planted faults reported", calls - missed.len());
+        missed.iter().for_each(|label| println!("  not reported: {label}"));
+        return missed.is_empty();
+    }
     let (prints, unseen) = misprint::unreported(&options);
     let planted = calls + prints;
     missed.extend(unseen.iter().map(ToString::to_string));
