@@ -52,20 +52,21 @@ usage: compare GROUP [--seed N] [--size N] [--against proved|model]
        compare sample GROUP FILE
        compare stats import|pcap|honest|bench [--seed N] [--size N]
 
-GROUP is codec, names, plan, order, import, tolerant, gaps, pcap or vectors. --size is
-the number of random cases; what is exhaustive stays whole. `all` runs every group that
-this build links. There is no sample of gaps and pcap, and neither sample nor bench of
-vectors.
+GROUP is codec, names, plan, order, import, tolerant, gaps, pcap, fcs or vectors.
+--size is the number of random cases; what is exhaustive stays whole. `all` runs every
+group that this build links. There is no sample of gaps, pcap and fcs, and neither
+sample nor bench of vectors.
 PROGRAM is the built traceprint.
 
 `bench` times the rows of a group, `bench growth` how the times of import grow,
 `bench gaps` how long the signs take as a part of import, `bench adapters` one handle
 on many adapters against as many links that are spread over handles, `bench pcap` the
-same packets in pcap and in btsnoop.
---only takes the rows, or the planted faults, whose label has TEXT, --kib the sizes of the files of import
-(16 to 1024), and --judge says at the end which rows are over their limit. `once`
-imports the trace of a row --times times and does nothing else; as pcap, if LABEL
-begins with that word.";
+same packets in pcap and in btsnoop, `bench fcs` import with the FCS checked against
+import without.
+--only takes the rows, or of selfcheck the faults, whose label has TEXT, --kib the sizes
+of the files of import (16 to 1024), and --judge says at the end which rows are over
+their limit. `once` imports the trace of a row --times times and does nothing else; with the FCS checked or
+as pcap, if LABEL begins with `fcs` or `pcap`.";
 
 /// What the command line says besides the command.
 pub struct Options {
@@ -254,14 +255,15 @@ fn run() -> Result<bool, String> {
             let calls: &[&str] = match group {
                 "growth" => &["import"],
                 "adapters" => &["import", "gaps"],
-                "pcap" => &["import", "pcap"],
+                "pcap" | "fcs" => &["import", "pcap"],
                 _ => &[group],
             };
             calls.iter().try_for_each(|call| need(call))?;
             bench::run(group, subject, &options).map(verdict).ok_or_else(|| USAGE.into())
         }
         ["once", label, kib] => {
-            need(if label.starts_with("pcap ") { "pcap" } else { "import" })?;
+            let by_options = ["pcap ", "fcs "].iter().any(|word| label.starts_with(word));
+            need(if by_options { "pcap" } else { "import" })?;
             bench::once(label, size(kib)?, subject, &options).map(|()| true)
         }
         ["sample", group, path] => {

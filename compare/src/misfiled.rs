@@ -19,7 +19,7 @@ pub const LAW: &str = "pcap, the law of starts";
 pub const OTHERS: &str = "pcap, btsnoop files";
 
 /// Which options a call goes by, instead of those that it gets.
-type Asks = fn(&[u8], &[u64]) -> Vec<u64>;
+pub type Asks = fn(&[u8], &[u64]) -> Vec<u64>;
 
 /// The calls that take a container, with some of them replaced.
 #[derive(Clone, Copy)]

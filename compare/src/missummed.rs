@@ -1,7 +1,7 @@
 //! Wrong importers that check the FCS, and wrong calls that are asked to, planted to be reported by `fcs` and by what else has
 //! frames with a wrong one.
 
-use crate::misfiled::{self, Misfiled};
+use crate::misfiled::{self, Asks, Misfiled};
 use crate::mistaken;
 use crate::model::{divided, Reading, Sums, BY_02, POLYNOMIAL, RIGHT, START};
 
@@ -12,8 +12,8 @@ pub const STEPS: &str = "fcs, every few steps";
 pub const SHORT: &str = "fcs, every short frame";
 pub const RANDOM: &str = "fcs, random traces";
 
-/// What every part shows, but for the heads, which have no frame but one or two; what a file of a few PDUs shows; and what
-/// only made traces and random ones have.
+/// What every part shows; what the vectors and short frames do not; nor the every few steps; what honest recordings do not
+/// show either; and what every address and control shows.
 const ALL: &[&str] = &[BY_HAND, STEPS, SHORT, RANDOM, mistaken::HONEST, misfiled::HONEST, "vectors"];
 const MADE: &[&str] = &[BY_HAND, STEPS, RANDOM, mistaken::HONEST, misfiled::HONEST];
 const HONEST: &[&str] = &[BY_HAND, RANDOM, mistaken::HONEST, misfiled::HONEST];
@@ -58,8 +58,11 @@ fn of_checks() -> Vec<Importer> {
         (ALL, "neither polynomial nor bits are reversed", sums(|frame| unreversed(&frame[..2]))),
         (ALL, "the bits of the check are reversed", sums(|frame| over(&frame[..2]).reverse_bits())),
         (ALL, "control before address", sums(|frame| over(&[frame[1], frame[0]]))),
-        (HONEST, "P/F is masked", sums(|frame| over(&[frame[0], frame[1] & 0xEF]))),
-        (HEAD, "P/F is masked", sums(|frame| over(&[frame[0], frame[1] & 0xEF]))),
+        (
+            &[HEADS, BY_HAND, RANDOM, mistaken::HONEST, misfiled::HONEST],
+            "P/F is masked",
+            sums(|frame| over(&[frame[0], frame[1] & 0xEF])),
+        ),
         (ALL, "C/R and EA are masked", sums(|frame| over(&[frame[0] & 0xFC, frame[1]]))),
         (HEAD, "C/R is masked", sums(|frame| over(&[frame[0] & 0xFD, frame[1]]))),
         (&[HEADS, RANDOM], "EA is set", sums(|frame| over(&[frame[0] | 1, frame[1]]))),
@@ -209,7 +212,7 @@ fn bits(options: &[u64], bits: u32) -> bool {
 }
 
 /// Wrong ways to find the switch.
-const CHOICES: [(&str, fn(&[u8], &[u64]) -> Vec<u64>); 14] = [
+const CHOICES: [(&str, Asks); 14] = [
     ("the switch is not looked at", |_, options| switched(options, false)),
     ("the FCS is checked whatever they say", |_, options| switched(options, true)),
     ("without a switch the FCS is checked", |_, options| switched(options, options.len() < 4 || at(options, 3))),

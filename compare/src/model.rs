@@ -216,7 +216,7 @@ pub const START: u8 = 0xFF;
 /// A check over bytes, lowest bits first, before its complement.
 pub fn divided(bytes: &[u8], polynomial: u8, start: u8) -> u8 {
     bytes.iter().fold(start, |sum, byte| {
-        (0..8).fold(sum ^ byte, |sum, _| if sum % 2 == 1 { sum / 2 ^ polynomial } else { sum / 2 })
+        (0..8).fold(sum ^ byte, |sum, _| if sum % 2 == 1 { (sum / 2) ^ polynomial } else { sum / 2 })
     })
 }
 

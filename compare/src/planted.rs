@@ -1209,10 +1209,10 @@ fn numbered(file: &[u8], work: usize, options: &[u64], number: u32, change: fn(&
     answer
 }
 
-/// The groups that report something where no fault is planted; what they say of a fault would
+/// The groups, and the parts of them, that report something where no fault is planted; what they say of a fault would
 /// mean nothing.
 pub fn reported_without(groups: &[(&'static str, Group)], options: &Options) -> Vec<&'static str> {
-    groups.iter().filter(|(_, group)| group(&NONE, options).is_err()).map(|(name, _)| *name).collect()
+    groups.iter().chain(&PARTS).filter(|(_, group)| group(&NONE, options).is_err()).map(|(name, _)| *name).collect()
 }
 
 /// All faults.

@@ -242,7 +242,7 @@ pub fn wrong_fcs(rng: &mut Rng, frame: &[u8]) -> u8 {
     let right = fcs::right(address, control);
     let other = match rng.below(9) {
         0 => fcs::over(&frame[..3]),
-        1 => fcs::over(&frame[..if frame[2] % 2 == 0 { 4 } else { 3 }]),
+        1 => fcs::over(&frame[..if frame[2] % 2 == 1 { 3 } else { 4 }]),
         2 => !right,
         3 => fcs::right(address, control ^ 0x10),
         4 => fcs::right(address ^ 2, control),
