@@ -15,11 +15,15 @@ enum { FILE_MOST = 1 << 20, OUT = 1 << 24, STACK = 1 << 20, FILL = 0xA5 };
 static uint8_t *file, *work, *spans, *plan, *names;
 static size_t file_len, spans_len, names_len;
 static uint64_t values[LUMBRYTH_GAPS];
-/* Any channel, tolerant, and what the file is. */
-static uint64_t options[3] = {256, 1, 0};
+/* Any channel, tolerant, what the file is, and whether the FCS is checked. */
+static uint64_t options[4] = {256, 1, 0, 0};
 
 static void import_trace(void) {
-    if (lumbryth_import_with(file, file_len, work, 8 * file_len, spans, OUT, options, 3, values, 5) == 0) spans_len = values[4];
+    if (lumbryth_import_with(file, file_len, work, 8 * file_len, spans, OUT, options, 3, values, LUMBRYTH_VALUES) == 0) spans_len = values[4];
+}
+static void import_checked(void) {
+    options[3] = 1;
+    lumbryth_import_with(file, file_len, work, 8 * file_len, plan, OUT, options, 4, values, LUMBRYTH_VALUES);
 }
 static void find_gaps(void) { lumbryth_gaps_with(file, file_len, work, 8 * file_len, options, 3, values, LUMBRYTH_GAPS); }
 static void make_plan(void) { lumbryth_plan(spans, spans_len, spans, 0, plan, OUT, values, 5); }
@@ -28,7 +32,7 @@ static void pack_frame(void) { lumbryth_pack(12, 1, file, file_len < 32760 ? fil
 static void unpack_frame(void) { lumbryth_unpack(plan, values[0], spans, OUT, values, 5); }
 
 static const struct { const char *name; void (*call)(void); } calls[] = {
-    {"import", import_trace}, {"gaps", find_gaps}, {"plan", make_plan}, {"order", order_names},
+    {"import", import_trace}, {"import, FCS checked", import_checked}, {"gaps", find_gaps}, {"plan", make_plan}, {"order", order_names},
     {"pack", pack_frame}, {"unpack", unpack_frame},
 };
 

@@ -71,7 +71,8 @@ pub trait Subject {
         tolerant: u32,
         values: &mut [u64],
     ) -> u32;
-    /// Import by a list of options: the channel, the tail rule, the container; what it lacks has its default.
+    /// Import by a list of options: the channel, the tail rule, the container, whether the FCS is checked; what it lacks has
+    /// its default.
     fn import_with(&self, file: &[u8], work: &mut [u8], out: &mut [u8], options: &[u64], values: &mut [u64]) -> u32;
     #[allow(clippy::too_many_arguments)]
     fn import_stretches_with(
@@ -89,7 +90,7 @@ pub trait Subject {
     fn records_with(&self, file: &[u8], starts: &mut [u64], options: &[u64], values: &mut [u64]) -> u32;
     /// The signs that something is not in a file: how many of each, and where the first is.
     fn gaps(&self, file: &[u8], work: &mut [u8], tolerant: u32, values: &mut [u64]) -> u32;
-    /// The same by a list of options, of which the channel is not looked at.
+    /// The same by a list of options, of which the channel and the FCS are not looked at.
     fn gaps_with(&self, file: &[u8], work: &mut [u8], options: &[u64], values: &mut [u64]) -> u32;
     /// Whether the call with stretches is linked.
     fn has_stretches(&self) -> bool {
@@ -116,11 +117,25 @@ pub fn container(options: &[u64]) -> Container {
     }
 }
 
-/// What a list of options chooses besides: the channel, and whether the rule is tolerant.
-pub fn chosen(options: &[u64]) -> (u32, bool) {
-    let channel = options.first().map_or(NO_CHANNEL, |&n| n.min(u64::from(NO_CHANNEL)) as u32);
-    (channel, options.get(1).is_some_and(|&n| n != 0))
+/// What an import is asked for besides the container.
+#[derive(Clone, Copy, Debug)]
+pub struct Asked {
+    pub channel: u32,
+    /// Whether the rule is tolerant.
+    pub tolerant: bool,
+    /// Whether the FCS of UIH frames is checked.
+    pub checks: bool,
 }
+
+/// What a list of options chooses besides the container.
+pub fn chosen(options: &[u64]) -> Asked {
+    let channel = options.first().map_or(NO_CHANNEL, |&n| n.min(u64::from(NO_CHANNEL)) as u32);
+    let on = |place: usize| options.get(place).is_some_and(|&n| n != 0);
+    Asked { channel, tolerant: on(1), checks: on(3) }
+}
+
+/// How many values an import answers: DLCI, frames, unfinished, tail offset, bytes written, frames with a wrong FCS.
+pub const VALUES: usize = 6;
 
 /// A stretch and direction with bytes held, as the library lays it out.
 #[repr(C)]
@@ -265,8 +280,10 @@ impl Lender {
     /// Room for values: mostly one more than there are, at times fewer.
     pub fn room(&self, expected: &Answer) -> usize {
         let all = expected.values.len();
-        match self.turn % 4 {
-            0 => self.turn / 4 % (all + 1),
+        // Calls come in rounds of a few, so the turn alone would give each of them the same.
+        let turn = self.turn.wrapping_mul(0x9E37_79B9) >> 8;
+        match turn % 4 {
+            0 => turn / 4 % (all + 1),
             1 => all,
             _ => all.max(1) + 1,
         }

@@ -10,7 +10,7 @@ use std::collections::BTreeSet;
 use std::hint::black_box;
 use std::path::Path;
 
-use crate::answer::{Answer, Case, Checked, Container, Difference, Lender, Subject, NO_CHANNEL};
+use crate::answer::{Answer, Case, Checked, Container, Difference, Lender, Subject, NO_CHANNEL, VALUES};
 use crate::containers;
 use crate::expected::{self, LONGEST_FILE};
 use crate::gaps;
@@ -35,6 +35,8 @@ const GROWTH: f64 = 1.1;
 const ADAPTERS: f64 = 1.1;
 /// What packets in pcap are to cost at most, divided by the same in btsnoop.
 const PCAP: f64 = 1.1;
+/// What an import that checks the FCS is to cost at most, divided by one that does not.
+const FCS: f64 = 1.1;
 
 /// The rows of a run, and those that are over their limit.
 struct Bench<'a> {
@@ -336,9 +338,20 @@ fn order_row(bench: &mut Bench, label: &str, names: Vec<String>) -> Checked {
     Ok(())
 }
 
+/// What files are imported as, and whether their FCS is checked.
+#[derive(Clone, Copy)]
+struct How {
+    container: Container,
+    /// If it is not said, the call is by number where the container allows it.
+    checks: Option<bool>,
+}
+
+const BTSNOOP: How = How { container: Container::Btsnoop, checks: None };
+const AS_PCAP: How = How { container: Container::Pcap, checks: None };
+
 /// Files to import one after another, with what is lent for all of them.
 struct Files {
-    container: Container,
+    how: How,
     files: Vec<Vec<u8>>,
     answers: Vec<Answer>,
     work: Vec<u8>,
@@ -348,27 +361,22 @@ struct Files {
 impl Files {
     /// The files, once the subject's answers are the oracle's.
     fn checked(subject: &dyn Subject, label: &str, files: Vec<Vec<u8>>) -> Result<Files, Box<Difference>> {
-        Files::checked_in(Container::Btsnoop, subject, label, files)
+        Files::checked_in(BTSNOOP, subject, label, files)
     }
 
-    fn checked_in(
-        container: Container,
-        subject: &dyn Subject,
-        label: &str,
-        files: Vec<Vec<u8>>,
-    ) -> Result<Files, Box<Difference>> {
+    fn checked_in(how: How, subject: &dyn Subject, label: &str, files: Vec<Vec<u8>>) -> Result<Files, Box<Difference>> {
         let mut work = vec![0; 8 * files.iter().map(Vec::len).max().unwrap_or(0)];
         let mut answers = Vec::new();
         for file in &files {
-            let expected = match container {
-                Container::Btsnoop => expected::import_strict(file, NO_CHANNEL),
-                Container::Pcap => expected::import_pcap(file, NO_CHANNEL).by(false),
+            let expected = match how.checks {
+                Some(true) => expected::import(how.container, file, NO_CHANNEL, false)[1].clone(),
+                _ => expected::import_off(how.container, file, NO_CHANNEL, false),
             };
-            check(label, &expected, &mut |out, v| imported(container, subject, file, &mut work, out, v))?;
+            check(label, &expected, &mut |out, v| imported(how, subject, file, &mut work, out, v))?;
             answers.push(expected);
         }
         let out = vec![0; answers.iter().map(|a| a.written.len()).max().unwrap_or(0)];
-        Ok(Files { container, files, answers, work, out })
+        Ok(Files { how, files, answers, work, out })
     }
 
     fn bytes(&self) -> f64 {
@@ -384,27 +392,26 @@ impl Files {
     }
 
     fn import(&mut self, subject: &dyn Subject) {
-        let mut values = [0; 5];
+        let mut values = [0; VALUES];
         for (file, answer) in self.files.iter().zip(&self.answers) {
             let lent = (&mut self.work[..], &mut self.out[..]);
-            let number = imported(self.container, subject, black_box(file), lent.0, lent.1, &mut values);
+            let number = imported(self.how, subject, black_box(file), lent.0, lent.1, &mut values);
             assert_eq!(number, answer.number);
         }
     }
 }
 
 /// The strict import of a file, on any channel.
-fn imported(
-    container: Container,
-    subject: &dyn Subject,
-    file: &[u8],
-    work: &mut [u8],
-    out: &mut [u8],
-    values: &mut [u64],
-) -> u32 {
-    match container {
-        Container::Btsnoop => subject.import_strict(file, work, out, NO_CHANNEL, values),
-        Container::Pcap => subject.import_with(file, work, out, &[u64::from(NO_CHANNEL), 0, 1], values),
+fn imported(how: How, subject: &dyn Subject, file: &[u8], work: &mut [u8], out: &mut [u8], values: &mut [u64]) -> u32 {
+    let container = u64::from(how.container == Container::Pcap);
+    match how {
+        How { container: Container::Btsnoop, checks: None } => {
+            subject.import_strict(file, work, out, NO_CHANNEL, values)
+        }
+        How { checks: None, .. } => subject.import_with(file, work, out, &[256, 0, container], values),
+        How { checks: Some(checks), .. } => {
+            subject.import_with(file, work, out, &[256, 0, container, checks.into()], values)
+        }
     }
 }
 
@@ -538,6 +545,56 @@ fn pcap(bench: &mut Bench) -> Checked {
     Ok(())
 }
 
+/// Import with the FCS checked in turns with the same call that does not check it, and with the Rust, which never does: the
+/// typical trace, where every FCS is right, in both containers; then files that are full of frames with a wrong one.
+fn fcs(bench: &mut Bench) -> Checked {
+    println!(
+        "{:64} {:>10} {:>10} {:>10} {:>7} {:>7} {:>7}",
+        "fcs", "bytes", "checked", "not", "ratio", "least", "by Rust"
+    );
+    for trace in hard::traces().iter().filter(|trace| trace.label.starts_with("typical")) {
+        for kib in trace.sizes(bench.options.kib.as_deref()) {
+            let files = trace.files(kib).unwrap_or_default();
+            let others = files.iter().map(|file| pcap::of_btsnoop(file, FORMS[0])).collect();
+            fcs_row(bench, &trace.label, Container::Btsnoop, Some(FCS), files)?;
+            fcs_row(bench, &format!("{}, pcap", trace.label), Container::Pcap, Some(FCS), others)?;
+        }
+    }
+    for kib in bench.options.kib.clone().unwrap_or(vec![1024]) {
+        for (label, file) in containers::fullest(kib << 10).filter(|(label, _)| label.contains("UIHs")) {
+            fcs_row(bench, &format!("{label}, pcap"), Container::Pcap, None, vec![file])?;
+        }
+    }
+    Ok(())
+}
+
+fn fcs_row(bench: &mut Bench, label: &str, container: Container, limit: Option<f64>, files: Vec<Vec<u8>>) -> Checked {
+    if !bench.wants(label) {
+        return Ok(());
+    }
+    let (subject, bytes, count) = (bench.subject, files[0].len(), files.len() as f64);
+    let how = |checks: bool| How { container, checks: Some(checks) };
+    let mut on = Files::checked_in(how(true), subject, label, files.clone())?;
+    let mut off = Files::checked_in(how(false), subject, label, files.clone())?;
+    let known: Vec<Vec<u8>> = match container {
+        Container::Btsnoop => files,
+        Container::Pcap => files.iter().map(|file| pcap::twin(file, 1002)).collect(),
+    };
+    let label = match on.answers[0].values.get(5) {
+        Some(wrong) => format!("{} ({wrong} wrong)", on.label(label)),
+        None => on.label(label),
+    };
+    let times =
+        times::turns(&mut [&mut || on.import(subject), &mut || off.import(subject), &mut || import_rust(&known)]);
+    let (ratio, least) = (times::ratio(&times[0], &times[1]), times::least(&times[0]) / times::least(&times[1]));
+    let by_rust = times::ratio(&times[0], &times[2]);
+    let [on, off] = [0, 1].map(|i| times::shown(times::median(times[i].clone()) / count));
+    println!("{label:64} {bytes:>10} {on:>10} {off:>10} {ratio:>7.3} {least:>7.3} {by_rust:>7.3}");
+    bench.judge(&label, bytes, ratio, limit);
+    bench.judge(&format!("{label}, by the Rust"), bytes, by_rust, ANY);
+    Ok(())
+}
+
 fn words(form: Form) -> String {
     let order = if form.big { "big-endian" } else { "little-endian" };
     format!("{order} {}", if form.nano { "nanoseconds" } else { "microseconds" })
@@ -549,7 +606,7 @@ fn pcap_row(bench: &mut Bench, label: &str, limit: Option<f64>, files: Vec<Vec<u
     }
     let (subject, bytes, count) = (bench.subject, files[0].len(), files.len() as f64);
     let twins: Vec<Vec<u8>> = files.iter().map(|file| pcap::twin(file, 1002)).collect();
-    let mut ours = Files::checked_in(Container::Pcap, subject, label, files)?;
+    let mut ours = Files::checked_in(AS_PCAP, subject, label, files)?;
     let label = ours.label(label);
     let fit = twins.iter().all(|twin| twin.len() <= LONGEST_FILE);
     let mut others = if fit { Some(Files::checked(subject, &label, twins.clone())?) } else { None };
@@ -662,6 +719,7 @@ pub fn run(group: &str, subject: &dyn Subject, options: &Options) -> Option<Chec
         "gaps" => gaps,
         "adapters" => adapters,
         "pcap" => pcap,
+        "fcs" => fcs,
         _ => return None,
     };
     times::keep_memory();
@@ -670,9 +728,13 @@ pub fn run(group: &str, subject: &dyn Subject, options: &Options) -> Option<Chec
 }
 
 /// Imports of one trace and nothing else, to be counted or profiled: the trace of that label,
-/// or the first whose label has it; as pcap, if the label begins with that word.
+/// or the first whose label has it; with the FCS checked or as pcap, if the label begins with `fcs` or `pcap`, or with both.
 pub fn once(label: &str, kib: usize, subject: &dyn Subject, options: &Options) -> Result<(), String> {
     let traces = [hard::traces(), hard::of_many_adapters()].into_iter().flatten().collect::<Vec<Hard>>();
+    let (checks, label) = match label.strip_prefix("fcs ") {
+        Some(label) => (Some(true), label),
+        None => (None, label),
+    };
     let (container, label) = match label.strip_prefix("pcap ") {
         Some(label) => (Container::Pcap, label),
         None => (Container::Btsnoop, label),
@@ -688,9 +750,9 @@ pub fn once(label: &str, kib: usize, subject: &dyn Subject, options: &Options) -
     let mut work = vec![0; 8 * bytes];
     // No list of spans is longer than that of the shortest, which are two bytes long.
     let mut out = vec![0; 8 * bytes];
-    let (mut number, mut values) = (0, [0; 5]);
+    let (mut number, mut values) = (0, [0; VALUES]);
     for _ in 0..options.times {
-        number = imported(container, subject, black_box(&file), &mut work, &mut out, &mut values);
+        number = imported(How { container, checks }, subject, black_box(&file), &mut work, &mut out, &mut values);
     }
     println!("{}: {bytes} bytes, number {number}, values {values:?}", trace.label);
     Ok(())

@@ -90,16 +90,21 @@ impl<'a> Records<'a> {
         }
     }
 
-    /// The options of a call; neither the channel nor the rule is looked at.
+    /// The options of a call; neither the channel nor the rule nor the switch is looked at.
     fn options(&self) -> Vec<u64> {
         let turn = self.files;
         let (channel, tolerant) = ([256, 0, u64::MAX, 7][turn % 4], [0, 1, 0, u64::MAX, 2][turn % 5]);
+        let more = [&[0][..], &[], &[1], &[0, 7], &[u64::MAX, 0, 1]][turn % 5];
         if self.container == Container::Pcap {
             let pcap = [1, 3, u64::MAX, 1 << 32, 1, 1 << 63, 1 << 8][turn % 7];
-            return [&[channel, tolerant, pcap], &[0, 0][..turn % 3]].concat();
+            return [&[channel, tolerant, pcap], more].concat();
         }
-        [&[channel, tolerant, 0, 1][..], &[channel, tolerant, 0], &[channel, tolerant], &[channel], &[]][turn % 5]
-            .to_vec()
+        match turn % 6 {
+            0 => vec![],
+            1 => vec![channel],
+            2 => vec![channel, tolerant],
+            _ => [&[channel, tolerant, 0], more].concat(),
+        }
     }
 }
 
@@ -123,7 +128,7 @@ impl<'a> ByContainer<'a> {
     }
 
     /// How many calls were to be answered with each number.
-    fn answers(&self) -> [u64; NUMBERS] {
+    pub fn answers(&self) -> [u64; NUMBERS] {
         let [strict, tolerant] = &self.imports;
         let all = [&strict.lender.answers, &tolerant.lender.answers, &self.records.lender.answers, self.gaps.answers()];
         std::array::from_fn(|number| all.iter().map(|answers| answers[number]).sum())
@@ -131,20 +136,19 @@ impl<'a> ByContainer<'a> {
 
     /// The file by all calls, held to the oracle and the container's own rule.
     fn once(&mut self, file: &[u8], channel: u32) -> Checked {
-        let [strict, tolerant] = match self.container {
-            Container::Btsnoop => [expected::import_strict(file, channel), expected::import_tolerant(file, channel)],
-            Container::Pcap => expected::import_pcap(file, channel).both(),
-        };
-        self.held(file, channel, &strict, &tolerant)
+        self.held(file, channel, &expected::by_both_rules(self.container, file, channel))
     }
 
-    /// The file by all calls, import held to these answers.
-    fn held(&mut self, file: &[u8], channel: u32, strict: &Answer, tolerant: &Answer) -> Checked {
-        for (import, expected) in self.imports.iter_mut().zip([strict, tolerant]) {
-            import.held(file, channel, expected)?;
-        }
+    /// The file by all calls, import in both positions of the switch and held to these answers: strict, then tolerant.
+    fn held(&mut self, file: &[u8], channel: u32, expected: &[[Answer; 2]; 2]) -> Checked {
+        self.imported(file, channel, expected)?;
         self.records.once(file)?;
         self.gaps.once(file)
+    }
+
+    /// The file by the calls that import.
+    pub fn imported(&mut self, file: &[u8], channel: u32, expected: &[[Answer; 2]; 2]) -> Checked {
+        self.imports.iter_mut().zip(expected).try_for_each(|(import, both)| import.in_both(file, channel, both))
     }
 }
 
@@ -222,7 +226,7 @@ fn frames(frames: &[(bool, u64)], tail: usize) -> Answer {
     }
     let spans: Vec<items::Span> = frames.iter().map(|&(rx, ms)| (ms, if rx { Rx } else { Tx }, ack(0))).collect();
     let list = items::span_list(&spans);
-    Answer::done(&[18, frames.len() as u64, 0, tail as u64, list.len() as u64], list)
+    Answer::done(&[18, frames.len() as u64, 0, tail as u64, list.len() as u64, 0], list)
 }
 
 /// A fixed file and its answers by the strict rule and the tolerant.
@@ -370,15 +374,15 @@ fn cuts(form: Form) -> Vec<Fixed> {
     all
 }
 
-/// All of them, in each form. The oracle says the same of each.
+/// All of them, in each form. The oracle says the same of each. Every FCS is right, so the switch makes no difference.
 fn by_hand(calls: &mut ByContainer) -> Checked {
     for form in FORMS {
         for part in [directions, links, headers, times, records, cuts] {
             for (file, strict, tolerant) in part(form) {
-                let known = [&strict, &tolerant];
-                let found = expected::import_pcap(&file, NO_CHANNEL).both();
-                assert!(found.iter().eq(known), "a fixed file has its answer: {file:02X?}");
-                calls.held(&file, NO_CHANNEL, &strict, &tolerant)?;
+                let known = [strict, tolerant].map(|answer| [answer.clone(), answer]);
+                let found = expected::by_both_rules(Container::Pcap, &file, NO_CHANNEL);
+                assert!(found == known, "a fixed file has its answer: {file:02X?}");
+                calls.held(&file, NO_CHANNEL, &known)?;
             }
         }
     }
@@ -512,13 +516,20 @@ fn least(trace: &mut Trace, way: u32, flag: u16, data: &[u8]) {
 }
 
 /// As many rows of each table as a file can ask for, each with the size of its records.
-const LEAST: [(&str, usize, Least); 9] = [
+const LEAST: [(&str, usize, Least); 11] = [
     ("most records", 16, |trace, i| trace.captured(0, EPOCH + u64::from(i), &[])),
     ("most records of zeros", 16, |trace, _| trace.zeros()),
     ("most packets, PDUs that stay open", 25, |trace, i| least(trace, i, 2, &[])),
     ("most PDUs", 29, |trace, i| least(trace, i, 2, &l2cap(0x41, &[]))),
     ("most SABMs", 31, |trace, i| least(trace, i, 2, &l2cap(0x41, &[18 << 2 | 3, 0x2F]))),
     ("most empty UIHs", 33, |trace, i| least(trace, i, 2, &l2cap(0x41, &trace::uih(18, &[], None, false)))),
+    ("most empty UIHs with a wrong FCS", 33, |trace, i| {
+        least(trace, i, 2, &l2cap(0x41, &trace::wrong(trace::uih(18, &[], None, false))))
+    }),
+    ("pieces and UIHs with a wrong FCS, in turn", 34, |trace, i| {
+        let frame = trace::uih(18, &[ack(0)[(i / 2) as usize % 9]], None, false);
+        least(trace, 1, 2, &l2cap(0x41, &if i % 2 == 0 { frame } else { trace::wrong(frame) }))
+    }),
     ("most pieces", 34, |trace, i| {
         least(trace, 1, 2, &l2cap(0x41, &trace::uih(18, &[ack(0)[i as usize % 9]], None, false)))
     }),
@@ -632,13 +643,14 @@ fn scattered(calls: &mut ByContainer, rng: &mut Rng, size: u64) -> Checked {
     Ok(())
 }
 
-/// Every cut of honest recordings, held to what is left: by the strict rule too, where that does not refuse.
+/// Every cut of honest recordings in both positions of the switch, held to what is left: by the strict rule too, where that does not refuse.
 fn honest(calls: &mut ByContainer, rng: &mut Rng, size: u64) -> Checked {
     tolerant::each_cut(rng, calls.container, size, &mut |recording, n| {
-        let left = recording.left(n);
+        let left = tolerant::due(calls.container, recording, n);
         let tail = recording.ends.iter().copied().take_while(|end| *end <= n).last().unwrap_or(recording.head);
-        let strict = if tail < n { Answer::refused(5, &[tail as u64]) } else { left.clone() };
-        calls.held(&recording.file[..n], recording.channel(), &strict, &left)
+        let refused = Answer::refused(5, &[tail as u64]);
+        let strict = if tail < n { [refused.clone(), refused] } else { left.clone() };
+        calls.held(&recording.file[..n], recording.channel(), &[strict, left])
     })
 }
 
@@ -770,7 +782,8 @@ fn add(answers: &mut [u64; NUMBERS], more: &[u64; NUMBERS]) {
 fn others(calls: &mut ByContainer, rng: &mut Rng, size: u64) -> Checked {
     for form in FORMS {
         let file = Hand::new(form).sent(1, 0, 0).file;
-        calls.held(&file, NO_CHANNEL, &Answer::refused(3, &[]), &Answer::refused(3, &[]))?;
+        let refused = [Answer::refused(3, &[]), Answer::refused(3, &[])];
+        calls.held(&file, NO_CHANNEL, &[refused.clone(), refused])?;
         for n in 0..=HEAD {
             calls.file(&file[..n], NO_CHANNEL)?;
         }

@@ -7,9 +7,9 @@ use std::path::{Path, PathBuf};
 use std::process::Command;
 use std::{env, fs, process};
 
-use crate::answer::{Answer, Checked, Container, Difference, Subject, NO_CHANNEL};
+use crate::answer::{Answer, Checked, Container, Difference, Subject, NO_CHANNEL, VALUES};
 use crate::expected;
-use crate::honest::{self, Scale};
+use crate::honest::{self, Scale, Sums};
 use crate::model::{self, be};
 use crate::pcap::{self, Form, FORMS, ROW};
 use crate::rng::Rng;
@@ -54,7 +54,7 @@ fn converted(directory: &Path, file: &[u8], kind: &str) -> Result<Vec<u8>, Box<D
 fn made_pcap(rng: &mut Rng, form: Form) -> Vec<u8> {
     let mut file = Trace::pcap(form).file;
     let scale = Scale { links: 3, frames: 40, payload: 40, piece: 60, fragment: 100 };
-    let mut others = vec![honest::recording_in(rng, Container::Pcap, scale).file];
+    let mut others = vec![honest::recording_in(rng, Container::Pcap, Sums::Noisy, scale).file];
     others.extend((0..4).map(|_| trace::structured_in(rng, Container::Pcap, 60).0.file));
     for other in others {
         for record in pcap::read(&other, pcap::RIGHT).0.iter().filter(|record| record.received.is_some()) {
@@ -91,13 +91,11 @@ fn made_btsnoop(rng: &mut Rng) -> Vec<u8> {
 }
 
 /// An import as an answer, without the tail offset, which is another in each container.
-fn imported(subject: &dyn Subject, container: Container, file: &[u8]) -> Answer {
+fn imported(subject: &dyn Subject, container: Container, checks: bool, file: &[u8]) -> Answer {
     let (mut work, mut out) = (vec![0; 8 * file.len()], vec![0; 8 * file.len()]);
-    let mut values = [0; 5];
-    let number = match container {
-        Container::Pcap => subject.import_with(file, &mut work, &mut out, &[256, 0, 1], &mut values),
-        Container::Btsnoop => subject.import_with(file, &mut work, &mut out, &[256, 0, 0], &mut values),
-    };
+    let mut values = [0; VALUES];
+    let options = [256, 0, u64::from(container == Container::Pcap), u64::from(checks)];
+    let number = subject.import_with(file, &mut work, &mut out, &options, &mut values);
     assert!(number != 0 || values[3] == file.len() as u64, "a whole file is read to its end");
     values[3] = 0;
     match number {
@@ -106,10 +104,22 @@ fn imported(subject: &dyn Subject, container: Container, file: &[u8]) -> Answer 
     }
 }
 
-/// Both files are imported alike, and as the oracle imports the btsnoop file.
+/// Both files are imported alike, and as the oracle imports the btsnoop file, in both positions of the switch.
 fn alike(subject: &dyn Subject, what: &str, pcap: &[u8], btsnoop: &[u8]) -> Result<u64, Box<Difference>> {
-    let (ours, other) = (imported(subject, Container::Pcap, pcap), imported(subject, Container::Btsnoop, btsnoop));
-    let mut oracle = expected::import_strict(btsnoop, NO_CHANNEL);
+    let [off, on] = expected::import(Container::Btsnoop, btsnoop, NO_CHANNEL, false);
+    Ok(alike_in(subject, what, pcap, btsnoop, false, off)? + alike_in(subject, what, pcap, btsnoop, true, on)?)
+}
+
+fn alike_in(
+    subject: &dyn Subject,
+    what: &str,
+    pcap: &[u8],
+    btsnoop: &[u8],
+    checks: bool,
+    mut oracle: Answer,
+) -> Result<u64, Box<Difference>> {
+    let ours = imported(subject, Container::Pcap, checks, pcap);
+    let other = imported(subject, Container::Btsnoop, checks, btsnoop);
     if oracle.number == 0 {
         oracle.values[3] = 0;
     }
@@ -152,6 +162,9 @@ pub fn run(subject: &dyn Subject, rng: &mut Rng) -> Checked {
     if frames == 0 {
         return Err(failed("frames", "none in any file".into()));
     }
-    println!("pcap: editcap converted {} files, and {frames} frames are the same in both", 2 * FILES);
+    println!(
+        "pcap: editcap converted {} files, and {frames} frames are the same in both, with the FCS checked or not",
+        2 * FILES
+    );
     Ok(())
 }

@@ -7,7 +7,8 @@ use std::cell::Cell;
 use std::collections::{BTreeMap, BTreeSet};
 use std::path::Path;
 
-use crate::answer::{Answer, NO_CHANNEL};
+use crate::answer::{Answer, Container, NO_CHANNEL};
+use crate::fcs;
 use crate::items;
 use crate::model::{self, RIGHT};
 use crate::pcap;
@@ -92,6 +93,45 @@ pub fn capture_order(names: &[u8]) -> Option<Answer> {
     Some(Answer::done(&[list.len() as u64], list))
 }
 
+/// Import by either rule, first with the switch off and then with the FCS checked. The latter is the oracle's import of the
+/// file without its wrong frames, and how many of them the walk counts on the DLCI that it chooses.
+pub fn import(container: Container, file: &[u8], channel: u32, tolerant: bool) -> [Answer; 2] {
+    let off = import_off(container, file, channel, tolerant);
+    let wrong = fcs::wrong(container, file);
+    if wrong.is_empty() {
+        return [off.clone(), off];
+    }
+    count(3);
+    let mut on = import_off(container, &fcs::rewritten(file, &wrong), channel, tolerant);
+    if on.number == 0 {
+        on.values[5] = fcs::count(&wrong, on.values[0]);
+    }
+    [off, on]
+}
+
+/// Import by the strict rule and the tolerant, each in both positions of the switch.
+pub fn by_both_rules(container: Container, file: &[u8], channel: u32) -> [[Answer; 2]; 2] {
+    let tolerant = import(container, file, channel, true);
+    let strict = match container {
+        Container::Btsnoop => import(container, file, channel, false),
+        // What is refused is the container's to say.
+        Container::Pcap => match pcap::refusal(file, usize::MAX, false, pcap::RIGHT) {
+            Some(refused) => [refused.clone(), refused],
+            None => tolerant.clone(),
+        },
+    };
+    [strict, tolerant]
+}
+
+/// Import by either rule with the switch off.
+pub fn import_off(container: Container, file: &[u8], channel: u32, tolerant: bool) -> Answer {
+    match (container, tolerant) {
+        (Container::Pcap, _) => import_pcap(file, channel).by(tolerant),
+        (_, true) => import_tolerant(file, channel),
+        (_, false) => import_strict(file, channel),
+    }
+}
+
 /// Import of a whole file under the strict rule, for enough work.
 pub fn import_strict(file: &[u8], channel: u32) -> Answer {
     import_judged(file, file.len(), channel)
@@ -116,11 +156,6 @@ impl FromPcap {
         } else {
             self.strict
         }
-    }
-
-    /// Strict, then tolerant.
-    pub fn both(self) -> [Answer; 2] {
-        [self.strict, self.tolerant]
     }
 }
 
@@ -150,7 +185,7 @@ fn import_judged(file: &[u8], whole: usize, channel: u32) -> Answer {
     match capture::import(&known, channel) {
         Ok(imported) => {
             let list = items::span_list(&imported.frames);
-            let values = [imported.dlci.into(), imported.frames.len(), imported.unfinished, file.len(), list.len()];
+            let values = [imported.dlci.into(), imported.frames.len(), imported.unfinished, file.len(), list.len(), 0];
             Answer::done(&values.map(|v: usize| v as u64), list)
         }
         Err(ImportError::NotBtsnoop) => Answer::refused(3, &[]),
@@ -161,13 +196,13 @@ fn import_judged(file: &[u8], whole: usize, channel: u32) -> Answer {
 }
 
 thread_local! {
-    static ASKED: Cell<[u64; 3]> = const { Cell::new([0; 3]) };
+    static ASKED: Cell<[u64; 4]> = const { Cell::new([0; 4]) };
 }
 
 /// How many imports the oracle was asked for with the file as it is, how many with handles given anew, and how many
-/// the model was asked for; since this was last called.
-pub fn asked() -> [u64; 3] {
-    ASKED.replace([0; 3])
+/// the model was asked for; and in how many of all these the file had lost its wrong frames. Since this was last called.
+pub fn asked() -> [u64; 4] {
+    ASKED.replace([0; 4])
 }
 
 fn count(way: usize) {

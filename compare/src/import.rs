@@ -58,8 +58,11 @@ pub struct Import<'a> {
     container: Container,
     /// Whether every call is by a list of options, which may have a container in it.
     takes_container: bool,
+    /// Whether the FCS is checked. Only a list of options can ask for that.
+    checks: bool,
     pub lender: Lender,
-    files: usize,
+    /// How many files there were with the switch off, and on.
+    files: [usize; 2],
     work: RefCell<Vec<u8>>,
     stretches: RefCell<Vec<Stretch>>,
 }
@@ -81,8 +84,9 @@ impl<'a> Import<'a> {
             rule,
             container: Container::Btsnoop,
             takes_container: false,
+            checks: false,
             lender: Lender::default(),
-            files: 0,
+            files: [0; 2],
             work: RefCell::default(),
             stretches: RefCell::default(),
         }
@@ -132,22 +136,49 @@ impl<'a> Import<'a> {
     }
 
     fn once(&mut self, file: &[u8], channel: u32) -> Checked {
-        let expected = match (self.container, self.rule) {
-            (Container::Pcap, _) => expected::import_pcap(file, channel).by(self.tolerant()),
-            (_, Rule::Tolerant) => expected::import_tolerant(file, channel),
-            _ => expected::import_strict(file, channel),
-        };
-        self.held(file, channel, &expected)
+        if !self.has_switch() {
+            return self.held(file, channel, &expected::import_off(self.container, file, channel, self.tolerant()));
+        }
+        self.in_both(file, channel, &expected::import(self.container, file, channel, self.tolerant()))
+    }
+
+    /// The file in both positions of the switch, off first; a call by number has no switch.
+    pub fn in_both(&mut self, file: &[u8], channel: u32, [off, on]: &[Answer; 2]) -> Checked {
+        self.held(file, channel, off)?;
+        if self.has_switch() {
+            self.checking(true).held(file, channel, on)?;
+            self.checking(false);
+        }
+        Ok(())
     }
 
     /// The file with enough work and outputs about what is needed; at times also
     /// with one byte of work less.
     pub fn held(&mut self, file: &[u8], channel: u32, expected: &Answer) -> Checked {
-        self.files += 1;
+        self.files[usize::from(self.checks)] += 1;
         let mut lender = std::mem::take(&mut self.lender);
         let checked = self.held_by(&mut lender, file, channel, expected);
         self.lender = lender;
+        if checked.is_err() {
+            self.checks = false;
+        }
         checked
+    }
+
+    /// The calls from now on with the FCS checked, or not.
+    pub fn checking(&mut self, checks: bool) -> &mut Import<'a> {
+        self.checks = checks;
+        self
+    }
+
+    /// Whether there is a call that checks the FCS: one by a list of options.
+    fn has_switch(&self) -> bool {
+        self.takes_container || self.rule != Rule::Strict
+    }
+
+    /// How many files there were with the switch as it stands: what calls differ by.
+    fn turn(&self) -> usize {
+        self.files[usize::from(self.checks)]
     }
 
     pub fn container(&self) -> Container {
@@ -161,7 +192,7 @@ impl<'a> Import<'a> {
 
     /// The ways in which the call is told what to import.
     fn ways(&self) -> &'static [By] {
-        if self.takes_container {
+        if self.takes_container || self.checks {
             &[By::Options]
         } else if self.rule == Rule::Strict {
             &[By::Numbers]
@@ -179,7 +210,7 @@ impl<'a> Import<'a> {
         work: Option<usize>,
         out: Option<usize>,
     ) -> Checked {
-        self.files += 1;
+        self.files[usize::from(self.checks)] += 1;
         let mut lender = std::mem::take(&mut self.lender);
         let work = work.unwrap_or(8 * file.len());
         let out = out.unwrap_or(expected.written.len());
@@ -200,8 +231,8 @@ impl<'a> Import<'a> {
     }
 
     fn held_by(&self, lender: &mut Lender, file: &[u8], channel: u32, expected: &Answer) -> Checked {
-        let enough = 8 * file.len() + [0, 0, 1, 64][self.files % 4];
-        let fill = [None, None, Some(0), Some(0xFF), Some(0x3E)][self.files % 5];
+        let enough = 8 * file.len() + [0, 0, 1, 64][self.turn() % 4];
+        let fill = [None, None, Some(0), Some(0xFF), Some(0x3E)][self.turn() % 5];
         for &by in self.ways() {
             self.lend(enough, fill);
             lender.about(expected, &mut |out, values| self.call(file, enough, by, out, channel, values), &|| {
@@ -210,15 +241,19 @@ impl<'a> Import<'a> {
             self.guards(enough, file, channel, by)?;
             if expected.number == 1 {
                 // However much work there is.
-                for lent in [enough, 8 * file.len() - 1, self.files % 100] {
+                for lent in [enough, 8 * file.len() - 1, self.turn() % 100] {
                     self.unworked(lender, file, channel, expected, lent, by)?;
                 }
-            } else if self.files.is_multiple_of(7) && !file.is_empty() {
+            } else if self.turn().is_multiple_of(7) && !file.is_empty() {
                 self.unworked(lender, file, channel, &Answer::refused(2, &[]), 8 * file.len() - 1, by)?;
-                self.unworked(lender, file, channel, &Answer::refused(2, &[]), self.files % (8 * file.len()), by)?;
+                self.unworked(lender, file, channel, &Answer::refused(2, &[]), self.turn() % (8 * file.len()), by)?;
             }
         }
-        if self.takes_container || self.subject.has_stretches() {
+        let linked = match self.checks {
+            true => self.subject.takes_container(),
+            false => self.subject.has_stretches(),
+        };
+        if self.takes_container || linked {
             self.with_stretches(lender, file, channel, expected, enough, fill)?;
         }
         Ok(())
@@ -226,18 +261,28 @@ impl<'a> Import<'a> {
 
     /// The options of a call: all of them, more than there are, or those that are not the default.
     fn options(&self, channel: u32) -> Vec<u64> {
-        let any = [u64::from(NO_CHANNEL), u64::MAX, 1 << 32][self.files % 3];
+        let turn = self.turn();
+        let any = [u64::from(NO_CHANNEL), u64::MAX, 1 << 32][turn % 3];
         let channel = if channel == NO_CHANNEL { any } else { u64::from(channel) };
-        let tolerant = if self.tolerant() { [1, u64::MAX, 2][self.files % 3] } else { 0 };
-        if self.container == Container::Pcap {
-            let pcap = [1, 1, 2, u64::MAX, 1 << 32, 1, 1 << 63, 0x100, 1 << 16][self.files % 9];
-            return [&[channel, tolerant, pcap], &[0, 1, u64::MAX][..self.files % 4]].concat();
+        let tolerant = if self.tolerant() { [1, u64::MAX, 2][turn % 3] } else { 0 };
+        let pcap = match self.container {
+            Container::Btsnoop => 0,
+            Container::Pcap => [1, 1, 2, u64::MAX, 1 << 32, 1, 1 << 63, 0x100, 1 << 16][turn % 9],
+        };
+        let more = &[0, 1, u64::MAX][..turn % 4];
+        if self.checks {
+            let on = [1, 2, 1, u64::MAX, 1 << 32, 1, 1 << 63, 0x100, 1, 1 << 16, 6][turn % 11];
+            return [&[channel, tolerant, pcap, on], more].concat();
         }
-        match self.files % 4 {
+        if self.container == Container::Pcap {
+            return [&[channel, tolerant, pcap], more].concat();
+        }
+        match turn % 5 {
             0 if tolerant == 0 && channel > 255 => vec![],
             0 | 1 if tolerant == 0 => vec![channel],
             1 => vec![channel, tolerant, 0],
-            2 => vec![channel, tolerant, 0, 2, 3],
+            2 => vec![channel, tolerant, 0, 0, 2, 3],
+            3 => vec![channel, tolerant, 0, 0],
             _ => vec![channel, tolerant],
         }
     }
@@ -255,9 +300,9 @@ impl<'a> Import<'a> {
     ) -> Checked {
         let places = file.len() / 24;
         let needed = expected.written.len();
-        let lent = if self.files.is_multiple_of(3) { needed.saturating_sub(1) } else { needed + self.files % 2 };
+        let lent = if self.turn().is_multiple_of(3) { needed.saturating_sub(1) } else { needed + self.turn() % 2 };
         let room = lender.room(expected);
-        let with = if self.takes_container { By::OptionsPlaces } else { By::Places };
+        let with = if self.takes_container || self.checks { By::OptionsPlaces } else { By::Places };
         let by = with(places);
         self.lend(enough, fill);
         self.lend_stretches(places);
@@ -277,10 +322,10 @@ impl<'a> Import<'a> {
             self.unworked(lender, file, channel, expected, enough, by)?;
             return self.unworked(lender, file, channel, expected, enough, with(0));
         }
-        if self.files % 7 == 1 && places > 0 {
+        if self.turn() % 7 == 1 && places > 0 {
             let short = Answer::refused(2, &[]);
             self.unworked(lender, file, channel, &short, enough, with(places - 1))?;
-            self.unworked(lender, file, channel, &short, enough, with(self.files % places))?;
+            self.unworked(lender, file, channel, &short, enough, with(self.turn() % places))?;
             self.unworked(lender, file, channel, &short, 8 * file.len() - 1, by)?;
         }
         Ok(())
@@ -304,7 +349,7 @@ impl<'a> Import<'a> {
         }
         let found = self.stretches.borrow()[..unfinished].to_vec();
         let wrong = if file.len() < 20_000 || unfinished > 4096 {
-            let open = model::open(self.container, file, expected.values[0], model::RIGHT);
+            let open = model::open(self.container, file, expected.values[0], self.checks, model::RIGHT);
             (found != open).then(|| format!("{open:?}"))
         } else {
             let fits = |s: &Stretch| u64::from(s.dlci) == expected.values[0] && (1..=65_536).contains(&s.held);
@@ -334,12 +379,12 @@ impl<'a> Import<'a> {
         lent: usize,
         by: By,
     ) -> Checked {
-        self.lend(lent, Some(self.files as u8));
+        self.lend(lent, Some(self.turn() as u8));
         self.lend_stretches(by.places());
         let room = lender.room(expected);
         lender.call(
             expected,
-            self.files % 40,
+            self.turn() % 40,
             room,
             &mut |out, values| self.call(file, lent, by, out, channel, values),
             &|| self.case(file, channel, lent, by),

@@ -8,6 +8,7 @@ mod containers;
 mod deep;
 mod editcap;
 mod expected;
+mod fcs;
 mod gaps;
 mod hard;
 mod honest;
@@ -17,6 +18,7 @@ mod lacking;
 mod misfiled;
 mod misprint;
 mod misread;
+mod missummed;
 mod mistaken;
 mod model;
 mod names;
@@ -29,6 +31,7 @@ mod rng;
 mod sample;
 mod signs;
 mod stats;
+mod sums;
 mod times;
 mod tolerant;
 mod trace;
@@ -43,26 +46,27 @@ const USAGE: &str = "\
 usage: compare GROUP [--seed N] [--size N] [--against proved|model]
        compare all [--seed N] [--size N] [--against proved|model]
        compare traceprint PROGRAM [--seed N] [--size N]
-       compare selfcheck
+       compare selfcheck [--only TEXT]
        compare bench GROUP|growth|adapters [--only TEXT] [--kib N,N,..] [--judge] [--against proved|model]
        compare once LABEL KIB [--times N] [--against proved|model]
        compare sample GROUP FILE
        compare stats import|pcap|honest|bench [--seed N] [--size N]
 
-GROUP is codec, names, plan, order, import, tolerant, gaps, pcap or vectors. --size is
-the number of random cases; what is exhaustive stays whole. `all` runs every group that
-this build links. There is no sample of gaps and pcap, and neither sample nor bench of
-vectors.
+GROUP is codec, names, plan, order, import, tolerant, gaps, pcap, fcs or vectors.
+--size is the number of random cases; what is exhaustive stays whole. `all` runs every
+group that this build links. There is no sample of gaps, pcap and fcs, and neither
+sample nor bench of vectors.
 PROGRAM is the built traceprint.
 
 `bench` times the rows of a group, `bench growth` how the times of import grow,
 `bench gaps` how long the signs take as a part of import, `bench adapters` one handle
 on many adapters against as many links that are spread over handles, `bench pcap` the
-same packets in pcap and in btsnoop.
---only takes the rows whose label has TEXT, --kib the sizes of the files of import
-(16 to 1024), and --judge says at the end which rows are over their limit. `once`
-imports the trace of a row --times times and does nothing else; as pcap, if LABEL
-begins with that word.";
+same packets in pcap and in btsnoop, `bench fcs` import with the FCS checked against
+import without.
+--only takes the rows, or of selfcheck the faults, whose label has TEXT, --kib the sizes
+of the files of import (16 to 1024), and --judge says at the end which rows are over
+their limit. `once` imports the trace of a row --times times and does nothing else; with the FCS checked or
+as pcap, if LABEL begins with `fcs` or `pcap`.";
 
 /// What the command line says besides the command.
 pub struct Options {
@@ -128,7 +132,7 @@ fn cases(counts: &[u64]) -> String {
 
 pub type Group = fn(&dyn Subject, &Options) -> Checked;
 
-const GROUPS: [(&str, Group); 9] = [
+const GROUPS: [(&str, Group); 10] = [
     ("codec", codec::run),
     ("names", names::run),
     ("plan", plan::run),
@@ -137,6 +141,7 @@ const GROUPS: [(&str, Group); 9] = [
     ("tolerant", tolerant::run),
     ("gaps", signs::run),
     ("pcap", containers::run),
+    ("fcs", sums::run),
     ("vectors", vectors::run),
 ];
 
@@ -169,11 +174,12 @@ fn verdict(checked: Checked) -> bool {
 /// Runs a group, and says by which way the imports that it was held to were found.
 fn compared((name, group): &(&str, Group), subject: &dyn Subject, options: &Options) -> bool {
     let good = verdict(group(subject, options));
-    let [direct, renamed, model] = expected::asked();
+    let [direct, renamed, model, rewritten] = expected::asked();
     if direct + renamed + model > 0 {
         println!(
             "{name}: held to the Rust {direct} times by the file as it is, {renamed} times with a handle of its own for \
-             each adapter's index and handle; to the model {model} times, with more of these than handles"
+             each adapter's index and handle; to the model {model} times, with more of these than handles; {rewritten} of \
+             these times by the file without the frames that have a wrong FCS"
         );
     }
     good
@@ -219,6 +225,11 @@ fn arguments() -> Result<(Vec<String>, Options), String> {
 fn selfcheck(options: Options) -> bool {
     let options = Options { quiet: true, size: options.size.or(Some(200)), ..options };
     let (calls, mut missed) = planted::unreported(&GROUPS, &options);
+    if options.only.is_some() {
+        println!("selfcheck: {} of {calls} planted faults reported", calls - missed.len());
+        missed.iter().for_each(|label| println!("  not reported: {label}"));
+        return missed.is_empty();
+    }
     let (prints, unseen) = misprint::unreported(&options);
     let planted = calls + prints;
     missed.extend(unseen.iter().map(ToString::to_string));
@@ -244,14 +255,15 @@ fn run() -> Result<bool, String> {
             let calls: &[&str] = match group {
                 "growth" => &["import"],
                 "adapters" => &["import", "gaps"],
-                "pcap" => &["import", "pcap"],
+                "pcap" | "fcs" => &["import", "pcap"],
                 _ => &[group],
             };
             calls.iter().try_for_each(|call| need(call))?;
             bench::run(group, subject, &options).map(verdict).ok_or_else(|| USAGE.into())
         }
         ["once", label, kib] => {
-            need(if label.starts_with("pcap ") { "pcap" } else { "import" })?;
+            let by_options = ["pcap ", "fcs "].iter().any(|word| label.starts_with(word));
+            need(if by_options { "pcap" } else { "import" })?;
             bench::once(label, size(kib)?, subject, &options).map(|()| true)
         }
         ["sample", group, path] => {

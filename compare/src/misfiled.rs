@@ -19,34 +19,36 @@ pub const LAW: &str = "pcap, the law of starts";
 pub const OTHERS: &str = "pcap, btsnoop files";
 
 /// Which options a call goes by, instead of those that it gets.
-type Asks = fn(&[u8], &[u64]) -> Vec<u64>;
+pub type Asks = fn(&[u8], &[u64]) -> Vec<u64>;
 
 /// The calls that take a container, with some of them replaced.
 #[derive(Clone, Copy)]
 pub struct Misfiled {
     /// What import asks for; then of the other three.
     pub options: Asks,
-    stretches: Asks,
-    records: Asks,
-    gaps: Asks,
+    pub stretches: Asks,
+    pub records: Asks,
+    pub gaps: Asks,
     /// Whether so many places are too few for a file of this length.
-    lacks: fn(usize, usize) -> bool,
+    pub lacks: fn(usize, usize) -> bool,
     /// Fills the places with the open stretches, after this number.
-    fill: fn(u32, &mut [Stretch], &[Stretch]),
+    pub fill: fn(u32, &mut [Stretch], &[Stretch]),
     /// How the records of a pcap file are found, which of them are told, and how their starts are stored.
-    found: Reading,
-    told: fn(&Record) -> bool,
-    starts: fn(&mut [u64], &[u64]),
+    pub found: Reading,
+    pub told: fn(&Record) -> bool,
+    pub starts: fn(&mut [u64], &[u64]),
     /// How the signs of a pcap file are found.
-    signs: gaps::Reading,
+    pub signs: gaps::Reading,
+    /// Whether the stretches are those that are open with the FCS not checked.
+    pub unchecked: bool,
     /// Changes the answers, each before it is stored.
-    change_stretches: fn(&mut Answer, &[u8]),
-    change_records: fn(&mut Answer, &[u8]),
+    pub change_stretches: fn(&mut Answer, &[u8]),
+    pub change_records: fn(&mut Answer, &[u8]),
     /// Of the call that takes no options.
-    change_alone: fn(&mut Answer, &[u8]),
-    change_gaps: fn(&mut Answer, &[u8]),
+    pub change_alone: fn(&mut Answer, &[u8]),
+    pub change_gaps: fn(&mut Answer, &[u8]),
     /// Whether a byte of work is changed, after this number.
-    spoils: fn(u32) -> bool,
+    pub spoils: fn(u32) -> bool,
 }
 
 const AS_ASKED: Asks = |_, options| options.to_vec();
@@ -67,6 +69,7 @@ pub const NONE: Misfiled = Misfiled {
     told: |_| true,
     starts: |places, starts| places.iter_mut().zip(starts).for_each(|(place, start)| *place = *start),
     signs: gaps::RIGHT,
+    unchecked: false,
     change_stretches: |_, _| (),
     change_records: |_, _| (),
     change_alone: |_, _| (),
@@ -93,7 +96,8 @@ impl Misfiled {
         };
         (self.change_stretches)(&mut answer, file);
         let number = model::store(&answer, out, values);
-        let open = || model::open(container(&options), file, answer.values[0], reading);
+        let checks = chosen(&options).checks && !self.unchecked;
+        let open = || model::open(container(&options), file, answer.values[0], checks, reading);
         (self.fill)(number, places, &if number == 0 { open() } else { Vec::new() });
         self.spoil(number, work);
         number
@@ -119,7 +123,7 @@ impl Misfiled {
 
     pub fn gaps(&self, file: &[u8], work: &mut [u8], options: &[u64], values: &mut [u64]) -> u32 {
         let options = (self.gaps)(file, options);
-        let mut answer = gaps::answer_in(container(&options), file, work.len(), chosen(&options).1, self.signs);
+        let mut answer = gaps::answer_in(container(&options), file, work.len(), chosen(&options).tolerant, self.signs);
         (self.change_gaps)(&mut answer, file);
         let number = model::store(&answer, &mut [], values);
         self.spoil(number, work);

@@ -5,7 +5,7 @@
 
 use std::collections::BTreeMap;
 
-use crate::answer::{self, chosen, container, Answer, Container, Subject, NO_CHANNEL};
+use crate::answer::{self, chosen, container, Answer, Asked, Container, Subject, NO_CHANNEL};
 use crate::expected::{LONGEST_FILE, LONGEST_PAYLOAD};
 use crate::gaps;
 use crate::pcap;
@@ -107,7 +107,7 @@ impl Subject for Model {
         };
         let number = store(&answer, out, values);
         if number == 0 {
-            fill(stretches, &open(container(options), file, answer.values[0], RIGHT));
+            fill(stretches, &open(container(options), file, answer.values[0], chosen(options).checks, RIGHT));
         }
         number
     }
@@ -127,7 +127,7 @@ impl Subject for Model {
     }
 
     fn gaps_with(&self, file: &[u8], work: &mut [u8], options: &[u64], values: &mut [u64]) -> u32 {
-        let answer = gaps::answer_in(container(options), file, work.len(), chosen(options).1, gaps::RIGHT);
+        let answer = gaps::answer_in(container(options), file, work.len(), chosen(options).tolerant, gaps::RIGHT);
         store(&answer, &mut [], values)
     }
 }
@@ -163,7 +163,77 @@ pub struct Reading {
     pub keys: Keys,
     /// How pcap files are read.
     pub pcap: pcap::Reading,
+    /// How the FCS is checked.
+    pub sums: Sums,
 }
+
+/// How 02 is read where it has the FCS checked. Only `BY_02` is the model.
+#[derive(Clone, Copy)]
+pub struct Sums {
+    /// The FCS that is right, by the frame.
+    pub right: fn(&[u8]) -> u8,
+    /// The byte that is held to it, by the frame and the place after its information.
+    pub byte: fn(&[u8], usize) -> u8,
+    /// A frame with a wrong FCS is not taken in.
+    pub passed_over: bool,
+    /// It does not begin a link, nor a session.
+    pub no_link: bool,
+    pub no_session: bool,
+    /// Its DLCI is not seen by it.
+    pub unseen: bool,
+    /// The DLCI is chosen among what is left with the switch on.
+    pub chosen_on: bool,
+    /// Only UIH frames are checked, and no SABM.
+    pub uih_alone: bool,
+    /// A frame that is cut short is no UIH frame, and not a wrong one.
+    pub whole: bool,
+    /// With the switch off nothing is counted.
+    pub on_alone: bool,
+    /// Which are counted, by the DLCI that is chosen.
+    pub counts: fn(&Wrong, u8) -> bool,
+    /// The count that is told, by those that are counted and the pieces of the DLCI.
+    pub told: fn(u64, u64) -> u64,
+}
+
+/// A frame with a wrong FCS.
+#[derive(Clone, Copy)]
+pub struct Wrong {
+    pub dlci: u8,
+    pub control: u8,
+    /// Whether it has information.
+    pub informs: bool,
+    /// Whether its PDU is tried, and whether it is done with before as a PSM 3 request.
+    pub tried: bool,
+    pub asks: bool,
+    /// How many pieces there are before it.
+    pub before: usize,
+}
+
+/// The reversed polynomial of TS 07.10's FCS, and what it starts from.
+pub const POLYNOMIAL: u8 = 0xE0;
+pub const START: u8 = 0xFF;
+
+/// A check over bytes, lowest bits first, before its complement.
+pub fn divided(bytes: &[u8], polynomial: u8, start: u8) -> u8 {
+    bytes.iter().fold(start, |sum, byte| {
+        (0..8).fold(sum ^ byte, |sum, _| if sum % 2 == 1 { (sum / 2) ^ polynomial } else { sum / 2 })
+    })
+}
+
+pub const BY_02: Sums = Sums {
+    right: |frame| 0xFF - divided(&frame[..2], POLYNOMIAL, START),
+    byte: |frame, at| frame[at],
+    passed_over: true,
+    no_link: true,
+    no_session: true,
+    unseen: true,
+    chosen_on: true,
+    uih_alone: true,
+    whole: true,
+    on_alone: true,
+    counts: |wrong, dlci| wrong.dlci == dlci && wrong.tried && !wrong.asks,
+    told: |counted, _| counted,
+};
 
 /// What of a link is looked at, wherever import keys on it.
 #[derive(Clone, Copy)]
@@ -205,6 +275,7 @@ pub const RIGHT: Reading = Reading {
     start_apart: true,
     keys: BY_LINK,
     pcap: pcap::RIGHT,
+    sums: BY_02,
 };
 
 // MDR frames.
@@ -635,8 +706,8 @@ pub fn channels(pdus: &[Pdu], reading: Reading) -> (Vec<Triple>, Vec<Triple>) {
     (admitted, named)
 }
 
-/// DLCI and information of a UIH frame.
-fn uih(frame: &[u8]) -> Option<(u8, &[u8])> {
+/// DLCI and information of a UIH frame, and the place after the information.
+fn uih(frame: &[u8]) -> Option<(u8, &[u8], usize)> {
     let control = *frame.get(1)?;
     if control != 0xEF && control != 0xFF {
         return None;
@@ -644,37 +715,81 @@ fn uih(frame: &[u8]) -> Option<(u8, &[u8])> {
     let low = usize::from(*frame.get(2)?);
     let (length, start) = if low % 2 == 1 { (low / 2, 3) } else { (low / 2 + 128 * usize::from(*frame.get(3)?), 4) };
     let start = if control == 0xFF { start + 1 } else { start };
-    (frame.len() > start + length).then(|| (frame[0] / 4, &frame[start..start + length]))
+    (frame.len() > start + length).then(|| (frame[0] / 4, &frame[start..start + length], start + length))
 }
 
+/// The wrong frame that a payload is, if it is one: all but how its PDU stands.
+fn wrong(frame: &[u8], sums: Sums) -> Option<Wrong> {
+    let found = |dlci: u8, informs: bool| {
+        let control = frame[1];
+        Some(Wrong { dlci, control, informs, tried: false, asks: false, before: 0 })
+    };
+    match uih(frame) {
+        Some((dlci, information, end)) if (sums.byte)(frame, end) != (sums.right)(frame) => {
+            found(dlci, !information.is_empty())
+        }
+        None if !sums.whole && frame.len() >= 2 && matches!(frame[1], 0xEF | 0xFF) => found(frame[0] / 4, false),
+        _ => None,
+    }
+}
+
+/// Whether a SABM is a wrong one, for a reading that checks it.
+fn wrong_sabm(frame: &[u8], sums: Sums) -> bool {
+    !sums.uih_alone && frame.len() > 3 && frame[3] != 0xFF - divided(&frame[..3], POLYNOMIAL, START)
+}
+
+/// The pieces of a file.
 pub fn pieces(pdus: &[Pdu], reading: Reading) -> Vec<Piece> {
+    frames(pdus, false, reading).0
+}
+
+/// The pieces of a file, and its frames with a wrong FCS, which are looked for with the switch on.
+pub fn frames(pdus: &[Pdu], checks: bool, reading: Reading) -> (Vec<Piece>, Vec<Wrong>) {
     let (mut admitted, mut named) = channels(pdus, reading);
     let mut sessions: BTreeMap<u32, u32> = BTreeMap::new();
     let mut links: BTreeMap<(u32, u8), u32> = BTreeMap::new();
-    let mut pieces = Vec::new();
-    let keys = reading.keys;
+    let (mut pieces, mut wrongs) = (Vec::new(), Vec::new());
+    let (keys, sums) = (reading.keys, reading.sums);
     for (i, pdu) in pdus.iter().enumerate() {
         let (of_sessions, of_links) = ((keys.sessions)(pdu.link), (keys.links)(pdu.link));
         if !reading.whole_file {
             (admitted, named) = channels(&pdus[..=i], reading);
         }
-        if asks(pdu) {
+        let triple = ((keys.channel)(pdu.link), pdu.way, pdu.cid);
+        let guessed = pdu.cid >= 0x40 && named.binary_search(&triple).is_err();
+        let tried = guessed || admitted.binary_search(&triple).is_ok();
+        let asks = asks(pdu);
+        let wrong = if checks || !sums.on_alone { wrong(&pdu.payload, sums) } else { None };
+        wrongs.extend(wrong.map(|wrong| Wrong { tried, asks, before: pieces.len(), ..wrong }));
+        if asks {
             *sessions.entry(of_sessions).or_insert(0) += 1;
             if reading.request_ends {
                 continue;
             }
         }
-        let triple = ((keys.channel)(pdu.link), pdu.way, pdu.cid);
-        let guessed = pdu.cid >= 0x40 && named.binary_search(&triple).is_err();
-        if !guessed && admitted.binary_search(&triple).is_err() {
+        if !tried {
             continue;
         }
+        if let (Some(wrong), true) = (wrong, checks) {
+            if !sums.no_link {
+                *links.entry((of_links, wrong.dlci)).or_insert(0) += 1;
+            }
+            if !sums.no_session {
+                *sessions.entry(of_sessions).or_insert(0) += 1;
+            }
+            if sums.passed_over {
+                continue;
+            }
+        }
         if pdu.payload.len() >= 2 && matches!(pdu.payload[1], 0x2F | 0x3F) {
+            if checks && wrong_sabm(&pdu.payload, sums) {
+                continue;
+            }
             match pdu.payload[0] / 4 {
                 0 => *sessions.entry(of_sessions).or_insert(0) += 1,
                 dlci => *links.entry((of_links, dlci)).or_insert(0) += 1,
             }
-        } else if let Some((dlci, information)) = uih(&pdu.payload) {
+        } else if let Some((dlci, information, _)) = uih(&pdu.payload) {
             if dlci == 0 || information.is_empty() {
                 continue;
             }
@@ -692,7 +807,7 @@ pub fn pieces(pdus: &[Pdu], reading: Reading) -> Vec<Piece> {
             });
         }
     }
-    pieces
+    (pieces, wrongs)
 }
 
 /// 01's rule on one buffer: what is taken from it, and what it then holds.
@@ -741,8 +856,8 @@ fn buffers(pieces: &[&Piece], reading: Reading) -> (Spans, BTreeMap<(Stretch, Wa
 
 /// The stretches of a DLCI that are open at the end of a file with a good header, in the
 /// order of their first pieces.
-pub fn open(container: Container, file: &[u8], dlci: u64, reading: Reading) -> Vec<answer::Stretch> {
-    let pieces = pieces(&pdus(&packets(container, file, reading).0, reading), reading);
+pub fn open(container: Container, file: &[u8], dlci: u64, checks: bool, reading: Reading) -> Vec<answer::Stretch> {
+    let pieces = frames(&pdus(&packets(container, file, reading).0, reading), checks, reading).0;
     let own: Vec<&Piece> = pieces.iter().filter(|p| u64::from(p.dlci) == dlci).collect();
     let mut buffers = buffers(&own, reading).1;
     // the first piece of a key takes its buffer out
@@ -823,9 +938,26 @@ pub fn records_with(container: Container, file: &[u8], reading: pcap::Reading) -
     (Answer::done(&[starts.len() as u64, tail as u64], Vec::new()), starts)
 }
 
-/// Import of a btsnoop file.
+/// The DLCIs in the order in which they are seen, also by wrong frames where a reading has it so.
+fn in_order(pieces: &[Piece], wrong: &[Wrong], sums: Sums) -> Vec<u8> {
+    if sums.unseen {
+        return dlcis(pieces);
+    }
+    let mut seen = Vec::new();
+    let mut wrong = wrong.iter().filter(|wrong| wrong.tried && wrong.dlci > 0).peekable();
+    for at in 0..=pieces.len() {
+        while let Some(wrong) = wrong.next_if(|wrong| wrong.before <= at) {
+            seen.push(wrong.dlci);
+        }
+        seen.extend(pieces.get(at).map(|piece| piece.dlci));
+    }
+    let first = |(i, dlci): (usize, &u8)| (!seen[..i].contains(dlci)).then_some(*dlci);
+    seen.iter().enumerate().filter_map(first).collect()
+}
+
+/// Import of a btsnoop file, with the FCS not checked.
 pub fn import(file: &[u8], work: usize, channel: u32, tolerant: bool, reading: Reading) -> Answer {
-    import_from(Container::Btsnoop, file, work, (channel, tolerant), reading)
+    import_from(Container::Btsnoop, file, work, Asked { channel, tolerant, checks: false }, reading)
 }
 
 /// Import by a list of options.
@@ -833,21 +965,21 @@ pub fn import_with(file: &[u8], work: usize, options: &[u64], reading: Reading) 
     import_from(container(options), file, work, chosen(options), reading)
 }
 
-pub fn import_from(
-    container: Container,
-    file: &[u8],
-    work: usize,
-    (channel, tolerant): (u32, bool),
-    reading: Reading,
-) -> Answer {
-    if let Some(refusal) = refusal(container, file, work, tolerant, reading) {
+pub fn import_from(container: Container, file: &[u8], work: usize, asked: Asked, reading: Reading) -> Answer {
+    if let Some(refusal) = refusal(container, file, work, asked.tolerant, reading) {
         return refusal;
     }
     let (packets, tail) = packets(container, file, reading);
     let tail = if container == Container::Pcap { (reading.pcap.offset)(tail) } else { tail };
-    let pieces = pieces(&pdus(&packets, reading), reading);
-    for dlci in dlcis(&pieces) {
-        if channel != NO_CHANNEL && channel != u32::from(dlci / 2) {
+    let pdus = pdus(&packets, reading);
+    let (pieces, wrong) = frames(&pdus, asked.checks, reading);
+    let mut dlcis = in_order(&pieces, &wrong, reading.sums);
+    if asked.checks && !reading.sums.chosen_on {
+        let off = import_from(container, file, work, Asked { checks: false, ..asked }, reading);
+        dlcis.retain(|dlci| off.values.first() == Some(&u64::from(*dlci)));
+    }
+    for dlci in dlcis {
+        if asked.channel != NO_CHANNEL && asked.channel != u32::from(dlci / 2) {
             continue;
         }
         let own: Vec<&Piece> = pieces.iter().filter(|p| p.dlci == dlci).collect();
@@ -860,7 +992,9 @@ pub fn import_from(
             let span: Vec<u8> = (0..8).map(|i| (ms >> (8 * i)) as u8).chain(wire.iter().copied()).collect();
             item(&mut list, if *way { 1 } else { 2 }, &span);
         }
-        let values = [dlci as usize, spans.len(), unfinished, tail, list.len()].map(|v| v as u64);
+        let counted = wrong.iter().filter(|wrong| (reading.sums.counts)(wrong, dlci)).count();
+        let counted = (reading.sums.told)(counted as u64, own.len() as u64) as usize;
+        let values = [dlci as usize, spans.len(), unfinished, tail, list.len(), counted].map(|v| v as u64);
         return Answer::done(&values, list);
     }
     Answer::refused(6, &[])

@@ -1,13 +1,14 @@
 //! Wrong answers planted on purpose: each must be reported, or the comparison could
 //! not fail.
 
-use crate::answer::{chosen, Answer, Container, Stretch, Subject, NO_CHANNEL};
+use crate::answer::{chosen, Answer, Asked, Container, Stretch, Subject, NO_CHANNEL};
 use crate::expected::LONGEST_FILE;
 use crate::misfiled::{self, Misfiled};
 use crate::misread::{self, Misread};
+use crate::missummed;
 use crate::mistaken::{self, RANDOM};
 use crate::model::{self, Reading, RIGHT};
-use crate::{containers, import, signs, tolerant, Group, Options};
+use crate::{containers, import, signs, sums, tolerant, Group, Options};
 
 /// The model with some of its calls replaced.
 #[derive(Clone, Copy)]
@@ -70,8 +71,8 @@ const NONE: Planted = Planted {
     misfiled: misfiled::NONE,
 };
 
-fn by_options(file: &[u8], work: usize, (channel, tolerant): (u32, bool)) -> Answer {
-    read(file, work, channel, tolerant, RIGHT)
+fn by_options(file: &[u8], work: usize, asked: Asked) -> Answer {
+    model::import_from(Container::Btsnoop, file, work, asked, RIGHT)
 }
 
 /// How many places a file wants; one that is too long is refused before.
@@ -147,7 +148,7 @@ impl Subject for Planted {
     ) -> u32 {
         let answer = (self.import_in)(self, file, work.len(), stretches.len(), channel, tolerant != 0);
         let number = (self.store)(&answer, out, values);
-        let open = || model::open(Container::Btsnoop, file, answer.values[0], self.reading);
+        let open = || model::open(Container::Btsnoop, file, answer.values[0], false, self.reading);
         (self.fill)(number, stretches, &if number == 0 { open() } else { Vec::new() });
         number
     }
@@ -208,7 +209,7 @@ const FRAGMENTS: &str = "import, every three fragments of two PDUs";
 const CID_1: &str = "import, every four PDUs on CID 1";
 const STRICT: &str = "tolerant, switched to strict";
 const LARGE: &str = "import, long files";
-const PARTS: [(&str, Group); 27] = [
+const PARTS: [(&str, Group); 32] = [
     (RANDOM, import::run_random),
     (FIXED, import::run_fixed),
     (FRAGMENTS, import::run_excess),
@@ -236,6 +237,11 @@ const PARTS: [(&str, Group); 27] = [
     (misfiled::TWINS, containers::run_twins),
     (misfiled::LAW, containers::run_law),
     (misfiled::OTHERS, containers::run_others),
+    (missummed::HEADS, sums::run_heads),
+    (missummed::BY_HAND, sums::run_by_hand),
+    (missummed::STEPS, sums::run_steps),
+    (missummed::SHORT, sums::run_short),
+    (missummed::RANDOM, sums::run_random),
 ];
 
 const EXCESS: Planted = Planted { reading: Reading { excess_dropped: false, ..RIGHT }, ..NONE };
@@ -794,23 +800,25 @@ fn faults_of_options() -> Vec<(&'static str, &'static str, Planted)> {
         (
             "tolerant",
             "options: the channel is not looked at",
-            Planted { import_with: |_, f, w, o| by_options(f, w, (NO_CHANNEL, chosen(o).1)), ..NONE },
+            Planted { import_with: |_, f, w, o| by_options(f, w, Asked { channel: NO_CHANNEL, ..chosen(o) }), ..NONE },
         ),
         (
             "tolerant",
             "options: the rule is strict whatever they say",
-            Planted { import_with: |_, f, w, o| by_options(f, w, (chosen(o).0, false)), ..NONE },
+            Planted { import_with: |_, f, w, o| by_options(f, w, Asked { tolerant: false, ..chosen(o) }), ..NONE },
         ),
         (
             STRICT,
             "options: the rule is tolerant whatever they say",
-            Planted { import_with: |_, f, w, o| by_options(f, w, (chosen(o).0, true)), ..NONE },
+            Planted { import_with: |_, f, w, o| by_options(f, w, Asked { tolerant: true, ..chosen(o) }), ..NONE },
         ),
         (
             "tolerant",
             "options: the channel is read from the place of the rule",
             Planted {
-                import_with: |_, f, w, o| by_options(f, w, (chosen(o.get(1..).unwrap_or(&[])).0, chosen(o).1)),
+                import_with: |_, f, w, o| {
+                    by_options(f, w, Asked { channel: chosen(o.get(1..).unwrap_or(&[])).channel, ..chosen(o) })
+                },
                 ..NONE
             },
         ),
@@ -818,7 +826,9 @@ fn faults_of_options() -> Vec<(&'static str, &'static str, Planted)> {
             STRICT,
             "options: the rule is read from the place of the channel",
             Planted {
-                import_with: |_, f, w, o| by_options(f, w, (chosen(o).0, o.first().is_some_and(|&n| n != 0))),
+                import_with: |_, f, w, o| {
+                    by_options(f, w, Asked { tolerant: o.first().is_some_and(|&n| n != 0), ..chosen(o) })
+                },
                 ..NONE
             },
         ),
@@ -826,21 +836,27 @@ fn faults_of_options() -> Vec<(&'static str, &'static str, Planted)> {
             "tolerant",
             "options: the rule is read from the place after its own",
             Planted {
-                import_with: |_, f, w, o| by_options(f, w, (chosen(o).0, o.get(2).is_some_and(|&n| n != 0))),
+                import_with: |_, f, w, o| {
+                    by_options(f, w, Asked { tolerant: o.get(2).is_some_and(|&n| n != 0), ..chosen(o) })
+                },
                 ..NONE
             },
         ),
         (
             "tolerant",
             "options: 1 alone is tolerant",
-            Planted { import_with: |_, f, w, o| by_options(f, w, (chosen(o).0, o.get(1) == Some(&1))), ..NONE },
+            Planted {
+                import_with: |_, f, w, o| by_options(f, w, Asked { tolerant: o.get(1) == Some(&1), ..chosen(o) }),
+                ..NONE
+            },
         ),
         (
             "tolerant",
             "options: a channel is cut to 32 bits",
             Planted {
                 import_with: |_, f, w, o| {
-                    by_options(f, w, (o.first().map_or(NO_CHANNEL, |&n| (n as u32).min(NO_CHANNEL)), chosen(o).1))
+                    let channel = o.first().map_or(NO_CHANNEL, |&n| (n as u32).min(NO_CHANNEL));
+                    by_options(f, w, Asked { channel, ..chosen(o) })
                 },
                 ..NONE
             },
@@ -850,7 +866,8 @@ fn faults_of_options() -> Vec<(&'static str, &'static str, Planted)> {
             "options: a channel is cut to 8 bits",
             Planted {
                 import_with: |_, f, w, o| {
-                    by_options(f, w, (o.first().map_or(NO_CHANNEL, |&n| u32::from(n as u8)), chosen(o).1))
+                    let channel = o.first().map_or(NO_CHANNEL, |&n| u32::from(n as u8));
+                    by_options(f, w, Asked { channel, ..chosen(o) })
                 },
                 ..NONE
             },
@@ -858,20 +875,22 @@ fn faults_of_options() -> Vec<(&'static str, &'static str, Planted)> {
         (
             STRICT,
             "options: without a channel, 0 is asked for",
-            Planted {
-                import_with: |_, f, w, o| by_options(f, w, if o.is_empty() { (0, false) } else { chosen(o) }),
-                ..NONE
-            },
+            Planted { import_with: |_, f, w, o| by_options(f, w, chosen(if o.is_empty() { &[0] } else { o })), ..NONE },
         ),
         (
             STRICT,
             "options: without a rule, it is tolerant",
-            Planted { import_with: |_, f, w, o| by_options(f, w, (chosen(o).0, o.len() < 2 || chosen(o).1)), ..NONE },
+            Planted {
+                import_with: |_, f, w, o| {
+                    by_options(f, w, Asked { tolerant: o.len() < 2 || chosen(o).tolerant, ..chosen(o) })
+                },
+                ..NONE
+            },
         ),
         (
             "tolerant",
             "options: of more than there are, none counts",
-            Planted { import_with: |_, f, w, o| by_options(f, w, chosen(if o.len() > 3 { &[] } else { o })), ..NONE },
+            Planted { import_with: |_, f, w, o| by_options(f, w, chosen(if o.len() > 4 { &[] } else { o })), ..NONE },
         ),
         (
             "tolerant",
@@ -1003,7 +1022,7 @@ fn faults_of_pcap() -> Vec<(&'static str, &'static str, Planted)> {
             calls(|r, f, w, o| {
                 let answer = model::import_with(f, w, o, r);
                 let tail = crate::pcap::read(f, r.pcap).1;
-                match answer.number == 22 && !chosen(o).1 && tail < f.len() {
+                match answer.number == 22 && !chosen(o).tolerant && tail < f.len() {
                     true => Answer::refused(5, &[tail as u64]),
                     false => answer,
                 }
@@ -1062,6 +1081,100 @@ fn faults_of_pcap() -> Vec<(&'static str, &'static str, Planted)> {
     ]
 }
 
+/// Faults of the sixth value, in the calls by number and in the call with options.
+fn faults_of_sixth() -> Vec<(&'static str, &'static str, Planted)> {
+    const HAND: &str = missummed::BY_HAND;
+    let calls = |import_with| Planted { import_with, ..NONE };
+    let numbers = |import| Planted { import, ..NONE };
+    vec![
+        (
+            "import",
+            "the sixth value is not stored",
+            numbers(|_, f, w, c, t| changed(f, w, c, t, |a| a.values.truncate(5))),
+        ),
+        (
+            "import",
+            "the sixth value is stored first",
+            numbers(|_, f, w, c, t| changed(f, w, c, t, |a| missummed::first(&mut a.values))),
+        ),
+        (
+            "import",
+            "the sixth value is that of frames",
+            numbers(|_, f, w, c, t| changed(f, w, c, t, |a| a.values[5] = a.values[1])),
+        ),
+        (
+            "tolerant",
+            "the call by number checks the FCS",
+            numbers(|reading, file, work, channel, tolerant| {
+                let asked = Asked { channel, tolerant, checks: true };
+                model::import_from(Container::Btsnoop, file, work, asked, reading)
+            }),
+        ),
+        (
+            HAND,
+            "import_with: the count is not stored",
+            calls(|r, f, w, o| of_pcap(r, f, w, o, 0, |a, _| a.values.truncate(5))),
+        ),
+        (
+            HAND,
+            "import_with: count and bytes written are exchanged",
+            calls(|r, f, w, o| of_pcap(r, f, w, o, 0, |a, _| missummed::exchange(&mut a.values, 4, 5))),
+        ),
+        (
+            HAND,
+            "import_with: count and unfinished are exchanged",
+            calls(|r, f, w, o| of_pcap(r, f, w, o, 0, |a, _| missummed::exchange(&mut a.values, 2, 5))),
+        ),
+        (
+            HAND,
+            "import_with: the count is stored first",
+            calls(|r, f, w, o| of_pcap(r, f, w, o, 0, |a, _| missummed::first(&mut a.values))),
+        ),
+        (
+            HAND,
+            "import_with: the count is added to the frames",
+            calls(|r, f, w, o| of_pcap(r, f, w, o, 0, |a, _| a.values[1] += a.values[5])),
+        ),
+        (
+            HAND,
+            "import_with: the count is stored with room for five",
+            Planted {
+                store_with: |answer, out, values| {
+                    let number = model::store(answer, out, values);
+                    if let (0, Some(last), 5) = (number, answer.values.last(), values.len()) {
+                        values[4] = *last;
+                    }
+                    number
+                },
+                ..NONE
+            },
+        ),
+        (
+            HAND,
+            "import_with: nothing is stored with room for five",
+            Planted {
+                store_with: |answer, out, values| {
+                    let room = if values.len() == 5 { &mut [][..] } else { values };
+                    model::store(answer, out, room)
+                },
+                ..NONE
+            },
+        ),
+        (HAND, "import_with: 6 carries a count", calls(|r, f, w, o| of_pcap(r, f, w, o, 6, |a, _| a.values.push(0)))),
+        (
+            HAND,
+            "import_with: a file of wrong frames alone is answered",
+            calls(|r, f, w, o| {
+                let (answer, off) = (model::import_with(f, w, o, r), model::import_with(f, w, &o[..o.len().min(3)], r));
+                match answer.number == 6 && off.number == 0 {
+                    true => Answer::done(&[off.values[0], 0, 0, off.values[3], 0, 1], Vec::new()),
+                    false => answer,
+                }
+            }),
+        ),
+    ]
+}
+
 /// The answer of the call with options, changed if it has this number.
 fn of_pcap(
     reading: Reading,
@@ -1096,15 +1209,15 @@ fn numbered(file: &[u8], work: usize, options: &[u64], number: u32, change: fn(&
     answer
 }
 
-/// The groups that report something where no fault is planted; what they say of a fault would
+/// The groups, and the parts of them, that report something where no fault is planted; what they say of a fault would
 /// mean nothing.
 pub fn reported_without(groups: &[(&'static str, Group)], options: &Options) -> Vec<&'static str> {
-    groups.iter().filter(|(_, group)| group(&NONE, options).is_err()).map(|(name, _)| *name).collect()
+    groups.iter().chain(&PARTS).filter(|(_, group)| group(&NONE, options).is_err()).map(|(name, _)| *name).collect()
 }
 
 /// All faults.
 fn all() -> Vec<(&'static str, String, Planted)> {
-    let labelled = [faults(), faults_of_options(), faults_of_pcap()].concat().into_iter();
+    let labelled = [faults(), faults_of_options(), faults_of_pcap(), faults_of_sixth()].concat().into_iter();
     let mut all: Vec<_> = labelled.map(|(group, label, planted)| (group, label.to_string(), planted)).collect();
     let mistaken = mistaken::faults().into_iter();
     all.extend(mistaken.map(|(group, label, reading)| (group, label, Planted { reading, ..NONE })));
@@ -1114,13 +1227,18 @@ fn all() -> Vec<(&'static str, String, Planted)> {
     all.extend(importers.map(|(group, label, reading)| (group, label, Planted { reading, ..NONE })));
     let misfiled = misfiled::faults().into_iter();
     all.extend(misfiled.map(|(group, label, misfiled)| (group, label, Planted { misfiled, ..NONE })));
+    let importers = missummed::importers().into_iter();
+    all.extend(importers.map(|(group, label, reading)| (group, label, Planted { reading, ..NONE })));
+    let missummed = missummed::faults().into_iter();
+    all.extend(missummed.map(|(group, label, misfiled)| (group, label, Planted { misfiled, ..NONE })));
     all
 }
 
 /// Runs every fault's group on it; the labels of those that no one reported.
 pub fn unreported(groups: &[(&'static str, Group)], options: &Options) -> (usize, Vec<String>) {
     let mut missed = Vec::new();
-    let faults = all();
+    let wanted = |label: &str| options.only.as_ref().is_none_or(|text| label.contains(text.as_str()));
+    let faults: Vec<_> = all().into_iter().filter(|(_, label, _)| wanted(label)).collect();
     let planted = faults.len();
     for (name, label, planted) in faults {
         let (_, group) = groups.iter().chain(&PARTS).find(|(group, _)| *group == name).expect("a group");

@@ -22,6 +22,8 @@ pub fn has(group: &str) -> bool {
         ("stretches", cfg!(feature = "stretches")),
         ("gaps", cfg!(feature = "gaps")),
         ("pcap", cfg!(feature = "pcap")),
+        // The switch is one of the options.
+        ("fcs", cfg!(feature = "pcap")),
         // What the cases call.
         ("vectors", cfg!(all(feature = "import", feature = "tolerant"))),
     ];

@@ -129,12 +129,13 @@ impl<'a> Gaps<'a> {
         }
     }
 
-    /// The options of a call: the channel, which is not looked at, the rule and the container.
+    /// The options of a call: the channel, which is not looked at, the rule, the container, and the switch, which is not either.
     fn options(&self, tolerant: u32) -> Vec<u64> {
         let (channel, tolerant) = ([256, 0, u64::MAX, 9][self.files % 4], u64::from(tolerant));
         if self.container == Container::Pcap {
             let pcap = [1, 2, u64::MAX, 1 << 32, 1 << 63][self.files % 5];
-            return [&[channel, tolerant, pcap], &[0, 1][..self.files % 3]].concat();
+            let more = [&[0][..], &[], &[1], &[0, 7], &[u64::MAX, 0, 1], &[0]][self.files % 6];
+            return [&[channel, tolerant, pcap], more].concat();
         }
         match self.files % 5 {
             0 if tolerant == 0 => vec![],

@@ -2,8 +2,9 @@
 
 use std::collections::BTreeMap;
 
-use crate::answer::{Answer, Container};
+use crate::answer::{Answer, Asked, Container};
 use crate::expected;
+use crate::fcs;
 use crate::mistaken;
 use crate::model::{self, Reading, RIGHT};
 use crate::pcap;
@@ -34,6 +35,22 @@ struct Stats {
     /// Of pcap files, how many there are of each form, and what their records are.
     forms: BTreeMap<String, u64>,
     records: BTreeMap<&'static str, u64>,
+    on: Switched,
+}
+
+/// What comes of the files with the FCS checked.
+#[derive(Default)]
+struct Switched {
+    numbers: BTreeMap<u32, u64>,
+    /// Frames with a wrong FCS in a file, and how many of them are counted.
+    wrong: BTreeMap<usize, u64>,
+    counted: BTreeMap<usize, u64>,
+    /// Files with wrong frames on the DLCI that do not count.
+    untried: u64,
+    /// Files of which another DLCI is chosen, the same with other spans, and none.
+    other: u64,
+    fewer: u64,
+    lost: u64,
 }
 
 /// 0, 1, 2, 3, then the power of two at or under.
@@ -47,15 +64,13 @@ fn class(n: usize) -> usize {
 
 impl Stats {
     fn add(&mut self, container: Container, file: &[u8], channel: u32) {
-        let answer = match container {
-            Container::Btsnoop => expected::import_strict(file, channel),
-            Container::Pcap => expected::import_pcap(file, channel).by(false),
-        };
+        let [answer, on] = expected::import(container, file, channel, false);
+        self.add_on(container, file, &answer, &on);
         self.files += 1;
         self.bytes += file.len() as u64;
         *self.numbers.entry(answer.number).or_default() += 1;
-        let differs =
-            |reading| model::import_from(container, file, 8 * file.len(), (channel, false), reading) != answer;
+        let asked = Asked { channel, tolerant: false, checks: false };
+        let differs = |reading| model::import_from(container, file, 8 * file.len(), asked, reading) != answer;
         self.excess += u64::from(differs(Reading { excess_dropped: false, ..RIGHT }));
         self.tried_too += u64::from(differs(Reading { request_ends: false, ..RIGHT }));
         match container {
@@ -81,6 +96,23 @@ impl Stats {
         if answer.number == 0 {
             self.chosen(&answer, &pieces);
         }
+    }
+
+    /// What the switch does to a file.
+    fn add_on(&mut self, container: Container, file: &[u8], off: &Answer, on: &Answer) {
+        let Switched { numbers, wrong, counted, untried, other, fewer, .. } = &mut self.on;
+        *numbers.entry(on.number).or_default() += 1;
+        let frames = fcs::wrong(container, file);
+        *wrong.entry(class(frames.len())).or_default() += 1;
+        if on.number == 0 {
+            let count = on.values[5];
+            *counted.entry(class(count as usize)).or_default() += 1;
+            *untried += u64::from(frames.iter().any(|frame| !frame.counts && u64::from(frame.dlci) == on.values[0]));
+            let same = off.values.first() == Some(&on.values[0]);
+            *other += u64::from(!same);
+            *fewer += u64::from(same && on.written != off.written);
+        }
+        self.on.lost += u64::from(off.number == 0 && on.number == 6);
     }
 
     /// What the records of a pcap file are.
@@ -131,6 +163,11 @@ impl Stats {
         println!("  DLCIs with pieces: {:?}", self.dlcis);
         println!("  of those answered, buffers of the DLCI: {:?}", self.stretches);
         println!("  spans (from): {:?}; with one that does not unpack {}", self.spans, self.broken);
+        let Switched { numbers, wrong, counted, untried, other, fewer, lost } = &self.on;
+        println!("  FCS checked: {numbers:?}; frames with a wrong one (from): {wrong:?}; counted (from): {counted:?}");
+        println!(
+            "  with some of the DLCI not counted {untried}, another DLCI {other}, the same with other spans {fewer}, none left {lost}"
+        );
         println!("  unfinished (4 and up together): {:?}; not the first DLCI {}", self.unfinished, self.later);
     }
 }

@@ -3,7 +3,8 @@
 
 use crate::answer::{Answer, Checked, Container, Difference, Subject};
 use crate::expected;
-use crate::honest::{self, Honest, Scale};
+use crate::fcs;
+use crate::honest::{self, Honest, Scale, Sums};
 use crate::import::{self, Import, Rule, Taker};
 use crate::pcap::HEAD;
 use crate::rng::Rng;
@@ -41,19 +42,44 @@ type Cut<'a> = dyn FnMut(&Honest, usize) -> Checked + 'a;
 /// Calls `f` with recordings and each of their cuts.
 pub fn each_cut(rng: &mut Rng, container: Container, size: u64, f: &mut Cut) -> Checked {
     for i in 0..size {
+        let sums = [Sums::Right, Sums::Noisy, Sums::Chance][i as usize % 3];
         let recording = if i % 50 == 49 {
-            honest::longest(rng, container)
+            honest::longest(rng, container, sums)
         } else if i % 250 == 124 {
-            honest::large(rng, container)
+            honest::large(rng, container, sums)
         } else {
             let scale = if i % 4 == 0 { rng.pick(&SCALES) } else { honest::SMALL };
-            honest::recording_in(rng, container, scale)
+            honest::recording_in(rng, container, sums, scale)
         };
         for n in cuts(rng, &recording) {
             f(&recording, n)?;
         }
     }
     Ok(())
+}
+
+/// What tolerant import is to answer for a cut, with the switch off and on: what is left by the making, if the recording is
+/// honest in that position, and else what the oracle finds. The wrong frames are those of the walk, and of the making where
+/// that knows them all.
+pub fn due(container: Container, recording: &Honest, n: usize) -> [Answer; 2] {
+    let file = &recording.file[..n];
+    let mut due = match recording.holds(false) && recording.holds(true) {
+        true => [recording.left(n), recording.left(n)],
+        false => expected::import(container, file, recording.channel(), true),
+    };
+    let wrong = fcs::count(&fcs::wrong(container, file), recording.dlci.into());
+    if let Some(known) = recording.wrong(n) {
+        assert_eq!(wrong, known, "the walk finds the wrong frames that were made");
+    }
+    for (checks, answer) in [false, true].into_iter().zip(&mut due) {
+        if recording.holds(checks) {
+            *answer = recording.left(n);
+        }
+        if let (true, Some(count)) = (checks && recording.holds(true), answer.values.get_mut(5)) {
+            *count = wrong;
+        }
+    }
+    due
 }
 
 /// The rule on the size of frames is needed: a recording that breaks only it loses its
@@ -77,32 +103,39 @@ pub fn check_makers(options: &Options) -> Checked {
 fn check_maker(options: &Options, label: &str, container: Container) -> Checked {
     let mut rng = Rng::new(options.seed);
     let (mut cuts, mut none, mut spans, mut unfinished, mut recordings) = (0u64, 0u64, 0u64, 0u64, 0u64);
+    let (mut wrong, mut apart) = (0u64, 0u64);
     each_cut(&mut rng, container, options.size.unwrap_or(50_000) / 100, &mut |recording, n| {
-        let left = recording.left(n);
-        let found = match container {
-            Container::Btsnoop => expected::import_tolerant(&recording.file[..n], recording.channel()),
-            Container::Pcap => expected::import_pcap(&recording.file[..n], recording.channel()).by(true),
-        };
+        let due = due(container, recording, n);
+        let found = expected::import(container, &recording.file[..n], recording.channel(), true);
         cuts += 1;
         recordings += u64::from(n == recording.head);
+        apart += u64::from(found[0].number != found[1].number || found[0].written != found[1].written);
+        wrong += u64::from(found[1].values.get(5).is_some_and(|wrong| *wrong > 0));
+        let left = recording.left(n);
         none += u64::from(left.number == 6);
         if left.number == 0 {
             spans += left.values[1];
             unfinished += u64::from(left.values[2] > 0);
         }
-        if left == found {
+        if due == found {
             return Ok(());
         }
-        let shown = |a: &Answer| format!("number {}, values {:?}", a.number, a.values);
+        let shown = |both: &[Answer; 2]| {
+            let each = both.each_ref().map(|answer| format!("number {}, values {:?}", answer.number, answer.values));
+            format!("off {}, on {}", each[0], each[1])
+        };
         Err(Box::new(Difference {
             call: format!("{label} recording, DLCI {}, cut at {n}", recording.dlci),
             inputs: vec![("file", recording.file[..n].to_vec())],
             lent: "nothing".into(),
-            expected: shown(&left),
+            expected: shown(&due),
             got: shown(&found),
         }))
     })?;
-    println!("{label}: {recordings} recordings, {cuts} cuts, {none} with nothing left, {unfinished} with a frame under way, {spans} frames left in all");
+    println!(
+        "{label}: {recordings} recordings, {cuts} cuts, {none} with nothing left, {unfinished} with a frame under way, \
+         {spans} frames left in all; {wrong} with a wrong FCS counted, {apart} with other frames in the other position"
+    );
     Ok(())
 }
 
@@ -119,10 +152,10 @@ pub fn run(subject: &dyn Subject, options: &Options) -> Checked {
     run_strict(subject, options)
 }
 
-/// Every cut of honest recordings, held to what is left.
+/// Every cut of honest recordings in both positions of the switch, held to what is left.
 fn honest_cuts(import: &mut Import, rng: &mut Rng, size: u64) -> Checked {
     each_cut(rng, Container::Btsnoop, size, &mut |recording, n| {
-        import.held(&recording.file[..n], recording.channel(), &recording.left(n))
+        import.in_both(&recording.file[..n], recording.channel(), &due(Container::Btsnoop, recording, n))
     })
 }
 

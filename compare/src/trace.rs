@@ -5,6 +5,7 @@ use std::collections::{BTreeMap, VecDeque};
 
 use crate::answer::{Container, NO_CHANNEL};
 use crate::codec;
+use crate::fcs;
 use crate::model::packed;
 use crate::pcap::{Form, FORMS, HEAD, LINK, ROW};
 use crate::rng::Rng;
@@ -196,11 +197,16 @@ pub fn response(destination: u16, source: u16, result: u16) -> Vec<u8> {
     command(3, 1, &words(&[destination, source, result, 0]))
 }
 
-/// A UIH frame. `credit` sets control 0xFF and adds the byte; `wide` takes the
+/// A UIH frame with the right FCS. `credit` sets control 0xFF and adds the byte; `wide` takes the
 /// two-byte length even where one byte would do.
 pub fn uih(dlci: u8, information: &[u8], credit: Option<u8>, wide: bool) -> Vec<u8> {
+    framed(dlci << 2 | 1, information, credit, wide)
+}
+
+/// The same of an address, whose lowest two bits are not the DLCI's.
+pub fn framed(address: u8, information: &[u8], credit: Option<u8>, wide: bool) -> Vec<u8> {
     let n = information.len();
-    let mut frame = vec![dlci << 2 | 1, if credit.is_some() { 0xFF } else { 0xEF }];
+    let mut frame = vec![address, if credit.is_some() { 0xFF } else { 0xEF }];
     if n < 128 && !wide {
         frame.push((n << 1 | 1) as u8);
     } else {
@@ -209,15 +215,59 @@ pub fn uih(dlci: u8, information: &[u8], credit: Option<u8>, wide: bool) -> Vec<
     }
     frame.extend(credit);
     frame.extend(information);
-    frame.push(0x9A);
+    frame.push(fcs::right(frame[0], frame[1]));
     frame
+}
+
+/// The FCS of all frames of the samples.
+pub const SAME: u8 = 0x9A;
+
+/// A frame that ends with its FCS, with another.
+pub fn with_fcs(mut frame: Vec<u8>, fcs: u8) -> Vec<u8> {
+    if let Some(last) = frame.last_mut() {
+        *last = fcs;
+    }
+    frame
+}
+
+/// A frame that ends with its FCS, with a wrong one.
+pub fn wrong(frame: Vec<u8>) -> Vec<u8> {
+    let fcs = fcs::right(frame[0], frame[1]) ^ 0x20;
+    with_fcs(frame, fcs)
+}
+
+/// A wrong FCS for a frame: mostly one that is right by another reading, or nearly right.
+pub fn wrong_fcs(rng: &mut Rng, frame: &[u8]) -> u8 {
+    let (address, control) = (frame[0], frame[1]);
+    let right = fcs::right(address, control);
+    let other = match rng.below(9) {
+        0 => fcs::over(&frame[..3]),
+        1 => fcs::over(&frame[..if frame[2] % 2 == 1 { 3 } else { 4 }]),
+        2 => !right,
+        3 => fcs::right(address, control ^ 0x10),
+        4 => fcs::right(address ^ 2, control),
+        5 => fcs::right(address & 0xFC, control),
+        6 => right ^ 1 << rng.below(8),
+        7 => rng.pick(&[0x00, 0x1C, SAME, 0xFF]),
+        _ => rng.byte(),
+    };
+    if other == right {
+        right ^ 1
+    } else {
+        other
+    }
 }
 
 /// A payload that is a UIH frame and, on CID 1, commands of which `request` is the second:
 /// the two-byte length of n bytes of information is that of a body of 2 * n bytes.
 pub fn asking(dlci: u8, information: &[u8], credit: Option<u8>, request: &[u8]) -> Vec<u8> {
-    let mut payload = uih(dlci, information, credit, true);
-    payload.resize(4 + 2 * information.len(), 0);
+    asking_behind(uih(dlci, information, credit, true), information.len(), request)
+}
+
+/// The same of a frame with the two-byte length of so many bytes.
+pub fn asking_behind(frame: Vec<u8>, information: usize, request: &[u8]) -> Vec<u8> {
+    let mut payload = frame;
+    payload.resize(4 + 2 * information, 0);
     payload.extend(request);
     payload
 }
@@ -277,6 +327,8 @@ struct Pools {
     signalling: usize,
     sabms: usize,
     others: usize,
+    /// How often a UIH frame has a wrong FCS. If it is not said, all have the same.
+    wrong: Option<usize>,
     /// How often a piece sends all that its stream has.
     whole: usize,
     /// Longest information in a piece and longest data in a fragment.
@@ -289,7 +341,7 @@ fn few<T: Copy>(rng: &mut Rng, from: &[T], most: usize) -> Vec<T> {
 }
 
 impl Pools {
-    fn new(rng: &mut Rng, datalink: u32) -> Pools {
+    fn new(rng: &mut Rng, datalink: u32, wrong: Option<usize>) -> Pools {
         let indexes = adapters(rng, datalink);
         let handles = few(rng, &[0x000, 0x001, 0x040, 0x041, 0x100, 0xFFF], 3);
         Pools {
@@ -300,6 +352,7 @@ impl Pools {
             signalling: rng.pick(&[0, 5, 5, 15, 40]),
             sabms: rng.pick(&[0, 0, 3, 10, 30]),
             others: rng.pick(&[0, 5, 20]),
+            wrong,
             whole: rng.pick(&[0, 10, 50, 90]),
             piece: rng.pick(&[1, 3, 8, 20, 40, 200]),
             fragment: rng.pick(&[1, 2, 3, 5, 17, 64, 1000]),
@@ -311,6 +364,27 @@ impl Pools {
             rng.pick(&[0, 1, 1, 2, 0x3F, 0x40])
         } else {
             rng.pick(&self.cids)
+        }
+    }
+
+    /// A UIH frame, with a right FCS or a wrong one.
+    fn frame(&self, rng: &mut Rng, dlci: u8, information: &[u8], credit: Option<u8>, wide: bool) -> Vec<u8> {
+        let Some(wrong) = self.wrong else { return with_fcs(uih(dlci, information, credit, wide), SAME) };
+        let frame = framed(dlci << 2 | rng.pick(&[1, 1, 3, 3, 0, 2]), information, credit, wide);
+        if !rng.percent(wrong) {
+            return frame;
+        }
+        let fcs = wrong_fcs(rng, &frame);
+        with_fcs(frame, fcs)
+    }
+
+    /// At times bytes behind a frame, such as another FCS.
+    fn behind(&self, rng: &mut Rng, frame: &mut Vec<u8>) {
+        if self.wrong.is_some() && rng.percent(5) {
+            let right = fcs::right(frame[0], frame[1]);
+            let n = rng.below(3);
+            frame.extend(rng.mixed(n, &codec::BYTES, 80));
+            frame.push(rng.pick(&[right, right, SAME]));
         }
     }
 
@@ -358,13 +432,16 @@ impl Pools {
             1 | 2 => request(3, self.cid(rng)),
             _ => command(2, rng.byte(), &[3, 0]),
         };
-        asking(rng.pick(&self.dlcis), &stream_bytes(rng), credit, &request)
+        let (dlci, information) = (rng.pick(&self.dlcis), stream_bytes(rng));
+        let frame = self.frame(rng, dlci, &information, credit, true);
+        asking_behind(frame, information.len(), &request)
     }
 
     /// Puts the start of another PDU behind one that is in parts, in excess of its length. The
     /// rest of it follows, in a continuation.
     fn exceed(&self, rng: &mut Rng, parts: &mut Vec<Vec<u8>>) {
-        let frame = uih(rng.pick(&self.dlcis), &stream_bytes(rng), None, rng.percent(20));
+        let (dlci, information, wide) = (rng.pick(&self.dlcis), stream_bytes(rng), rng.percent(20));
+        let frame = self.frame(rng, dlci, &information, None, wide);
         let mut next = l2cap(rng.pick(&self.cids), &frame);
         let rest = next.split_off(rng.within(1, next.len()));
         if let Some(last) = parts.last_mut() {
@@ -381,21 +458,27 @@ impl Pools {
         let n = rng.below(8);
         let information = rng.mixed(n, &codec::BYTES, 80);
         match rng.below(7) {
-            0 => uih(0, &information, None, false),
-            1 => uih(dlci, &[], if rng.percent(50) { Some(rng.byte()) } else { None }, rng.percent(50)),
+            0 => self.frame(rng, 0, &information, None, false),
+            1 => {
+                let credit = if rng.percent(50) { Some(rng.byte()) } else { None };
+                let wide = rng.percent(50);
+                self.frame(rng, dlci, &[], credit, wide)
+            }
             2 => vec![dlci << 2 | 3, rng.pick(&[0x63, 0x73, 0x0F, 0x1F, 0x43, 0x53, 0x2E, 0x6F, 0xEE, 0xDF]), 1, 0],
             3 => {
-                let mut frame = uih(dlci, &information, None, rng.percent(50));
+                let wide = rng.percent(50);
+                let mut frame = self.frame(rng, dlci, &information, None, wide);
                 frame.truncate(rng.below(frame.len() + 1));
                 frame
             }
             4 => {
-                let mut frame = uih(dlci, &information, Some(rng.byte()), rng.percent(50));
+                let (credit, wide) = (Some(rng.byte()), rng.percent(50));
+                let mut frame = self.frame(rng, dlci, &information, credit, wide);
                 frame.pop();
                 frame
             }
             5 => {
-                let mut frame = uih(dlci, &information, None, false);
+                let mut frame = self.frame(rng, dlci, &information, None, false);
                 frame[2] = frame[2].wrapping_add(rng.pick(&[1, 2, 255, 254]));
                 frame
             }
@@ -457,19 +540,20 @@ pub fn structured(rng: &mut Rng, events: usize) -> (Trace, u32) {
 
 pub fn structured_in(rng: &mut Rng, container: Container, events: usize) -> (Trace, u32) {
     let odd = rng.pick(&[0, 3, 10, 30]);
-    with_odd(rng, container, events, odd)
+    let wrong = rng.pick(&[0, 0, 5, 20, 20, 60, 100]);
+    with_odd(rng, container, events, odd, Some(wrong))
 }
 
-/// The same without PDUs that look like more than they are. The samples are made of it.
+/// The same without PDUs that look like more than they are, and with one FCS for all. The samples are made of it.
 pub fn plain(rng: &mut Rng, events: usize) -> (Trace, u32) {
-    with_odd(rng, Container::Btsnoop, events, 0)
+    with_odd(rng, Container::Btsnoop, events, 0, None)
 }
 
 /// `odd` is how often, in a hundred, a PDU is one that CID 1 carries as a channel too, or has
-/// another behind it in excess.
-fn with_odd(rng: &mut Rng, container: Container, events: usize, odd: usize) -> (Trace, u32) {
+/// another behind it in excess; `wrong` how often a frame has a wrong FCS.
+fn with_odd(rng: &mut Rng, container: Container, events: usize, odd: usize, wrong: Option<usize>) -> (Trace, u32) {
     let mut trace = Trace::any(rng, container);
-    let pools = Pools::new(rng, trace.datalink);
+    let pools = Pools::new(rng, trace.datalink, wrong);
     let mut streams: BTreeMap<(Side, u8), VecDeque<u8>> = BTreeMap::new();
     let mut queues: BTreeMap<Side, VecDeque<Packet>> = BTreeMap::new();
     let mut now = stamp(rng);
@@ -510,7 +594,10 @@ fn with_odd(rng: &mut Rng, container: Container, events: usize, odd: usize) -> (
             }
             let information: Vec<u8> = stream.drain(..n).collect();
             let credit = if rng.percent(25) { Some(rng.byte()) } else { None };
-            uih(dlci, &information, credit, rng.percent(20))
+            let wide = rng.percent(20);
+            let mut frame = pools.frame(rng, dlci, &information, credit, wide);
+            pools.behind(rng, &mut frame);
+            frame
         };
         let mut pdu = l2cap(cid, &payload);
         if rng.percent(pools.trouble) {

@@ -4,7 +4,7 @@
 use std::collections::BTreeMap;
 use std::path::PathBuf;
 
-use crate::answer::{Answer, Checked, Container, Difference, Subject, NO_CHANNEL};
+use crate::answer::{Answer, Asked, Checked, Container, Difference, Subject, NO_CHANNEL};
 use crate::expected;
 use crate::import::{Import, Rule};
 use crate::model::{self, RIGHT};
@@ -30,8 +30,7 @@ const FILES: [&str; 12] = [
 type Asks = fn(&Line) -> bool;
 
 /// What the calls do not do: a case that asks for it is passed over.
-const LATER: [(&str, Asks); 3] = [
-    ("FCS checked", |line| line.has("fcs", &["on", "yes"])),
+const LATER: [(&str, Asks); 2] = [
     ("the strict channel rule", |line| line.has("rule", &["strict"])),
     ("heads before wires", |line| line.has("heads", &["yes"])),
 ];
@@ -93,6 +92,11 @@ impl<'a> Line<'a> {
         }
     }
 
+    /// Whether the FCS is checked.
+    fn checks(&self) -> bool {
+        self.has("fcs", &["on", "yes"])
+    }
+
     fn tolerant(&self) -> bool {
         self.has("tail", &["tolerant"]) || self.has("tolerant", &["yes"])
     }
@@ -113,7 +117,8 @@ fn bytes(hex: &str) -> Vec<u8> {
 }
 
 /// The answer of import that a line tells. After `ok` come DLCI, frames, unfinished and the tail offset; then the list, or
-/// the bytes written, words with numbers that import does not answer, and `list=` with the list.
+/// the bytes written, `wrong` with the frames that have a wrong FCS, words with numbers that import does not answer, and
+/// `list=` with the list. A line without `wrong` does not ask for the FCS to be checked.
 fn answer(line: &Line) -> Answer {
     let words: Vec<&str> = line.answer.split(' ').collect();
     let values = |words: &[&str]| -> Vec<u64> { words.iter().map(|n| n.parse().expect("a number")).collect() };
@@ -122,13 +127,16 @@ fn answer(line: &Line) -> Answer {
         return Answer::refused(numbers[0] as u32, &numbers[1..]);
     }
     let last = words[words.len() - 1];
-    match last.strip_prefix("list=") {
-        Some(list) => Answer::done(&values(&words[1..6]), bytes(list)),
-        None => {
-            let list = bytes(last);
-            let written = [list.len() as u64];
-            Answer::done(&[&values(&words[1..5])[..], &written].concat(), list)
+    match (last.strip_prefix("list="), words.iter().position(|word| *word == "wrong")) {
+        (Some(list), Some(wrong)) => {
+            Answer::done(&[values(&words[1..6]), values(&words[wrong + 1..wrong + 2])].concat(), bytes(list))
         }
+        (None, None) if !line.checks() => {
+            let list = bytes(last);
+            let written = list.len() as u64;
+            Answer::done(&[&values(&words[1..5])[..], &[written, 0]].concat(), list)
+        }
+        _ => panic!("{} line {}: no answer: {:.200}", line.file, line.number, line.answer),
     }
 }
 
@@ -137,6 +145,9 @@ fn answer(line: &Line) -> Answer {
 struct Tally {
     run: BTreeMap<&'static str, u64>,
     pcap: u64,
+    /// How many have the FCS checked, and of those that are answered how many count a wrong one.
+    checked: u64,
+    wrong: u64,
     /// How many told the number of records.
     records: u64,
     passed: BTreeMap<String, u64>,
@@ -165,7 +176,10 @@ impl Vectors<'_> {
         let lent = (line.number_of("work_len"), line.number_of("out_len"));
         readings(line, &file, channel, &expected, lent)?;
         self.tally.pcap += u64::from(line.container() == Container::Pcap);
+        self.tally.checked += u64::from(line.checks());
+        self.tally.wrong += u64::from(expected.values.get(5).is_some_and(|wrong| *wrong > 0));
         for import in self.imports.iter_mut().filter(|import| (import.container(), import.tolerant()) == asked) {
+            import.checking(line.checks());
             let checked = match lent {
                 (None, None) => import.held(&file, channel, &expected),
                 (work, out) => import.lent(&file, channel, &expected, work, out),
@@ -213,13 +227,11 @@ fn readings(
     expected: &Answer,
     (work, out): (Option<usize>, Option<usize>),
 ) -> Checked {
-    let (container, tolerant) = (line.container(), line.tolerant());
-    let rust = match (container, tolerant) {
-        (Container::Pcap, _) => expected::import_pcap(file, channel).by(tolerant),
-        (_, true) => expected::import_tolerant(file, channel),
-        (_, false) => expected::import_strict(file, channel),
-    };
-    let model = model::import_from(container, file, work.unwrap_or(usize::MAX), (channel, tolerant), RIGHT);
+    let (container, tolerant, checks) = (line.container(), line.tolerant(), line.checks());
+    let [off, on] = expected::import(container, file, channel, tolerant);
+    let rust = if checks { on } else { off };
+    let asked = Asked { channel, tolerant, checks };
+    let model = model::import_from(container, file, work.unwrap_or(usize::MAX), asked, RIGHT);
     for (what, found) in [("the Rust", rust), ("the model", model)] {
         let found = found.within(out.unwrap_or(usize::MAX));
         if *found != *expected && (work.is_none() || what == "the model") {
@@ -273,7 +285,7 @@ pub fn run(subject: &dyn Subject, options: &Options) -> Checked {
             name = UNNAMED;
         }
     }
-    let Tally { run, pcap, records, passed } = vectors.tally;
+    let Tally { run, pcap, checked, wrong, records, passed } = vectors.tally;
     if run.is_empty() {
         return Err(unusable("cases to run", "none".into()));
     }
@@ -282,7 +294,8 @@ pub fn run(subject: &dyn Subject, options: &Options) -> Checked {
         let total: u64 = run.values().sum();
         println!("vectors: records as {records} cases of import tell them");
         println!(
-            "vectors: {total} cases run, {pcap} of them of pcap: {}",
+            "vectors: {total} cases run, {pcap} of them of pcap, {checked} with the FCS checked, {wrong} with a wrong one \
+             counted: {}",
             shown(run.iter().map(|(file, n)| format!("{file} {n}")).collect())
         );
         let total: u64 = passed.values().sum();
