@@ -1,7 +1,5 @@
 use Rattle.options.specs.Numbers.{fcsNumber}
 use mathlib.Core.Path.{refl}
-use borrow.Author.Needs.{needs}
-use native.Mathlib.Omega.{arith}
 use Rattle.options.proofs.fcs_of.Statement.{statement}
 use Rattle.options.proofs.fcs_of.Tie as tie
 use Rattle.options.proofs.fcs_of.Reads as reads
