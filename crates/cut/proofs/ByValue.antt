@@ -15,7 +15,7 @@ use Rattle.container.specs.Container.{Container, Lawful}
 use Rattle.l2cap.specs.Pdus.{Pdu}
 use Rattle.channels.specs.Signals.{signals}
 use Rattle.channels.specs.Tried.{source, triedBy}
-use Rattle.rfcomm.specs.Pieces.{Kind, frameKind, Judging, unchecked, kindBy, kindOf, judgedFrom}
+use Rattle.rfcomm.specs.Pieces.{Kind, Judging, unchecked, kindBy, kindOf, judgedFrom}
 use Rattle.outcome.specs.Import.{Tail, tolerant, bySource, imported}
 use Rattle.cut.specs.Recording.{Framing, LinkOf, free, Record, RecordingOf, Recording, file, cut}
 use Rattle.cut.specs.Left.{recordsLeft, Sent, sentIn, linkKey, informationOf, dataOf, wires}

@@ -1,7 +1,7 @@
 -- By Bluetooth Core's rule no cut need be looked at: the rules on tried PDUs hold at every cut if they hold of each PDU judged when it is complete.
 use Prim.Native.Nat.{ℕ}
 use mathlib.Core.Path.{_≡_, refl, sym, ap, _∙_}
-use mathlib.Core.Bool.{Bool, true, false, cond, not, _&&_}
+use mathlib.Core.Bool.{Bool, true, false, not, _&&_}
 use mathlib.Core.List.{List, [], _∷_, _++_, append-assoc, append-nil}
 use lib.ListN.{length, drop}
 use lib.Dec.{leb}

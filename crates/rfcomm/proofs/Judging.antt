@@ -1,6 +1,6 @@
 -- Laws of specs/Judging.
 use Prim.Native.Nat.{ℕ, zero, suc, _+_, _-_, _*_, _<_, _≤_}
-use mathlib.Core.Path.{_≡_, refl, sym, _∙_}
+use mathlib.Core.Path.{_≡_, refl, sym, ap, _∙_}
 use mathlib.Core.Bool.{Bool, true, false, cond, _&&_}
 use mathlib.Core.List.{List}
 use native.Mathlib.Omega.{arith}
@@ -18,9 +18,9 @@ use Rattle.channels.specs.Signals.{Signal}
 use Rattle.channels.specs.Channels.{isTried, asksSession}
 use Rattle.channels.specs.ChannelTable.{Tells}
 use Rattle.channels.specs.Passing.{Judged}
-use Rattle.uih.specs.Frames.{frameOf}
+use Rattle.uih.specs.Frames.{Uih as UihFrame, Frame as FrameRead, sabm, uih, wrongFcs, other, frameOf}
 use Rattle.rfcomm.specs.Pieces.{carries, wrong, passed, uihKind, frameKind, kindOf}
-use Rattle.uih.specs.Reading.{uihAt, frameShown, UihLies, FrameIs}
+use Rattle.uih.specs.Reading.{uihAt, frameShown, seen, UihLies, FrameIs}
 use Rattle.uih.specs.declared.Uih.{Uih}
 use Rattle.uih.specs.declared.Frame.{Frame}
 use Rattle.uih.specs.declared.Frame.the-variants.{Sabm, Uih as Found, WrongFcs, Other}
@@ -77,39 +77,55 @@ module _ (fcs : Bool) (f w : List ℕ) (row : ℕ) (l : Lent f w row) (u : Uih) 
         pos zero h = absurd (h refl)
         pos (suc n) h = omega arith
 
-module _ (fcs : Bool) (f w : List ℕ) (row : ℕ) (l : Lent f w row) (p : List ℕ) (ep : p ≡ pduAt f w row .payload) (x : Frame) (is : FrameIs p x) where
-  frame-as : (y : Frame) → x ≡ y → FrameIs (pduAt f w row .payload) y
+-- a frame as it is read is of the same kind
+kind-seen : (fcs : Bool) (x : FrameRead) → frameKind fcs x ≡ frameKind fcs (seen fcs x)
+unfolding frameKind seen
+kind-seen fcs (sabm d) = refl
+kind-seen fcs (uih u) = refl
+kind-seen true (wrongFcs u) = refl
+kind-seen false (wrongFcs u) = refl
+kind-seen fcs other = refl
+
+not-wrong : _≡_ {A = ℕ} 0 1 → ⊥
+not-wrong z = omega arith
+
+-- a wrong FCS is told only where it is checked
+seen-checked : (fcs : Bool) (x : FrameRead) (u : UihFrame) → seen fcs x ≡ wrongFcs u → fcs ≡ true
+unfolding seen
+seen-checked true x u e = refl
+seen-checked false (sabm d) u e = absurd (not-wrong cc)
+seen-checked false (uih v) u e = absurd (not-wrong cc)
+seen-checked false (wrongFcs v) u e = absurd (not-wrong cc)
+seen-checked false other u e = absurd (not-wrong cc)
+
+module _ (fcs : Bool) (f w : List ℕ) (row : ℕ) (l : Lent f w row) (p : List ℕ) (ep : p ≡ pduAt f w row .payload) (x : Frame) (is : FrameIs fcs p x) where
+  frame-as : (y : Frame) → x ≡ y → FrameIs fcs (pduAt f w row .payload) y
   frame-as y e = rw (ep, e) at is
+
+  kind-as : (y : Frame) → x ≡ y → frameKind fcs (frameOf (pduAt f w row .payload)) ≡ frameKind fcs (frameShown (pduAt f w row .payload) y)
+  kind-as y e = kind-seen fcs (frameOf (pduAt f w row .payload)) ∙ ap (frameKind fcs) (frame-as y e .shows)
 
   pub verdict-sabm : (d : ℕ) → x ≡ Sabm d → FrameVerdict fcs f w row (Opens d)
   unfolding frameShown kindShown frameKind
-  verdict-sabm d e = let i = frame-as (Sabm d) e in record { shows = rw (i .shows); borne = i .lies }
+  verdict-sabm d e = record { shows = kind-as (Sabm d) e; borne = frame-as (Sabm d) e .lies }
 
   pub verdict-other : x ≡ Other → FrameVerdict fcs f w row Passed
   unfolding frameShown kindShown frameKind
-  verdict-other e = let i = frame-as Other e in record { shows = rw (i .shows); borne = tt }
+  verdict-other e = record { shows = kind-as Other e; borne = tt }
 
   module _ (u : Uih) where
     pub verdict-uih : x ≡ Found u → (r : Verdict) → r ≡ placedUih w row u → FrameVerdict fcs f w row r
     unfolding frameShown frameKind
-    verdict-uih e = let i = frame-as (Found u) e in verdict-placed fcs f w row l u (i .lies) (rw (i .shows))
+    verdict-uih e = verdict-placed fcs f w row l u (frame-as (Found u) e .lies) (kind-as (Found u) e)
 
-    module _ (e : x ≡ WrongFcs u) where
-      pub verdict-unchecked : fcs ≡ false → (r : Verdict) → r ≡ placedUih w row u → FrameVerdict fcs f w row r
-      unfolding frameShown frameKind
-      verdict-unchecked z = let i = frame-as (WrongFcs u) e in verdict-placed fcs f w row l u (i .lies) (rw (i .shows, z))
+    pub place-uih : x ≡ Found u → PlacePre w row u
+    place-uih e = record { whole = l .room; start = (rw e at is) .lies .start }
 
-      pub verdict-wrong : fcs ≡ true → FrameVerdict fcs f w row (Wrong (u .dlci))
-      unfolding frameShown kindShown frameKind uihAt
-      verdict-wrong z = let i = frame-as (WrongFcs u) e in record { shows = rw (i .shows, z); borne = tt }
-
--- where the information of a frame starts
-module _ (f w : List ℕ) (row : ℕ) (l : Lent f w row) (p : List ℕ) (ep : p ≡ pduAt f w row .payload) (x : Frame) (is : FrameIs p x) (u : Uih) where
-  pub place-right : x ≡ Found u → PlacePre w row u
-  place-right e = record { whole = l .room; start = (rw e at is) .lies .start }
-
-  pub place-wrong : x ≡ WrongFcs u → PlacePre w row u
-  place-wrong e = record { whole = l .room; start = (rw e at is) .lies .start }
+    pub verdict-wrong : x ≡ WrongFcs u → FrameVerdict fcs f w row (Wrong (u .dlci))
+    unfolding frameShown kindShown frameKind uihAt
+    verdict-wrong e =
+        let z : fcs ≡ true = seen-checked fcs (frameOf (pduAt f w row .payload)) (uihAt (pduAt f w row .payload) u) (frame-as (WrongFcs u) e .shows) in
+        record { shows = kind-as (WrongFcs u) e ∙ rw z; borne = tt }
 
 module _ (fcs : Bool) (f w : List ℕ) (row q n : ℕ) (pre : JudgePre f w row q n) (t : Bool) (e : t ≡ asksSession (pduAt f w row)) where
   pub judged-asks : t ≡ true → VerdictIs fcs f w row (3 * q) n Asks

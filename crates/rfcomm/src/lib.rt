@@ -195,16 +195,11 @@ fn judge_frame<'a>(file: &'a [u8], w: &'a [u8], row: usize, fcs: bool) -> Verdic
     requires { ⌜ Lent (now file) (now w) row ⌝ }
     ensures { λ r. ⌜ FrameVerdict fcs (now (file .entry)) (now (w .entry)) row r ⌝ }
 {
-    let x = read_frame(payload(file, w, row));
+    let x = read_frame(payload(file, w, row), fcs);
     match x {
         Frame::Sabm(d) => Verdict::Opens(d),
         Frame::Uih(u) => place_uih(w, row, u),
-        Frame::WrongFcs(u) => {
-            if fcs {
-                return Verdict::Wrong(u.dlci);
-            }
-            place_uih(w, row, u)
-        }
+        Frame::WrongFcs(u) => Verdict::Wrong(u.dlci),
         Frame::Other => Verdict::Passed,
     }
 }

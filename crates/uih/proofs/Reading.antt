@@ -13,7 +13,7 @@ use Rattle.uih.specs.Fcs.{fcsOf}
 use Rattle.uih.specs.declared.Length.{Length}
 use Rattle.uih.specs.declared.Frame.the-variants.{Sabm, Uih as Found, WrongFcs, Other}
 use Rattle.uih.specs.declared.Uih.{Uih}
-use Rattle.uih.specs.Reading.{uihAt, frameShown, UihLies, FrameIs, LengthIs, UihPre}
+use Rattle.uih.specs.Reading.{uihAt, frameShown, seen, UihLies, FrameIs, LengthIs, UihPre}
 
 pub sabm-first : (c : ℕ) → c ≡ 0x2F → true ≡ isSabm c
 unfolding isSabm
@@ -50,35 +50,35 @@ module _ (b : List ℕ) (first : ℕ) (e : first ≡ getD b 2 0) (h : first < 25
     wide = omega arith;
   }
 
-pub frame-short : (b : List ℕ) → length b < 2 → FrameIs b Other
-unfolding frameOf frameShown
-frame-short b h = record { shows = rw (le-ltb 1 (length b) (omega arith)); lies = tt }
+pub frame-short : (fcs : Bool) (b : List ℕ) → length b < 2 → FrameIs fcs b Other
+unfolding frameOf frameShown seen
+frame-short fcs b h = record { shows = rw (le-ltb 1 (length b) (omega arith)); lies = tt }
 
-module _ (b : List ℕ) (h : 2 ≤ length b) where
+module _ (fcs : Bool) (b : List ℕ) (h : 2 ≤ length b) where
   there : ltb 1 (length b) ≡ true
   there = lt-ltb 1 (length b) (omega arith)
 
-  pub frame-sabm : (t : Bool) → t ≡ isSabm (getD b 1 0) → t ≡ true → (d : ℕ) → d ≡ getD b 0 0 / 4 → d < 64 → FrameIs b (Sabm d)
-  unfolding frameOf frameShown
+  pub frame-sabm : (t : Bool) → t ≡ isSabm (getD b 1 0) → t ≡ true → (d : ℕ) → d ≡ getD b 0 0 / 4 → d < 64 → FrameIs fcs b (Sabm d)
+  unfolding frameOf frameShown seen
   frame-sabm t e q d z s = record { shows = rw (there, sym e ∙ q, z); lies = s }
 
-  pub frame-other : (t : Bool) → t ≡ isSabm (getD b 1 0) → t ≡ false → (s : Bool) → s ≡ isUih (getD b 1 0) → s ≡ false → FrameIs b Other
-  unfolding frameOf frameShown
+  pub frame-other : (t : Bool) → t ≡ isSabm (getD b 1 0) → t ≡ false → (s : Bool) → s ≡ isUih (getD b 1 0) → s ≡ false → FrameIs fcs b Other
+  unfolding frameOf frameShown seen
   frame-other t e q s z y = record { shows = rw (there, sym e ∙ q, sym z ∙ y); lies = tt }
 
   pub uih-pre : (t : Bool) → t ≡ isSabm (getD b 1 0) → t ≡ false → (s : Bool) → s ≡ isUih (getD b 1 0) → s ≡ true → UihPre b
   uih-pre t e q s z y = record { some = h; not = sym e ∙ q; is = sym z ∙ y }
 
-module _ (b : List ℕ) (pre : UihPre b) where
-  uih-none : length b ≤ infoStart b + infoLength b → FrameIs b Other
-  unfolding frameOf frameShown
-  uih-none h = record { shows = rw (there b (pre .some), pre .not, pre .is, le-ltb (infoStart b + infoLength b) (length b) h); lies = tt }
+module _ (fcs : Bool) (b : List ℕ) (pre : UihPre b) where
+  uih-none : length b ≤ infoStart b + infoLength b → FrameIs fcs b Other
+  unfolding frameOf frameShown seen
+  uih-none h = record { shows = rw (there fcs b (pre .some), pre .not, pre .is, le-ltb (infoStart b + infoLength b) (length b) h); lies = tt }
 
   start-least : 3 ≤ infoStart b
   unfolding infoStart
   start-least = splitB (shortLength b) (λ e. rw e (omega arith)) (λ e. rw e (omega arith))
 
-  pub uih-short : length b < 4 → FrameIs b Other
+  pub uih-short : length b < 4 → FrameIs fcs b Other
   uih-short h = uih-none (omega (arith, start-least))
 
   module _ (l : Length) (is : LengthIs b l) (c : ℕ) (ec : c ≡ cond (eqb (getD b 1 0) 0xFF) 1 0) (c1 : c ≤ 1) where
@@ -86,7 +86,7 @@ module _ (b : List ℕ) (pre : UihPre b) where
     unfolding infoStart
     start-is = rw ec (ap (λ (k : ℕ). k + cond (eqb (getD b 1 0) 0xFF) 1 0) (is .start))
 
-    pub uih-missing : length b ≤ 2 + l .width + c + l .value → FrameIs b Other
+    pub uih-missing : length b ≤ 2 + l .width + c + l .value → FrameIs fcs b Other
     uih-missing h = uih-none (omega (arith, start-is, is .value))
 
     module _ (h : 2 + l .width + c + l .value < length b) (d : ℕ) (z : d ≡ getD b 0 0 / 4) (s : d < 64) where
@@ -95,11 +95,20 @@ module _ (b : List ℕ) (pre : UihPre b) where
 
       frame-is : (t : Bool) → isRight b ≡ t → frameOf b ≡ cond t (uih (uihIn b)) (wrongFcs (uihIn b))
       unfolding frameOf
-      frame-is t e = rw (there b (pre .some), pre .not, pre .is, lt-ltb (infoStart b + infoLength b) (length b) (omega (arith, start-is, is .value)), e)
+      frame-is t e = rw (there fcs b (pre .some), pre .not, pre .is, lt-ltb (infoStart b + infoLength b) (length b) (omega (arith, start-is, is .value)), e)
 
       shown : uihIn b ≡ uihAt b (record { dlci = d; start = 2 + l .width + c; len = l .value })
       unfolding uihAt
       shown = rw (start-is, is .value, z)
+
+      as-uih : frameOf b ≡ uih (uihIn b) → FrameIs fcs b (Found (record { dlci = d; start = 2 + l .width + c; len = l .value }))
+      unfolding frameShown seen
+      as-uih e = record { shows = rw (e, shown); lies = lies }
+
+      -- unchecked
+      pub uih-unchecked : fcs ≡ false → FrameIs fcs b (Found (record { dlci = d; start = 2 + l .width + c; len = l .value }))
+      unfolding frameShown seen
+      uih-unchecked z = splitB (isRight b) (λ e. as-uih (frame-is true e)) (λ e. record { shows = rw (frame-is false e, z, shown); lies = lies })
 
       -- the byte after the information, and the check
       module _ (x y : ℕ) (ex : x ≡ getD b (2 + l .width + c + l .value) 0) (ey : y ≡ fcsOf (getD b 0 0 ∷ getD b 1 0 ∷ [])) where
@@ -107,10 +116,9 @@ module _ (b : List ℕ) (pre : UihPre b) where
         unfolding isRight
         right-is = rw (ex, ey, start-is, is .value)
 
-        pub uih-right : x ≡ y → FrameIs b (Found (record { dlci = d; start = 2 + l .width + c; len = l .value }))
-        unfolding frameShown
-        uih-right e = record { shows = frame-is true (right-is ∙ eq-eqb x y e) ∙ ap uih shown; lies = lies }
+        pub uih-right : x ≡ y → FrameIs fcs b (Found (record { dlci = d; start = 2 + l .width + c; len = l .value }))
+        uih-right e = as-uih (frame-is true (right-is ∙ eq-eqb x y e))
 
-        pub uih-wrong : (x ≡ y → ⊥) → FrameIs b (WrongFcs (record { dlci = d; start = 2 + l .width + c; len = l .value }))
-        unfolding frameShown
-        uih-wrong e = record { shows = frame-is false (right-is ∙ ne-eqb x y e) ∙ ap wrongFcs shown; lies = lies }
+        pub uih-wrong : fcs ≡ true → (x ≡ y → ⊥) → FrameIs fcs b (WrongFcs (record { dlci = d; start = 2 + l .width + c; len = l .value }))
+        unfolding frameShown seen
+        uih-wrong z e = record { shows = rw (frame-is false (right-is ∙ ne-eqb x y e), z, shown); lies = lies }

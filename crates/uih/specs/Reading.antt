@@ -1,7 +1,7 @@
 -- Reading one RFCOMM frame.
 use Prim.Native.Nat.{ℕ, _+_, _<_, _≤_}
 use mathlib.Core.Path.{_≡_}
-use mathlib.Core.Bool.{true, false, cond}
+use mathlib.Core.Bool.{Bool, true, false, cond}
 use mathlib.Core.List.{List}
 use lib.ListN.{length, getD, take, drop}
 use Rattle.uih.specs.Frames.{Uih as UihFrame, Frame as FrameRead, sabm, uih, wrongFcs, other, control, isSabm, isUih, shortLength, infoLength, creditOf, frameOf}
@@ -34,8 +34,15 @@ Lies b (Found u) = UihLies b u
 Lies b (WrongFcs u) = UihLies b u
 Lies b Other = Unit {0}
 
-pub record FrameIs (b : List ℕ) (r : Frame) : Type 0 where
-  pub shows : frameOf b ≡ frameShown b r
+-- unchecked, a wrong FCS is not told
+unfoldable pub seen : Bool → FrameRead → FrameRead
+seen fcs (sabm d) = sabm d
+seen fcs (uih u) = uih u
+seen fcs (wrongFcs u) = cond fcs (wrongFcs u) (uih u)
+seen fcs other = other
+
+pub record FrameIs (fcs : Bool) (b : List ℕ) (r : Frame) : Type 0 where
+  pub shows : seen fcs (frameOf b) ≡ frameShown b r
   pub lies : Lies b r
 
 pub record LengthIs (b : List ℕ) (r : Length) : Type 0 where

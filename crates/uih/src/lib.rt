@@ -104,10 +104,10 @@ fn fcs_of(address: u8, control: u8) -> usize
     a ^ 0xC7
 }
 
-// Reads a UIH frame, whose information and FCS must be there.
-fn read_uih(p: &[u8]) -> Frame
+// Reads a UIH frame, whose information and FCS must be there. Unchecked, a wrong FCS is not told.
+fn read_uih(p: &[u8], fcs: bool) -> Frame
     requires { ⌜ UihPre (now p) ⌝ }
-    ensures { λ r. ⌜ FrameIs (now (p .entry)) r ⌝ }
+    ensures { λ r. ⌜ FrameIs fcs (now (p .entry)) r ⌝ }
 {
     if p.len() < 4 {
         return Frame::Other;
@@ -123,15 +123,17 @@ fn read_uih(p: &[u8]) -> Frame
         start,
         len,
     };
-    if wide(p[start + len]) == fcs_of(p[0], p[1]) {
-        return Frame::Uih(u);
+    if fcs {
+        if wide(p[start + len]) != fcs_of(p[0], p[1]) {
+            return Frame::WrongFcs(u);
+        }
     }
-    Frame::WrongFcs(u)
+    Frame::Uih(u)
 }
 
-// Reads an RFCOMM frame.
-pub fn read_frame(p: &[u8]) -> Frame
-    ensures { λ r. ⌜ FrameIs (now (p .entry)) r ⌝ }
+// Reads an RFCOMM frame, with FCS checked or not.
+pub fn read_frame(p: &[u8], fcs: bool) -> Frame
+    ensures { λ r. ⌜ FrameIs fcs (now (p .entry)) r ⌝ }
 {
     if p.len() < 2 {
         return Frame::Other;
@@ -141,7 +143,7 @@ pub fn read_frame(p: &[u8]) -> Frame
         return Frame::Sabm(dlci_of(p[0]));
     }
     if is_uih(control) {
-        return read_uih(p);
+        return read_uih(p, fcs);
     }
     Frame::Other
 }

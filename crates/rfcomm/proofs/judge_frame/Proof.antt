@@ -1,4 +1,4 @@
-use Rattle.rfcomm.proofs.Judging.{verdict-sabm, verdict-other, verdict-uih, verdict-unchecked, verdict-wrong, place-right, place-wrong}
+use Rattle.rfcomm.proofs.Judging.{verdict-sabm, verdict-other, verdict-uih, verdict-wrong, place-uih}
 use native.Mathlib.Omega.{arith}
 use borrow.Author.Needs.{needs}
 use Rattle.rfcomm.proofs.judge_frame.Statement.{statement}
@@ -27,39 +27,31 @@ enum-known-x-2 c = search needs
 
 -- src/lib.rt:201:26
 place-uih-requires : tie.Need-place-uih-requires
-place-uih-requires c κs = search place-right
+place-uih-requires c κs = search place-uih
 
 -- src/lib.rt:202:25
 enum-known-x-3 : tie.Need-enum-known-x-3
 enum-known-x-3 c = search needs
 
--- src/lib.rt:204:17
-returns : tie.Need-returns
-returns c = search verdict-wrong
-
--- src/lib.rt:206:13
-place-uih-requires-2 : tie.Need-place-uih-requires-2
-place-uih-requires-2 c κs = search place-wrong
-
--- src/lib.rt:208:25
+-- src/lib.rt:203:25
 enum-told : tie.Need-enum-told
 enum-told c = search needs
 
 -- src/lib.rt:194:1
+returns : tie.Need-returns
+returns c = search verdict-sabm
+
+-- src/lib.rt:194:1
 returns-2 : tie.Need-returns-2
-returns-2 c = search verdict-sabm
+returns-2 c = search verdict-uih
 
 -- src/lib.rt:194:1
 returns-3 : tie.Need-returns-3
-returns-3 c = search verdict-uih
+returns-3 c = search verdict-wrong
 
 -- src/lib.rt:194:1
 returns-4 : tie.Need-returns-4
-returns-4 c = search verdict-unchecked
-
--- src/lib.rt:194:1
-returns-5 : tie.Need-returns-5
-returns-5 c = search verdict-other
+returns-4 c = search verdict-other
 
 pub judge-frame-spec : {M : Type 1} → statement M
 judge-frame-spec =
@@ -71,10 +63,8 @@ judge-frame-spec =
     enum-known-x-2
     place-uih-requires
     enum-known-x-3
-    returns
-    place-uih-requires-2
     enum-told
+    returns
     returns-2
     returns-3
-    returns-4
-    returns-5)
+    returns-4)

@@ -1,4 +1,4 @@
-use Rattle.uih.proofs.Reading.{uih-short, uih-missing, uih-right, uih-wrong}
+use Rattle.uih.proofs.Reading.{uih-short, uih-missing, uih-right, uih-wrong, uih-unchecked}
 use native.Mathlib.Omega.{arith}
 use borrow.Author.Needs.{needs}
 use Rattle.uih.proofs.read_uih.Statement.{statement}
@@ -51,37 +51,41 @@ shared-slice-read-dlci-of c = search needs
 dlci-of-requires : tie.Need-dlci-of-requires
 dlci-of-requires c κs = search needs
 
--- src/lib.rt:126:15
+-- src/lib.rt:127:19
 add-wide : tie.Need-add-wide
 add-wide c = search needs
 
--- src/lib.rt:126:13
+-- src/lib.rt:127:17
 shared-slice-read-wide : tie.Need-shared-slice-read-wide
 shared-slice-read-wide c = search needs
 
--- src/lib.rt:126:8
+-- src/lib.rt:127:12
 wide-requires : tie.Need-wide-requires
 wide-requires c κs = search needs
 
--- src/lib.rt:126:39
+-- src/lib.rt:127:43
 shared-slice-read-fcs-of : tie.Need-shared-slice-read-fcs-of
 shared-slice-read-fcs-of c = search needs
 
--- src/lib.rt:126:45
+-- src/lib.rt:127:49
 shared-slice-read-fcs-of-2 : tie.Need-shared-slice-read-fcs-of-2
 shared-slice-read-fcs-of-2 c = search needs
 
--- src/lib.rt:126:32
+-- src/lib.rt:127:36
 fcs-of-requires : tie.Need-fcs-of-requires
 fcs-of-requires c κs = search needs
 
--- src/lib.rt:127:9
+-- src/lib.rt:128:13
 returns-3 : tie.Need-returns-3
-returns-3 c = search uih-right
+returns-3 c = search uih-wrong
 
 -- src/lib.rt:108:1
 returns-4 : tie.Need-returns-4
-returns-4 c = search uih-wrong
+returns-4 c = search uih-right
+
+-- src/lib.rt:108:1
+returns-5 : tie.Need-returns-5
+returns-5 c = search uih-unchecked
 
 pub read-uih-spec : {M : Type 1} → statement M
 read-uih-spec =
@@ -104,4 +108,5 @@ read-uih-spec =
     shared-slice-read-fcs-of-2
     fcs-of-requires
     returns-3
-    returns-4)
+    returns-4
+    returns-5)
