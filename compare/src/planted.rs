@@ -1238,12 +1238,13 @@ fn all() -> Vec<(&'static str, String, Planted)> {
 pub fn unreported(groups: &[(&'static str, Group)], options: &Options) -> (usize, Vec<String>) {
     let mut missed = Vec::new();
     let wanted = |label: &str| options.only.as_ref().is_none_or(|text| label.contains(text.as_str()));
-    let faults: Vec<_> = all().into_iter().filter(|(_, label, _)| wanted(label)).collect();
+    let named = |group: &str, label: &str| format!("{label}, by {group}");
+    let faults: Vec<_> = all().into_iter().filter(|(group, label, _)| wanted(&named(group, label))).collect();
     let planted = faults.len();
     for (name, label, planted) in faults {
         let (_, group) = groups.iter().chain(&PARTS).find(|(group, _)| *group == name).expect("a group");
         if group(&planted, options).is_ok() {
-            missed.push(format!("{label}, by {name}"));
+            missed.push(named(name, &label));
         }
     }
     (planted, missed)

@@ -36,13 +36,16 @@ const SCALES: [Scale; 4] = [
     Scale { links: 2, frames: 6, payload: 900, piece: 300, fragment: 200 },
 ];
 
+/// The FCS bytes of recordings, in turn.
+const KINDS: [Sums; 3] = [Sums::Right, Sums::Noisy, Sums::Chance];
+
 /// What is called with a recording and a cut of it.
 type Cut<'a> = dyn FnMut(&Honest, usize) -> Checked + 'a;
 
 /// Calls `f` with recordings and each of their cuts.
 pub fn each_cut(rng: &mut Rng, container: Container, size: u64, f: &mut Cut) -> Checked {
     for i in 0..size {
-        let sums = [Sums::Right, Sums::Noisy, Sums::Chance][i as usize % 3];
+        let sums = KINDS[i as usize % 3];
         let recording = if i % 50 == 49 {
             honest::longest(rng, container, sums)
         } else if i % 250 == 124 {
@@ -146,6 +149,8 @@ pub fn run(subject: &dyn Subject, options: &Options) -> Checked {
     let mut import = Import::new(subject, Rule::Tolerant);
     honest_cuts(&mut import, &mut rng, size / 100)?;
     log.line("every cut of honest recordings", &import.lender);
+    record_cuts(&mut import, &mut rng, size / 10)?;
+    log.line("honest recordings cut where a record ends", &import.lender);
     size_rule(&mut import, &mut rng)?;
     log.line("a frame longer than an honest recording has", &import.lender);
     import::run_rule(subject, options, "tolerant", Rule::Tolerant, size / 5)?;
@@ -159,10 +164,23 @@ fn honest_cuts(import: &mut Import, rng: &mut Rng, size: u64) -> Checked {
     })
 }
 
+/// Many short recordings, cut where their records end: what takes two adapters to meet comes in few of them.
+fn record_cuts(import: &mut Import, rng: &mut Rng, size: u64) -> Checked {
+    for i in 0..size as usize {
+        let recording = honest::recording_in(rng, Container::Btsnoop, KINDS[i % 3], honest::SMALL);
+        for &n in &recording.ends {
+            import.in_both(&recording.file[..n], recording.channel(), &due(Container::Btsnoop, &recording, n))?;
+        }
+    }
+    Ok(())
+}
+
 /// The honest recordings alone; in a short run more of them.
 pub fn run_honest(subject: &dyn Subject, options: &Options) -> Checked {
-    let mut import = Import::new(subject, Rule::Tolerant);
-    honest_cuts(&mut import, &mut Rng::new(options.seed), 100.max(options.size.unwrap_or(50_000) / 100))
+    let (mut import, mut rng) = (Import::new(subject, Rule::Tolerant), Rng::new(options.seed));
+    let size = options.size.unwrap_or(50_000);
+    record_cuts(&mut import, &mut rng, 2_000.max(size / 10))?;
+    honest_cuts(&mut import, &mut rng, 100.max(size / 100))
 }
 
 /// The part that asks for the strict rule.
