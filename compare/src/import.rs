@@ -442,22 +442,26 @@ impl Taker for Import<'_> {
     }
 }
 
-/// Checks a file. A difference is reported for the smallest file that leaving out records finds.
+/// Checks a file. A difference is reported for the smallest file that leaving out records finds: many at a time, then fewer.
 pub fn smallest(container: Container, file: &[u8], check: &mut dyn FnMut(&[u8]) -> Checked) -> Checked {
     check(file).map_err(|found| {
         let mut found = found;
         let mut file = file.to_vec();
         let mut bounds = bounds(container, &file);
-        let mut i = bounds.len();
-        while i > 1 && file.len() < 100_000 {
-            i -= 1;
-            let mut fewer = file.clone();
-            fewer.drain(bounds[i - 1]..bounds[i]);
-            if let Err(difference) = check(&fewer) {
-                (found, file) = (difference, fewer);
-                bounds = self::bounds(container, &file);
-                i = i.min(bounds.len());
+        let mut many = bounds.len() / 2;
+        while many > 0 && file.len() < 100_000 {
+            let mut to = bounds.len() - 1;
+            while to > 0 {
+                let from = to.saturating_sub(many);
+                let mut fewer = file.clone();
+                fewer.drain(bounds[from]..bounds[to]);
+                if let Err(difference) = check(&fewer) {
+                    (found, file) = (difference, fewer);
+                    bounds = self::bounds(container, &file);
+                }
+                to = from.min(bounds.len() - 1);
             }
+            many /= 2;
         }
         found
     })
