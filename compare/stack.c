@@ -1,6 +1,6 @@
 /* How much stack each call takes: it runs on a thread that first fills the free part of its stack with one byte, and what has
-   changed is counted.
-   cc -O1 -I include -o target/stack compare/stack.c target/staticlib/liblumbryth.a -lpthread && target/stack TRACE */
+   changed is counted. Linked so that symbols are bound at the start: else the first call has the stack of that counted too.
+   cc -O1 -Wl,-z,now -I include -o target/stack compare/stack.c target/staticlib/liblumbryth.a -lpthread && target/stack TRACE */
 #define _GNU_SOURCE
 #include <pthread.h>
 #include <stdint.h>
