@@ -29,8 +29,7 @@ fn import(
     lumbryth::lumbryth_import_strict(file, work, out, channel, values)
 }
 
-// The work lent is 8 times the file's length, with what earlier cases left in it: no answer depends on that. A case has the five
-// values of document 01, so no more are lent.
+// The work lent is 8 times the file's length, with what earlier cases left in it: no answer depends on that.
 fn run_import(s: &[u8], c: Call, work: &mut [u8], out: &mut [u8], values: &mut [u64]) -> u32 {
     let file = part(s, c.first, c.first_size);
     let channel = word(s, c.numbers);
@@ -38,17 +37,7 @@ fn run_import(s: &[u8], c: Call, work: &mut [u8], out: &mut [u8], values: &mut [
     if work.len() / 8 < n {
         return NO_CALL;
     }
-    if values.len() < 5 {
-        return NO_CALL;
-    }
-    import(
-        c.op == 8,
-        file,
-        &mut work[..8 * n],
-        out,
-        channel,
-        &mut values[..5],
-    )
+    import(c.op == 8, file, &mut work[..8 * n], out, channel, values)
 }
 
 fn run(s: &[u8], c: Call, work: &mut [u8], out: &mut [u8], values: &mut [u64]) -> u32 {

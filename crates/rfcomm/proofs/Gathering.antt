@@ -309,7 +309,8 @@ module _ (f w : List ℕ) (q rows : ℕ) (t : Taken) (j : ℕ) (a : List ℕ) (r
         size = rw eu (length-puts (rowOf (partOf w (2 * q + 7 * j) (6 * q) (t .counts) i) (long w (2 * q + 7 * j + 5))) w (5 * q + 8 * t .pieces));
       }
 
-getD-zeros : (n e : ℕ) → getD (replicate {0} {A = ℕ} n 0) e 0 ≡ 0
+-- a list of zeros has 0 at every place
+pub getD-zeros : (n e : ℕ) → getD (replicate {0} {A = ℕ} n 0) e 0 ≡ 0
 getD-zeros zero e = refl
 getD-zeros (suc n) zero = refl
 getD-zeros (suc n) (suc e) = getD-zeros n e

@@ -19,6 +19,7 @@ use Rattle.channels.specs.Channels.{any}
 use Rattle.rfcomm.specs.Pieces.{Piece}
 use Rattle.rfcomm.specs.PieceTable.{pieceAt, piecesFrom, infosOf, Within, Pieced}
 use Rattle.rfcomm.proofs.PieceRows.{pieces-front}
+use Rattle.rfcomm.proofs.Gathering.{getD-zeros}
 use Rattle.spans.specs.Parts.{bit}
 use Rattle.spans.specs.Spans.{spans, unfinished, onDlci}
 use Rattle.split.specs.Rows.{all, tailAt, keyAt, Linked, Laid}
@@ -100,11 +101,6 @@ pub record Choosing (f w₀ : List ℕ) (n : ℕ) (channel : Channel) (w tried :
   pub size : length tried ≡ 64
   pub bad : (e : ℕ) → (getD tried e 0 ≡ 0 → ⊥) → hasFrame (tablePieces f w₀ n) e ≡ false
   pub same : first (Fit channel (tablePieces f w₀ n)) (dlcis f w₀ n i) ≡ chosen (channelOf channel) (tablePieces f w₀ n)
-
-getD-zeros : (n e : ℕ) → getD (replicate {0} {A = ℕ} n 0) e 0 ≡ 0
-getD-zeros zero e = refl
-getD-zeros (suc n) zero = refl
-getD-zeros (suc n) (suc e) = getD-zeros n e
 
 pub getD-out : (l : List ℕ) (e : ℕ) → length l ≤ e → 0 ≡ getD l e 0
 getD-out [] e h = refl
