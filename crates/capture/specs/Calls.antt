@@ -16,9 +16,10 @@ use Rattle.capture.specs.declared.Summary.{Summary}
 use Rattle.capture.specs.declared.Imported.{Imported}
 use Rattle.capture.specs.declared.Imported.the-variants.{Spans, Refused, NoStream, OutShort}
 
--- each case's number and values in documents 01 and 02: DLCI, frames, unfinished, tail offset, bytes written, frames with a wrong FCS
+-- each case's number and values in documents 01 and 02: DLCI, frames, unfinished, tail offset, bytes written, frames with a wrong FCS, bytes in spans,
+-- dropped, cleared, left
 abbrev pub toldImported : Imported → Answer
-toldImported (Spans s) = accepted (s .dlci ∷ s .frames ∷ s .unfinished ∷ s .tail ∷ s .written ∷ s .wrong ∷ [])
+toldImported (Spans s) = accepted (s .dlci ∷ s .frames ∷ s .unfinished ∷ s .tail ∷ s .written ∷ s .wrong ∷ s .in_spans ∷ s .dropped ∷ s .cleared ∷ s .left ∷ [])
 toldImported (Refused x) = toldRefusal x
 toldImported NoStream = refused 6 []
 toldImported (OutShort needed) = refused 7 (needed ∷ [])

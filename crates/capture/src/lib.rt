@@ -31,7 +31,8 @@ pub struct Options {
     pub fcs: bool,
 }
 
-// What import answers of the DLCI chosen: its frames, unfinished, the tail offset, bytes written, and its UIH frames with a wrong FCS.
+// What import answers of the DLCI chosen: its frames, unfinished, the tail offset, bytes written, its UIH frames with a wrong FCS, and
+// where the bytes of its pieces went.
 pub struct Summary {
     pub dlci: u8,
     pub frames: usize,
@@ -39,6 +40,10 @@ pub struct Summary {
     pub tail: usize,
     pub written: usize,
     pub wrong: usize,
+    pub in_spans: usize,
+    pub dropped: usize,
+    pub cleared: usize,
+    pub left: usize,
 }
 
 // What import answers.
@@ -138,6 +143,10 @@ fn answer_of(l: Listed, tail: usize, wrong: &[u32]) -> Imported
                 tail,
                 written: s.bytes,
                 wrong: wrong_on(wrong, s.dlci),
+                in_spans: s.in_spans,
+                dropped: s.dropped,
+                cleared: s.cleared,
+                left: s.left,
             };
             Imported::Spans(summary)
         }

@@ -1,5 +1,5 @@
--- What a cut leaves, from the recording and n alone: records, data PDUs, frames, and the link directions that end mid-frame.
-use Prim.Native.Nat.{ℕ, zero, suc, _+_}
+-- What a cut leaves, from the recording and n alone: records, data PDUs, frames, the link directions that end mid-frame, and the bytes of these.
+use Prim.Native.Nat.{ℕ, zero, suc, _+_, _-_}
 use mathlib.Core.Bool.{Bool, cond, _&&_, _||_}
 use mathlib.Core.List.{List, [], _∷_, map}
 use mathlib.Core.Option.{Option, none, some}
@@ -135,3 +135,22 @@ midIn R n (l ∷ ls) = cond (endsMid R n l Rx) 1 0 + cond (endsMid R n l Tx) 1 0
 -- how many link directions end mid-frame
 unfoldable pub midLeft : {C : Container} {S : Framing} → RecordingOf C S → ℕ → ℕ
 midLeft R n = midIn R n (R .links)
+
+-- ---- where the bytes left went
+
+-- of the wires that stand one after another from `at` on, and a partial one behind them: how many of the bytes that came stand after the last closing 3C among them
+unfoldable pub pastClose : ℕ → ℕ → List (List ℕ) → ℕ
+pastClose at came [] = came - at
+pastClose at came (w ∷ ws) = cond (leb (at + length w) came) (pastClose (at + length w) came ws) (came - at)
+
+-- of a link direction, whose data PDUs left carry the bytes that came
+unfoldable pub pastLink : {C : Container} {S : Framing} → RecordingOf C S → ℕ → LinkOf S → Direction → ℕ
+pastLink R n l t = pastClose 0 (length (informationOf (linkKey l t) (dataLeft R n))) (wires l t)
+
+unfoldable pub pastIn : {C : Container} {S : Framing} → RecordingOf C S → ℕ → List (LinkOf S) → ℕ
+pastIn R n [] = 0
+pastIn R n (l ∷ ls) = pastLink R n l Rx + pastLink R n l Tx + pastIn R n ls
+
+-- of all link directions
+unfoldable pub pastLeft : {C : Container} {S : Framing} → RecordingOf C S → ℕ → ℕ
+pastLeft R n = pastIn R n (R .links)

@@ -59,6 +59,10 @@ fn store_summary(s: Summary, values: &mut [u64])
         s.tail as u64,
         s.written as u64,
         s.wrong as u64,
+        s.in_spans as u64,
+        s.dropped as u64,
+        s.cleared as u64,
+        s.left as u64,
     ];
     store(values, &list);
 }

@@ -6,3 +6,4 @@ pub mod Lists
 pub mod Choice
 pub mod Keys
 pub mod Answers
+pub mod Totals

@@ -7,6 +7,7 @@ use lib.ListN.{length}
 use lib.Dec.{eqb, ltb}
 use Rattle.laws.specs.Keys.{Key}
 use Rattle.laws.specs.Count.{count, nub}
+use Rattle.laws.specs.Totals.{total}
 use Rattle.words.specs.Words.{word}
 use Rattle.words.specs.Front.{Front}
 use Rattle.items.specs.Items.{spanList}
@@ -15,6 +16,7 @@ use Rattle.channels.specs.Channels.{any}
 use Rattle.spans.specs.Scan.{spansOf, restOf}
 use Rattle.search.specs.Seek.{seek}
 use Rattle.spans.specs.Spans.{spans, unfinished}
+use Rattle.spans.specs.Account.{clearedOf, cleared, left, takenIn}
 use Rattle.spans.specs.Parts.{bit, tallyAll, Room}
 use Rattle.spans.specs.Bytewise.{Quiet, AllQuiet}
 use Rattle.spans.specs.declared.Tally.{Tally}
@@ -33,6 +35,10 @@ keysTo w p (suc i) = cond (eqb (dlciAt w p i) (p .dlci)) (keysTo w p i ++ (tailA
 
 unfoldable pub liveTo : List ℕ → Plan → ℕ → ℕ
 liveTo w p i = count (λ k. ltb 0 (heldIn w p i (p .dlci ∷ k))) (nub (keysTo w p i))
+
+-- how many bytes these hold
+unfoldable pub leftTo : List ℕ → Plan → ℕ → ℕ
+leftTo w p i = total (λ k. heldIn w p i (p .dlci ∷ k)) (nub (keysTo w p i))
 
 -- 1 if something is held
 unfoldable pub sign : ℕ → ℕ
@@ -62,6 +68,10 @@ pub record CountPre (f w : List ℕ) (p : Plan) (i : ℕ) (s : Sums) : Type 0 wh
   pub bytes : s .tally .bytes ≤ 15728640 * i
   pub few : s .unfinished ≤ i
   pub live : s .unfinished ≡ liveTo w p i
+  pub taken : s .taken ≤ 65535 * i
+  pub cleared : s .cleared ≤ 1048576 * i
+  pub most : s .left ≤ 65536 * i
+  pub holds : s .left ≡ leftTo w p i
 
 -- h bytes are held of its key
 pub record CountHeld (f w : List ℕ) (p : Plan) (i h : ℕ) (t : Tally) : Type 0 where
@@ -98,12 +108,22 @@ pub record Stepped (f w : List ℕ) (p : Plan) (i : ℕ) (s : Sums) (u : List �
   pub bytes : r .tally .bytes ≤ 15728640 * (i + 1)
   pub few : r .unfinished ≤ i + 1
   pub live : r .unfinished ≡ liveTo u p (i + 1)
+  pub takes : r .taken ≡ s .taken + lenAt w p i
+  pub clears : r .cleared ≡ s .cleared + clearedOf (restOf (joined f w p i))
+  pub holds : r .left ≡ leftTo u p (i + 1)
+  pub taken : r .taken ≤ 65535 * (i + 1)
+  pub cleared : r .cleared ≤ 1048576 * (i + 1)
+  pub most : r .left ≤ 65536 * (i + 1)
 
--- how many spans the DLCI's pieces have, the bytes of their list, whether one unpacks, and the buffers that are not empty
+-- how many spans the DLCI's pieces have, the bytes of their list, whether one unpacks, the buffers that are not empty, and the bytes taken in,
+-- cleared, and left in buffers
 pub record CountIs (f w : List ℕ) (p : Plan) (u : List ℕ) (r : Sums) : Type 0 where
   pub count : r .tally .count ≡ length (spans (all f w p))
   pub bytes : r .tally .bytes ≡ length (spanList (spans (all f w p)))
   pub frame : r .tally .frame ≡ bit (any (λ s. unpacksOf (s .wire)) (spans (all f w p)))
   pub live : r .unfinished ≡ unfinished (all f w p)
+  pub takes : r .taken ≡ takenIn (all f w p)
+  pub clears : r .cleared ≡ cleared (all f w p)
+  pub holds : r .left ≡ left (all f w p)
   pub front : Front (4 * p .held) u w
   pub told : AllTold f u p (p .n)

@@ -37,10 +37,14 @@ fn note(w: &mut [u8], p: Plan, i: usize, r: u32, e: u32)
     put32(w, p.ends + i, e);
 }
 
-// What is counted: the spans, and how many buffers are not empty.
+// What is counted: the spans, how many buffers are not empty, the bytes of the pieces taken in, those cleared over the limit, and
+// those left in buffers.
 pub struct Sums {
     pub tally: Tally,
     pub unfinished: usize,
+    pub taken: usize,
+    pub cleared: usize,
+    pub left: usize,
 }
 
 // 1 if something is held.
@@ -119,18 +123,23 @@ fn count_piece(file: &[u8], w: &mut [u8], p: Plan, i: usize, s: Sums) -> Sums
     ensures { λ r. ⌜ Stepped (now (file .entry)) (now (w .entry)) p i s (now (w .exit)) r ⌝ }
 {
     let h = held_before(w, p, i);
+    let m = length_of(w, p, i);
     let t = s.tally;
     let c = count_behind(file, w, p, i, h, t);
     let r = capped(c.rest);
     note(w, p, i, r, c.end as u32);
     let sum = c.tally;
+    let held = r as usize;
     Sums {
         tally: sum,
         unfinished: count_open(s.unfinished, r, h),
+        taken: s.taken + m,
+        cleared: s.cleared + (c.rest - held),
+        left: s.left + held - h,
     }
 }
 
-// Counts the spans of the DLCI, and its buffers that are not empty at the end.
+// Counts the spans of the DLCI, its buffers that are not empty at the end, and its bytes.
 pub fn count_spans(file: &[u8], w: &mut [u8], p: Plan) -> Sums
     requires { ⌜ Laid (now file) (now w) p ⌝ }
     ensures { λ r. ⌜ CountIs (now (file .entry)) (now (w .entry)) p (now (w .exit)) r ⌝ }
@@ -146,6 +155,9 @@ pub fn count_spans(file: &[u8], w: &mut [u8], p: Plan) -> Sums
     let mut s = Sums {
         tally: none,
         unfinished: 0,
+        taken: 0,
+        cleared: 0,
+        left: 0,
     };
     let mut i = 0;
     while i < n {

@@ -1,4 +1,4 @@
--- Import: the DLCI chosen, its spans, how many buffers are unfinished, the tail offset, and its frames with a wrong FCS; or a refusal.
+-- Import: the DLCI chosen, its spans, how many buffers are unfinished, the tail offset, its frames with a wrong FCS, and where its bytes went; or a refusal.
 use Prim.Native.Nat.{ℕ, _*_, _/_}
 use mathlib.Core.Bool.{Bool, true, false, cond, _&&_}
 use mathlib.Core.List.{List, [], _∷_, map}
@@ -14,6 +14,7 @@ use Rattle.channels.specs.Channels.{any}
 use Rattle.channels.specs.Tried.{source}
 use Rattle.rfcomm.specs.Pieces.{Judging, unchecked, Judged, judgedBy, kinds, wrongOn, Piece, pieces}
 use Rattle.spans.specs.Spans.{spans, unfinished, onDlci}
+use Rattle.spans.specs.Account.{Account, accountOf, accountValues}
 
 pub data Tail : Type 0 where
   strict tolerant : Tail
@@ -57,6 +58,8 @@ pub record Finding : Type 0 where
   pub tail : ℕ
   -- UIH frames with a wrong FCS, where it is checked
   pub wrong : ℕ
+  -- where the bytes of its pieces went
+  pub account : Account
 
 pub data Found : Type 0 where
   found : Finding → Found
@@ -65,7 +68,7 @@ pub data Found : Type 0 where
 -- of these pieces, with so many wrong frames on each DLCI; 6 where no DLCI is chosen
 unfoldable pub listed : List Piece → (ℕ → ℕ) → ℕ → Option ℕ → Found
 listed ps wrongs tail none = missing 6 []
-listed ps wrongs tail (some d) = found (record { dlci = d; spans = spans (onDlci d ps); unfinished = unfinished (onDlci d ps); tail = tail; wrong = wrongs d })
+listed ps wrongs tail (some d) = found (record { dlci = d; spans = spans (onDlci d ps); unfinished = unfinished (onDlci d ps); tail = tail; wrong = wrongs d; account = accountOf (onDlci d ps) })
 
 -- ---- a file of a container
 
@@ -99,9 +102,9 @@ module _ (C : Container) where
       (missing (C .untaken) (C .linkType f ∷ [])))
       (missing (C .foreign) [])
 
--- DLCI, frames, unfinished, tail offset, bytes written, frames with a wrong FCS; and the list
+-- DLCI, frames, unfinished, tail offset, bytes written, frames with a wrong FCS, the four numbers of the account; and the list
 unfoldable pub given : Found → Outcome
-given (found x) = gives (x .dlci ∷ length (x .spans) ∷ x .unfinished ∷ x .tail ∷ length (spanList (x .spans)) ∷ x .wrong ∷ []) (spanList (x .spans))
+given (found x) = gives (x .dlci ∷ length (x .spans) ∷ x .unfinished ∷ x .tail ∷ length (spanList (x .spans)) ∷ x .wrong ∷ accountValues (x .account)) (spanList (x .spans))
 given (missing n vs) = refuses n vs
 
 -- 1: over 1,048,576 bytes

@@ -1,5 +1,5 @@
 -- The DLCI chosen, with what is counted of it; and what the call that lists its spans answers.
-use Prim.Native.Nat.{ℕ, _+_, _*_, _/_, _<_, _≤_}
+use Prim.Native.Nat.{ℕ, _+_, _-_, _*_, _/_, _<_, _≤_}
 use mathlib.Core.Path.{_≡_}
 use mathlib.Core.List.{List, [], _∷_}
 use mathlib.Core.Option.{Option, none, some}
@@ -10,9 +10,11 @@ use Rattle.items.specs.Items.{spanList}
 use Rattle.rfcomm.specs.Pieces.{Piece}
 use Rattle.rfcomm.specs.PieceTable.{piecesFrom, Pieced}
 use Rattle.spans.specs.Spans.{spans, unfinished, onDlci}
+use Rattle.spans.specs.Account.{inSpans, dropped, cleared, left}
 use Rattle.split.specs.Rows.{all, Linked, Laid}
 use Rattle.split.specs.Walks.{AllTold}
 use Rattle.split.specs.declared.Plan.{Plan}
+use Rattle.measuring.specs.declared.Sums.{Sums}
 use Rattle.outcome.specs.Import.{chosen, listed, given}
 use Rattle.streams.specs.declared.Channel.{Channel}
 use Rattle.streams.specs.declared.Channel.the-variants.{Any, Only}
@@ -51,12 +53,34 @@ below f n = 4 * (6 * (length f / 4) + n)
 
 -- ---- the choice
 
+-- sums from which the account can be reckoned: no difference passes 0
+pub record Accountable (d : ℕ) (s : Sums) : Type 0 where
+  pub small : d < 256
+  pub listed : 14 * s .tally .count ≤ s .tally .bytes
+  pub taken : s .tally .bytes + s .cleared + s .left ≤ s .taken + 14 * s .tally .count
+
+unfoldable pub streamSummed : ℕ → Sums → Stream
+streamSummed d s = record {
+  dlci = d;
+  spans = s .tally .count;
+  bytes = s .tally .bytes;
+  unfinished = s .unfinished;
+  in_spans = s .tally .bytes - 14 * s .tally .count;
+  dropped = s .taken - (s .tally .bytes - 14 * s .tally .count) - s .cleared - s .left;
+  cleared = s .cleared;
+  left = s .left;
+}
+
 unfoldable pub streamOf : List Piece → ℕ → Stream
 streamOf ps d = record {
   dlci = d;
   spans = length (spans (onDlci d ps));
   bytes = length (spanList (spans (onDlci d ps)));
   unfinished = unfinished (onDlci d ps);
+  in_spans = inSpans (onDlci d ps);
+  dropped = dropped (onDlci d ps);
+  cleared = cleared (onDlci d ps);
+  left = left (onDlci d ps);
 }
 
 unfoldable pub choiceOf : List Piece → Option ℕ → Choice
@@ -72,12 +96,12 @@ pub record Chooses (f w : List ℕ) (n : ℕ) (channel : Channel) (u : List ℕ)
 
 -- ---- the list
 
--- 6, 7, or DLCI, spans, unfinished, the tail offset, the bytes written, and the wrong frames of the DLCI. The caller knows the tail offset, and
--- the wrong frames on each DLCI.
+-- 6, 7, or DLCI, spans, unfinished, the tail offset, the bytes written, the wrong frames of the DLCI, and where its bytes went. The caller knows
+-- the tail offset, and the wrong frames on each DLCI.
 unfoldable pub told : ℕ → (ℕ → ℕ) → Listed → Answer
 told tail wrongs NoStream = refused 6 []
 told tail wrongs (OutShort n) = refused 7 (n ∷ [])
-told tail wrongs (Spans s) = accepted (s .dlci ∷ s .spans ∷ s .unfinished ∷ tail ∷ s .bytes ∷ wrongs (s .dlci) ∷ [])
+told tail wrongs (Spans s) = accepted (s .dlci ∷ s .spans ∷ s .unfinished ∷ tail ∷ s .bytes ∷ wrongs (s .dlci) ∷ s .in_spans ∷ s .dropped ∷ s .cleared ∷ s .left ∷ [])
 
 -- what stands in work for the DLCI d, chosen for the pieces ps: a table of n pieces that has its pieces, linked, and their words
 pub record Leaves (f : List ℕ) (ps : List Piece) (channel : Option ℕ) (n : ℕ) (u : List ℕ) (d : ℕ) : Type 0 where

@@ -3,7 +3,7 @@ ghost use mathlib.Core.Path.{_≡_};
 ghost use Prim.Native.Nat.{_*_, _/_, _≤_, _<_};
 ghost use lib.ListN.{length, getD, set};
 ghost use Rattle.outcome.specs.Import.{onChannel};
-ghost use Rattle.streams.specs.Streams.{channelOf, planOf, Tabled, Ready, Chooses, ListsSpans};
+ghost use Rattle.streams.specs.Streams.{channelOf, planOf, Tabled, Ready, Accountable, streamSummed, Chooses, ListsSpans};
 use measuring::Sums;
 use measuring::count_spans;
 use spans::Tally;
@@ -18,12 +18,17 @@ pub enum Channel {
     Only(u8),
 }
 
-// A DLCI with what is counted of it: its spans, the bytes of their list, and its buffers that are not empty at the end.
+// A DLCI with what is counted of it: its spans, the bytes of their list, its buffers that are not empty at the end, and where
+// the bytes of its pieces went.
 pub struct Stream {
     pub dlci: u8,
     pub spans: usize,
     pub bytes: usize,
     pub unfinished: usize,
+    pub in_spans: usize,
+    pub dropped: usize,
+    pub cleared: usize,
+    pub left: usize,
 }
 
 pub enum Choice {
@@ -77,6 +82,26 @@ pub fn plan(q: usize, n: usize, dlci: u32) -> Plan
     }
 }
 
+// A DLCI with what is counted of it. In spans is what their list has beside the 14 bytes before each wire; dropped is what of the
+// bytes taken in is in no span, was not cleared and is not left.
+fn stream_of(dlci: u32, s: Sums) -> Stream
+    requires { ⌜ Accountable dlci s ⌝ }
+    ensures { λ r. ⌜ r ≡ streamSummed dlci s ⌝ }
+{
+    let t = s.tally;
+    let in_spans = t.bytes - 14 * t.count;
+    Stream {
+        dlci: dlci as u8,
+        spans: t.count,
+        bytes: t.bytes,
+        unfinished: s.unfinished,
+        in_spans,
+        dropped: s.taken - in_spans - s.cleared - s.left,
+        cleared: s.cleared,
+        left: s.left,
+    }
+}
+
 // The first DLCI seen, on the channel, that has a span which unpacks.
 pub fn choose_dlci(file: &[u8], w: &mut [u8], n: usize, channel: Channel) -> Choice
     requires { ⌜ Ready (now file) (now w) n ⌝ }
@@ -95,12 +120,7 @@ pub fn choose_dlci(file: &[u8], w: &mut [u8], n: usize, channel: Channel) -> Cho
                 let s = count_spans(file, w, p);
                 let t = s.tally;
                 if t.frame == 1 {
-                    let found = Stream {
-                        dlci: d as u8,
-                        spans: t.count,
-                        bytes: t.bytes,
-                        unfinished: s.unfinished,
-                    };
+                    let found = stream_of(d, s);
                     return Choice::Chosen(found);
                 }
             }
@@ -109,7 +129,7 @@ pub fn choose_dlci(file: &[u8], w: &mut [u8], n: usize, channel: Channel) -> Cho
     Choice::Nothing
 }
 
-// What the call answers: 6 and 7 by number, or the DLCI with its spans, unfinished, and the bytes written.
+// What the call answers: 6 and 7 by number, or the DLCI with what is counted of it.
 pub enum Listed {
     NoStream,
     OutShort(usize),
