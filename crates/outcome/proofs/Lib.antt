@@ -1,2 +1,3 @@
 pub mod Import
 pub mod Examples
+pub mod Account
