@@ -56,7 +56,7 @@ left-none b f o r n u x = record { at = λ s g. absurd (x s g) }
 record Back (tail : ℕ) (wrongs : ℕ → ℕ) (l : Listed) (vs : List ℕ) : Type 0 where
   pub stream : Stream
   pub is : l ≡ SpansListed stream
-  pub values : stream .dlci ∷ stream .spans ∷ stream .unfinished ∷ tail ∷ stream .bytes ∷ wrongs (stream .dlci) ∷ [] ≡ vs
+  pub values : stream .dlci ∷ stream .spans ∷ stream .unfinished ∷ tail ∷ stream .bytes ∷ wrongs (stream .dlci) ∷ stream .in_spans ∷ stream .dropped ∷ stream .cleared ∷ stream .left ∷ [] ≡ vs
 
 told-back : (tail : ℕ) (wrongs : ℕ → ℕ) (l : Listed) (vs : List ℕ) → told tail wrongs l ≡ accepted vs → Back tail wrongs l vs
 unfolding told
@@ -77,7 +77,7 @@ module _ (tail : ℕ) (wrong : List ℕ) (l : Listed) where
 
   pub told-spans :
       (s : Stream) → l ≡ SpansListed s → (n : ℕ) → n ≡ getD wrong (s .dlci) 0 →
-      toldImported (Spans (record { dlci = s .dlci; frames = s .spans; unfinished = s .unfinished; tail = tail; written = s .bytes; wrong = n })) ≡ told tail (countOf wrong) l
+      toldImported (Spans (record { dlci = s .dlci; frames = s .spans; unfinished = s .unfinished; tail = tail; written = s .bytes; wrong = n; in_spans = s .in_spans; dropped = s .dropped; cleared = s .cleared; left = s .left })) ≡ told tail (countOf wrong) l
   unfolding told
   told-spans s e n en = rw (e, en)
 

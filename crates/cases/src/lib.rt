@@ -51,7 +51,7 @@ fn run(s: &[u8], c: Call, work: &mut [u8], out: &mut [u8], values: &mut [u64]) -
 // Whether the call of a case answers what the case says, and leaves what it does not write.
 fn is_same(s: &[u8], c: Call, a: Answer, work: &mut [u8], out: &mut [u8]) -> bool {
     fill(out);
-    let mut values = [UNTOUCHED; 8];
+    let mut values = [UNTOUCHED; 12];
     let number = run(s, c, work, out, &mut values);
     is_answer(s, a, number, &values, out)
 }

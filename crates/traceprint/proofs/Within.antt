@@ -90,7 +90,7 @@ accepts (refuses n us) d vs e m = not-accepted (m .answers)
 -- their number is among the values that import answers
 
 abbrev valuesOf : Summary → List ℕ
-valuesOf s = s .dlci ∷ s .frames ∷ s .unfinished ∷ s .tail ∷ s .written ∷ s .wrong ∷ []
+valuesOf s = s .dlci ∷ s .frames ∷ s .unfinished ∷ s .tail ∷ s .written ∷ s .wrong ∷ s .in_spans ∷ s .dropped ∷ s .cleared ∷ s .left ∷ []
 
 found-written : (x : Found) (s : Summary) (w : List ℕ) → import.given x ≡ gives (valuesOf s) w → s .written ≡ length w
 unfolding import.given
