@@ -1,18 +1,18 @@
 -- The walk that counts.
-use Prim.Native.Nat.{ℕ, suc, _+_, _-_, _*_, _<_, _≤_}
+use Prim.Native.Nat.{ℕ, _+_, _-_, _*_, _<_, _≤_}
 use mathlib.Core.Path.{_≡_, refl, sym, ap, _∙_, fun-ext}
-use mathlib.Core.Bool.{Bool, true, false, cond, _||_}
+use mathlib.Core.Bool.{Bool, true, false, cond}
 use mathlib.Core.List.{List, [], _∷_, _++_, append-nil, append-assoc, map}
 use native.Mathlib.Omega.{arith}
 use native.Mathlib.Numerals.{add-one}
+use native.Mathlib.Nat.{zero-add, add-zero}
 use lib.ListN.{length, take, drop, length-append}
 use lib.Dec.{eqb, ltb}
 use borrow.Author.Tests.{eq-eqb, ne-eqb}
 use Rattle.laws.proofs.Choice.{splitB, split≡, no-way}
-use Rattle.laws.specs.Keys.{Key}
 use Rattle.laws.specs.Keyed.{step, run, after}
-use Rattle.laws.specs.Count.{count, nub}
-use Rattle.words.specs.Words.{word}
+use Rattle.laws.specs.Count.{nub}
+use Rattle.laws.specs.Totals.{total}
 use Rattle.words.specs.Front.{Front}
 use Rattle.words.proofs.Front.{front-refl, front-then}
 use Rattle.items.specs.Items.{Span, spanItem, spanList}
@@ -26,23 +26,25 @@ use Rattle.spans.specs.Parts.{tagged, bit, tallyOne, tallyAll, Room, CountedIs}
 use Rattle.spans.specs.Bytewise.{AllQuiet}
 use Rattle.spans.proofs.Bytewise.{quiet-emptied}
 use Rattle.spans.specs.Scans.{ScanPre, ScannedIs}
-use Rattle.spans.proofs.Scans.{seek-le, silent, silent-rest}
+use Rattle.spans.specs.Account.{cleared, left, takenIn}
+use Rattle.spans.proofs.Scans.{seek-le, rest-le, silent, silent-rest}
 use Rattle.spans.specs.declared.Tally.{Tally}
 use Rattle.spans.specs.declared.Counted.{Counted}
 use Rattle.spans.specs.declared.Scanned.{Scanned}
 use Rattle.split.specs.Last.{lastn}
 use Rattle.split.specs.Rows.{piece, dlciAt, tailAt, lenAt, bytesAt, heldIn, heldOf, streamOf, streamTo, opened, Fits, joined, cappedLength, ahead, all, Laid}
-use Rattle.split.specs.Walks.{Row, JoinPre, Joined, Kept, AllTold, Moved}
+use Rattle.split.specs.Walks.{Joined, Kept, AllTold, Moved}
 use Rattle.split.specs.declared.Plan.{Plan}
 use Rattle.split.proofs.Fronts.{dlci-front, tail-front, bytes-front, laid-front}
-use Rattle.split.proofs.Lasts.{length-lastn}
-use Rattle.split.proofs.Tables.{laid-row, length-bytes}
+use Rattle.split.proofs.Lasts.{length-lastn, capped-le}
+use Rattle.split.proofs.Tables.{length-bytes}
 use Rattle.split.proofs.Steps.{own-key, own-fits, length-joined, joined-small, joined-kept, moved-opens, moved-quiet, moved-fits, joined-front, in-area}
 use Rattle.split.proofs.Aheads.{opened-none, ahead-none, next-run, next-after, next-keys, ahead-skip, opened-skip, fits-skip}
-use Rattle.measuring.specs.Counting.{keysTo, liveTo, sign, Noted, OpenPre, CountPre, CountHeld, Known, Behind, Stepped, CountIs}
+use Rattle.measuring.specs.Counting.{keysTo, heldTo, sign, liveTo, leftTo, Noted, AddPre, added, SumsTo, CountPre, CountHeld, Known, Behind, Stepped, CountIs}
 use Rattle.measuring.specs.declared.Sums.{Sums}
-use Rattle.measuring.proofs.Counts.{sign-le}
-use Rattle.measuring.proofs.Steps.{kept-over, all-told, keys-front, keys-skip, live-skip, moved-live}
+use Rattle.measuring.proofs.Counts.{count-total, sign-zero, sign-le}
+use Rattle.measuring.proofs.Accounts.{cleared-rest, clearedFrom, next-taken, next-cleared}
+use Rattle.measuring.proofs.Steps.{kept-over, all-told, keys-front, keys-skip, sums-skip, moved-sums}
 
 -- ---- what is counted of a list of spans
 
@@ -154,8 +156,10 @@ module _ (f w : List ℕ) (p : Plan) (i h : ℕ) (t : Tally) (q : CountHeld f w 
               bytes = omega (arith, y .bytes, ap length behind, length-append held (bytesAt f w p i), held-long, own-long);
             }
 
-  pub behind-join : JoinPre f w p i h
-  behind-join = record { laid = q .laid; row = q .row; held = q .holds; fits = q .come }
+pub added-is : (s : Sums) (t : Tally) (m h n r o : ℕ) → o ≡ s .unfinished + sign r - sign h →
+    record { tally = t; unfinished = o; taken = s .taken + m; cleared = s .cleared + (n - r); left = s .left + r - h } ≡ added s t m h n r
+unfolding added
+added-is s t m h n r o e = rw e
 
 module _ (f w : List ℕ) (p : Plan) (i : ℕ) (s : Sums) (q : CountPre f w p i s) (h : ℕ) (eh : h ≡ heldOf w p i) where
   fits : heldOf w p i ≤ length (streamTo f w p i)
@@ -172,13 +176,10 @@ module _ (f w : List ℕ) (p : Plan) (i : ℕ) (s : Sums) (q : CountPre f w p i 
     holds = eh;
     come = rw eh fits;
     quiet = rw eh (rw (← own-key w p i (q .own)) at (q .quiet .at (tailAt w p i)));
-    room = record { fewer = q .fewer; bytes = omega (arith, q .bytes, q .row, q .laid .many, small) };
+    room = record { fewer = q .sums .fewer; bytes = omega (arith, q .sums .bytes, q .row, q .laid .many, small) };
   }
 
   module _ (v : List ℕ) (c : Scanned) (b : Behind f w p i h (s .tally) v c) (lv : length v ≡ length w) where
-    pub count-row : Row v p i
-    count-row = (let g = laid-row f w p i (q .laid) (q .row) in record { rows = g .rows; ends = g .ends; words = rw lv (g .words); row = g .row })
-
     module _ (r : ℕ) (er : r ≡ cappedLength (c .rest)) (u : List ℕ) (n : Noted v p i r (c .end) u) where
       kept : Kept w p i u
       kept = kept-over f w p i (q .laid) (q .row) v u lv (b .front) (n .kept)
@@ -192,21 +193,52 @@ module _ (f w : List ℕ) (p : Plan) (i : ℕ) (s : Sums) (q : CountPre f w p i 
         };
       }
 
+      held-moved : (g : ℕ → ℕ) → g 0 ≡ 0 → heldTo g u p (i + 1) + g h ≡ heldTo g w p i + g r
+      held-moved g z = rw (eh, ← n .holds) (moved-sums f w p i (q .laid) (q .row) fits u moves (q .own) g z)
+
       lives : liveTo u p (i + 1) + sign h ≡ s .unfinished + sign r
-      lives = rw (eh, q .live, ← n .holds) (moved-live f w p i (q .laid) (q .row) fits u moves (q .own))
+      lives = rw (q .sums .live) (held-moved sign (sym (sign-zero 0 (omega arith))))
 
-      pub count-less : OpenPre (s .unfinished) r h
-      count-less = record { few = omega (arith, q .few, q .row, q .laid .many); less = omega (arith, lives) }
+      lefts : leftTo u p (i + 1) + h ≡ s .left + r
+      lefts = rw (q .sums .left) (held-moved (λ n. n) refl)
 
-      pub count-stepped : (o : ℕ) → o ≡ s .unfinished + sign r - sign h → Stepped f w p i s u (record { tally = c .tally; unfinished = o })
-      count-stepped o eo = record {
-        moves = moves;
-        all = b .all;
-        fewer = b .fewer;
-        bytes = omega (arith, b .bytes, q .bytes, small);
-        few = omega (arith, q .few, sign-le r);
-        live = omega (arith, lives);
-      }
+      part : r ≤ c .rest
+      part = omega (arith, er, capped-le (c .rest))
+
+      rest : c .rest ≤ 1048576
+      rest = omega (arith, b .left, rest-le (joined f w p i), joined-small f w p i (q .laid) (q .row) fits .0)
+
+      pub count-add : (m : ℕ) → m ≡ lenAt w p i → AddPre s m h (c .rest) r
+      count-add m em =
+          let few : i < 1048576 = omega (arith, q .row, q .laid .many) in
+          record {
+            live = record { few = omega (arith, q .sums .few); less = omega (arith, lives) };
+            part = part;
+            held = omega (arith, lefts);
+            taken = omega (arith, q .sums .taken, small);
+            cleared = omega (arith, q .sums .cleared, rest);
+            left = omega (arith, q .sums .most, part, rest);
+          }
+
+      pub count-stepped : (m : ℕ) → m ≡ lenAt w p i → (o : Sums) → o ≡ added s (c .tally) m h (c .rest) r → Stepped f w p i s u o
+      unfolding added
+      count-stepped m em o eo =
+          rw eo (record {
+            moves = moves;
+            sums = record {
+              fewer = b .fewer;
+              bytes = omega (arith, b .bytes, q .sums .bytes, small);
+              few = omega (arith, q .sums .few, sign-le r);
+              live = omega (arith, lives);
+              taken = omega (arith, q .sums .taken, small);
+              cleared = omega (arith, q .sums .cleared, rest);
+              most = omega (arith, q .sums .most, part, rest);
+              left = omega (arith, lefts);
+            };
+            all = b .all;
+            takes = rw em;
+            clears = rw (er, b .left, cleared-rest (restOf (joined f w p i)));
+          })
 
 -- ---- all pieces
 
@@ -217,17 +249,16 @@ pub record CountingTo (f w₀ : List ℕ) (p : Plan) (w : List ℕ) (i : ℕ) (s
   pub front : Front (4 * p .held) w w₀
   pub fits : Fits f w p i
   pub quiet : AllQuiet (opened f w p i)
-  pub fewer : s .tally .count ≤ s .tally .bytes
-  pub bytes : s .tally .bytes ≤ 15728640 * i
-  pub few : s .unfinished ≤ i
-  pub live : s .unfinished ≡ liveTo w p i
+  pub sums : SumsTo w p i s
   pub tallied : tallySpans (s .tally) (run scanner (opened f w p i) (ahead f w p i)) ≡ tallySpans nothing (spans (all f w₀ p))
+  pub takes : s .taken + takenIn (ahead f w p i) ≡ takenIn (all f w₀ p)
+  pub clears : s .cleared + clearedFrom (opened f w p i) (ahead f w p i) ≡ cleared (all f w₀ p)
   pub ends : after scanner (opened f w p i) (ahead f w p i) ≡ after scanner emptied (all f w₀ p)
   pub keys : keysTo w p i ++ map (λ x. x .key) (ahead f w p i) ≡ map (λ x. x .key) (all f w₀ p)
   pub told : AllTold f w p i
 
-pub counting-start : (f w : List ℕ) (p : Plan) → Laid f w p → CountingTo f w p w 0 (record { tally = record { count = 0; bytes = 0; frame = 0 }; unfinished = 0 })
-unfolding nothing spans liveTo keysTo nub count heldIn
+pub counting-start : (f w : List ℕ) (p : Plan) → Laid f w p → CountingTo f w p w 0 (record { tally = record { count = 0; bytes = 0; frame = 0 }; unfinished = 0; taken = 0; cleared = 0; left = 0 })
+unfolding nothing spans heldTo keysTo nub total heldIn cleared
 counting-start f w p l =
     let z : p .n - 0 ≡ p .n = omega arith in
     record {
@@ -237,11 +268,10 @@ counting-start f w p l =
       front = front-refl (4 * p .held) w;
       fits = record { at = λ k. omega arith };
       quiet = rw (opened-none f w p) quiet-emptied;
-      fewer = omega arith;
-      bytes = omega arith;
-      few = omega arith;
-      live = refl;
+      sums = record { fewer = omega arith; bytes = omega arith; few = omega arith; live = refl; taken = omega arith; cleared = omega arith; most = omega arith; left = refl };
       tallied = rw (z, opened-none f w p);
+      takes = rw z (zero-add (takenIn (all f w p)));
+      clears = rw (z, opened-none f w p) (zero-add (clearedFrom emptied (all f w p)));
       ends = rw (z, opened-none f w p);
       keys = rw z;
       told = record { at = λ i h. absurd (omega arith) };
@@ -250,7 +280,7 @@ counting-start f w p l =
 module _ (f w₀ : List ℕ) (p : Plan) (w : List ℕ) (i : ℕ) (s : Sums) (v : CountingTo f w₀ p w i s) where
   module _ (h : i < p .n) (x : ℕ) (ex : x ≡ dlciAt w p i) where
     pub counting-pre : x ≡ p .dlci → CountPre f w p i s
-    counting-pre d = record { laid = v .laid; row = h; own = sym ex ∙ d; fits = v .fits; quiet = v .quiet; fewer = v .fewer; bytes = v .bytes; few = v .few; live = v .live }
+    counting-pre d = record { laid = v .laid; row = h; own = sym ex ∙ d; fits = v .fits; quiet = v .quiet; sums = v .sums }
 
     pub counting-turn : x ≡ p .dlci → (u : List ℕ) (r : Sums) → Stepped f w p i s u r → CountingTo f w₀ p u (i + 1) r
     unfolding keysTo
@@ -268,11 +298,10 @@ module _ (f w₀ : List ℕ) (p : Plan) (w : List ℕ) (i : ℕ) (s : Sums) (v :
           front = front-then (4 * p .held) u w w₀ F (v .front);
           fits = moved-fits f w p i (v .laid) h x u m d (v .fits);
           quiet = moved-quiet f w p i (v .laid) h x u m d (v .quiet);
-          fewer = t .fewer;
-          bytes = t .bytes;
-          few = t .few;
-          live = t .live;
+          sums = t .sums;
           tallied = rw (t .all, ← tally-tagged (s .tally) (piece f w p i .rx) (piece f w p i .time) (spansOf (joined f w p i)) R, ← next-run f w p i h d u (v .laid) F k) (v .tallied);
+          takes = omega (arith, t .takes, next-taken f w p i h d u (v .laid) F k, v .takes);
+          clears = omega (arith, t .clears, next-cleared f w p i h d u (v .laid) F k, v .clears);
           ends = sym (next-after f w p i h d u (v .laid) F k) ∙ v .ends;
           keys = rw (
             add-one i,
@@ -287,6 +316,18 @@ module _ (f w₀ : List ℕ) (p : Plan) (w : List ℕ) (i : ℕ) (s : Sums) (v :
           told = all-told f u w p (v .laid) i h (m .kept) (v .told) (m .told);
         }
 
+    sums-next : (dlciAt w p i ≡ p .dlci → ⊥) → SumsTo w p (i + 1) s
+    sums-next d = (let q : SumsTo w p i s = v .sums in record {
+      fewer = q .fewer;
+      bytes = omega (arith, q .bytes);
+      few = omega (arith, q .few);
+      live = q .live ∙ sym (sums-skip f w p i h d sign);
+      taken = omega (arith, q .taken);
+      cleared = omega (arith, q .cleared);
+      most = omega (arith, q .most);
+      left = q .left ∙ sym (sums-skip f w p i h d (λ n. n));
+    })
+
     pub counting-skip : (x ≡ p .dlci → ⊥) → CountingTo f w₀ p w (i + 1) s
     counting-skip e =
         let d : dlciAt w p i ≡ p .dlci → ⊥ = λ z. e (ex ∙ z) in
@@ -297,26 +338,36 @@ module _ (f w₀ : List ℕ) (p : Plan) (w : List ℕ) (i : ℕ) (s : Sums) (v :
           front = v .front;
           fits = fits-skip f w p i h d (v .fits);
           quiet = rw (opened-skip f w p i h d) (v .quiet);
-          fewer = v .fewer;
-          bytes = omega (arith, v .bytes);
-          few = omega (arith, v .few);
-          live = v .live ∙ sym (live-skip f w p i h d);
+          sums = sums-next d;
           tallied = rw (ahead-skip f w p i h d, ← opened-skip f w p i h d) at (v .tallied);
+          takes = rw (ahead-skip f w p i h d) at (v .takes);
+          clears = rw (ahead-skip f w p i h d, ← opened-skip f w p i h d) at (v .clears);
           ends = rw (ahead-skip f w p i h d, ← opened-skip f w p i h d) at (v .ends);
           keys = rw (ahead-skip f w p i h d, ← keys-skip f w p i h d) at (v .keys);
           told = record { at = λ j g z. split≡ j i (λ y. absurd (d (rw y at z))) (λ y. v .told .at j (omega arith) z) };
         }
 
-  pub counting-end : p .n ≤ i → CountIs f w₀ p w s
-  unfolding unfinished liveTo run after tallySpans opened nothing
-  counting-end h =
-      let z : ahead f w p i ≡ [] = ahead-none f w p i h in
-      let t : s .tally ≡ tallySpans nothing (spans (all f w₀ p)) = rw z at (v .tallied) in
-      record {
-        count = ap (λ (x : Tally). x .count) t ∙ tally-count nothing (spans (all f w₀ p)) ∙ omega arith;
-        bytes = ap (λ (x : Tally). x .bytes) t ∙ tally-bytes nothing (spans (all f w₀ p)) ∙ omega arith;
-        frame = ap (λ (x : Tally). x .frame) t ∙ tally-frame nothing (spans (all f w₀ p));
-        live = v .live ∙ rw (← (rw z at (v .ends)), ← (rw (z, append-nil) at (v .keys)), fun-ext (λ k. ap (λ (n : ℕ). ltb 0 n) (length-lastn (heldIn w p i (p .dlci ∷ k)) (streamOf f w p i (p .dlci ∷ k)) (v .fits .at k))));
-        front = v .front;
-        told = (let y : i ≡ p .n = omega (arith, v .within) in rw y at (v .told));
-      }
+  module _ (h : p .n ≤ i) where
+    none : ahead f w p i ≡ []
+    none = ahead-none f w p i h
+
+    -- at the end the words have what the buffers hold
+    held-end : (g : ℕ → ℕ) → heldTo g w p i ≡ total (λ k. g (length (after scanner emptied (all f w₀ p) k))) (nub (map (λ x. x .key) (all f w₀ p)))
+    unfolding heldTo after opened
+    held-end g = rw (← (rw none at (v .ends)), ← (rw (none, append-nil) at (v .keys)), fun-ext (λ k. ap g (length-lastn (heldIn w p i (p .dlci ∷ k)) (streamOf f w p i (p .dlci ∷ k)) (v .fits .at k))))
+
+    pub counting-end : CountIs f w₀ p w s
+    unfolding unfinished left sign run total takenIn tallySpans nothing
+    counting-end =
+        let t : s .tally ≡ tallySpans nothing (spans (all f w₀ p)) = rw none at (v .tallied) in
+        record {
+          count = ap (λ (x : Tally). x .count) t ∙ tally-count nothing (spans (all f w₀ p)) ∙ omega arith;
+          bytes = ap (λ (x : Tally). x .bytes) t ∙ tally-bytes nothing (spans (all f w₀ p)) ∙ omega arith;
+          frame = ap (λ (x : Tally). x .frame) t ∙ tally-frame nothing (spans (all f w₀ p));
+          live = v .sums .live ∙ held-end sign ∙ sym (count-total (λ k. ltb 0 (length (after scanner emptied (all f w₀ p) k))) (nub (map (λ x. x .key) (all f w₀ p))));
+          takes = sym (add-zero (s .taken)) ∙ rw none at (v .takes);
+          clears = sym (add-zero (s .cleared)) ∙ rw none at (v .clears);
+          holds = v .sums .left ∙ held-end (λ n. n);
+          front = v .front;
+          told = (let y : i ≡ p .n = omega (arith, v .within) in rw y at (v .told));
+        }

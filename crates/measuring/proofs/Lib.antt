@@ -1,3 +1,4 @@
 pub mod Counts
+pub mod Accounts
 pub mod Steps
 pub mod Counting

@@ -1,17 +1,17 @@
--- The step of the machine by one piece, as counting makes it: the words of a piece, and how many keys hold something.
+-- The step of the machine by one piece, as counting makes it: the words of a piece, and what the keys hold.
 use Prim.Native.Nat.{ℕ, zero, suc, _+_, _*_, _<_, _≤_}
 use mathlib.Core.Path.{_≡_, refl, sym, ap, _∙_, fun-ext}
-use mathlib.Core.Bool.{true, false, cond}
+use mathlib.Core.Bool.{true, false}
 use mathlib.Core.List.{List, [], _∷_, _++_}
 use native.Mathlib.Omega.{arith}
 use native.Mathlib.Numerals.{add-one}
 use lib.ListN.{length}
-use lib.Dec.{eqb, ltb}
+use lib.Dec.{eqb}
 use borrow.Author.Tests.{eq-eqb, ne-eqb}
 use Rattle.laws.proofs.Choice.{splitB, split≡, no-way}
 use Rattle.laws.specs.Keys.{Key, eqK}
 use Rattle.laws.proofs.Keys.{eq-eqK, ne-eqK}
-use Rattle.laws.specs.Count.{mem, nub, count}
+use Rattle.laws.specs.Count.{mem}
 use Rattle.words.specs.Words.{word, putWord}
 use Rattle.words.proofs.Words.{length-put, word-put-same, word-put-other}
 use Rattle.words.specs.Front.{Front}
@@ -22,7 +22,7 @@ use Rattle.split.specs.declared.Plan.{Plan}
 use Rattle.split.proofs.Fronts.{dlci-front, tail-front, bytes-front}
 use Rattle.split.proofs.Steps.{own-key, joined-kept, held-mine, held-other, other-key}
 use Rattle.split.proofs.Aheads.{held-skip}
-use Rattle.measuring.specs.Counting.{keysTo, liveTo, sign, Noted}
+use Rattle.measuring.specs.Counting.{keysTo, heldTo, Noted}
 use Rattle.measuring.proofs.Counts.{again}
 
 -- ---- the words of a piece
@@ -79,9 +79,9 @@ module _ (f w : List ℕ) (p : Plan) (i : ℕ) (h : i < p .n) (d : dlciAt w p i 
   unfolding keysTo
   keys-skip = rw (add-one i, ne-eqb (dlciAt w p i) (p .dlci) d)
 
-  pub live-skip : liveTo w p (i + 1) ≡ liveTo w p i
-  unfolding liveTo
-  live-skip = rw (keys-skip, fun-ext (λ k. ap (λ (n : ℕ). ltb 0 n) (held-skip f w p i h d k)))
+  pub sums-skip : (g : ℕ → ℕ) → heldTo g w p (i + 1) ≡ heldTo g w p i
+  unfolding heldTo
+  sums-skip g = rw (keys-skip, fun-ext (λ k. ap g (held-skip f w p i h d k)))
 
 -- a key of the DLCI that no piece had holds nothing
 pub unseen : (w : List ℕ) (p : Plan) (i : ℕ) (k : Key) → mem k (keysTo w p i) ≡ false → heldIn w p i (p .dlci ∷ k) ≡ 0
@@ -104,11 +104,11 @@ unseen w p (suc i) k e =
           (λ e. no-way {b = true} refl (rw e at q))
           (λ e. rw e (mem-front xs x k (rw e at q)))
 
--- how many keys hold something
+-- what the keys hold, added up
 module _ (f w : List ℕ) (p : Plan) (i : ℕ) (l : Laid f w p) (o : i < p .n) (x : heldOf w p i ≤ length (streamTo f w p i)) (u : List ℕ) (m : Moved f w p i u) (d : dlciAt w p i ≡ p .dlci) where
-  pub moved-live : liveTo u p (i + 1) + sign (heldOf w p i) ≡ liveTo w p i + sign (word u (p .held + i))
-  unfolding liveTo keysTo sign
-  moved-live =
+  pub moved-sums : (g : ℕ → ℕ) → g 0 ≡ 0 → heldTo g u p (i + 1) + g (heldOf w p i) ≡ heldTo g w p i + g (word u (p .held + i))
+  unfolding heldTo keysTo
+  moved-sums g z =
       rw (
         add-one i,
         dlci-front f u w p l (m .kept .front) i o,
@@ -118,4 +118,4 @@ module _ (f w : List ℕ) (p : Plan) (i : ℕ) (l : Laid f w p) (o : i < p .n) (
         ← held-mine f w p i l o x u m,
         own-key w p i d,
       )
-      (again (λ k. ltb 0 (heldIn w p i (p .dlci ∷ k))) (λ k. ltb 0 (heldIn u p (suc i) (p .dlci ∷ k))) (tailAt w p i) (λ j n. rw (held-other f w p i l o x u m (p .dlci ∷ j) (other-key f w p i l o x u m d j n))) (keysTo w p i) (λ e. rw (unseen w p i (tailAt w p i) e)))
+      (again (λ k. g (heldIn w p i (p .dlci ∷ k))) (λ k. g (heldIn u p (suc i) (p .dlci ∷ k))) (tailAt w p i) (λ j n. rw (held-other f w p i l o x u m (p .dlci ∷ j) (other-key f w p i l o x u m d j n))) (keysTo w p i) (λ e. rw (unseen w p i (tailAt w p i) e) z))

@@ -4,7 +4,7 @@ ghost use mathlib.Core.Path.{_≡_};
 ghost use Prim.Native.Nat.{_+_, _-_};
 ghost use Rattle.split.specs.Rows.{cappedLength, Laid};
 ghost use Rattle.split.specs.Walks.{Row};
-ghost use Rattle.measuring.specs.Counting.{sign, Noted, OpenPre, Known, CountPre, CountHeld, JoinHeld, Behind, Stepped, CountIs};
+ghost use Rattle.measuring.specs.Counting.{sign, Noted, OpenPre, AddPre, added, Known, CountPre, CountHeld, JoinHeld, Behind, Stepped, CountIs};
 use spans::Scanned;
 use spans::Tally;
 use spans::count_part;
@@ -117,6 +117,21 @@ fn count_behind(file: &[u8], w: &mut [u8], p: Plan, i: usize, h: usize, t: Tally
     count_joined(file, w, p, i, h, t)
 }
 
+// The sums with a piece of m bytes more, whose spans are counted in t, and of whose rest of n bytes r are held where h were.
+fn add_piece(s: Sums, t: Tally, m: usize, h: usize, n: usize, r: u32) -> Sums
+    requires { ⌜ AddPre s m h n r ⌝ }
+    ensures { λ o. ⌜ o ≡ added s t m h n r ⌝ }
+{
+    let held = r as usize;
+    Sums {
+        tally: t,
+        unfinished: count_open(s.unfinished, r, h),
+        taken: s.taken + m,
+        cleared: s.cleared + (n - held),
+        left: s.left + held - h,
+    }
+}
+
 // Counts the spans that piece i brings.
 fn count_piece(file: &[u8], w: &mut [u8], p: Plan, i: usize, s: Sums) -> Sums
     requires { ⌜ CountPre (now file) (now w) p i s ⌝ }
@@ -129,14 +144,7 @@ fn count_piece(file: &[u8], w: &mut [u8], p: Plan, i: usize, s: Sums) -> Sums
     let r = capped(c.rest);
     note(w, p, i, r, c.end as u32);
     let sum = c.tally;
-    let held = r as usize;
-    Sums {
-        tally: sum,
-        unfinished: count_open(s.unfinished, r, h),
-        taken: s.taken + m,
-        cleared: s.cleared + (c.rest - held),
-        left: s.left + held - h,
-    }
+    add_piece(s, sum, m, h, c.rest, r)
 }
 
 // Counts the spans of the DLCI, its buffers that are not empty at the end, and its bytes.

@@ -35,11 +35,11 @@ ahead-none f w p i h = let z : p .n - i ≡ 0 = omega arith in rw z
 -- ---- the next piece
 
 module _ (f w : List ℕ) (p : Plan) (i : ℕ) (h : i < p .n) (d : dlciAt w p i ≡ p .dlci) where
-  ahead-own : ahead f w p i ≡ piece f w p i ∷ ahead f w p (i + 1)
+  pub ahead-own : ahead f w p i ≡ piece f w p i ∷ ahead f w p (i + 1)
   unfolding piecesFrom onDlci pieceAt
   ahead-own = let z : p .n - i ≡ suc (p .n - (i + 1)) = omega arith in rw (z, eq-eqb (dlciAt w p i) (p .dlci) d, add-one i)
 
-  own-joined : opened f w p i (piece f w p i .key) ++ piece f w p i .bytes ≡ joined f w p i
+  pub own-joined : opened f w p i (piece f w p i .key) ++ piece f w p i .bytes ≡ joined f w p i
   unfolding opened joined
   own-joined = rw (piece-key f w p i, piece-bytes f w p i, own-key w p i d)
 
@@ -48,7 +48,7 @@ module _ (f w : List ℕ) (p : Plan) (i : ℕ) (h : i < p .n) (d : dlciAt w p i 
   first-run = rw (ahead-own, own-joined)
 
   module _ (u : List ℕ) (l : Laid f w p) (s : Front (4 * p .held) u w) (m : opened f u p (i + 1) ≡ step scanner (opened f w p i) (piece f w p i)) where
-    next-ahead : ahead f u p (i + 1) ≡ ahead f w p (i + 1)
+    pub next-ahead : ahead f u p (i + 1) ≡ ahead f w p (i + 1)
     next-ahead = rw (table-front f u w p l s (i + 1) (p .n - (i + 1)) (omega arith))
 
     pub next-run : run scanner (opened f w p i) (ahead f w p i) ≡ tagged (piece f w p i .rx) (piece f w p i .time) (spansOf (joined f w p i)) ++ run scanner (opened f u p (i + 1)) (ahead f u p (i + 1))

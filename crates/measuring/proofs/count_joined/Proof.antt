@@ -1,4 +1,4 @@
-use Rattle.measuring.proofs.Counting.{behind-none, behind-join, behind-room, behind-counted}
+use Rattle.measuring.proofs.Counting.{behind-none, behind-room, behind-counted}
 use native.Mathlib.Omega.{arith}
 use borrow.Author.Needs.{needs}
 use Rattle.measuring.proofs.count_joined.Statement.{statement}
