@@ -11,6 +11,8 @@ use Rattle.laws.proofs.Choice.{splitB, split≡}
 use Rattle.laws.specs.Keys.{Key, eqK}
 use Rattle.laws.specs.Keyed.{Machine, step, run, after}
 use Rattle.laws.specs.Count.{mem, nub, count}
+use Rattle.laws.specs.Totals.{total}
+use Rattle.laws.proofs.Totals.{total-map, total-same}
 use Rattle.laws.specs.Numbers.{le16}
 use Rattle.container.specs.Packets.{Packet}
 use Rattle.container.specs.Container.{Container, tailOffset, packetsIn}
@@ -22,7 +24,9 @@ use Rattle.channels.specs.Core.{Event, latest, bothHold, eventsOf, eventsAfter,
 use Rattle.channels.specs.Tried.{ChannelRule, source, core, triedBy}
 use Rattle.rfcomm.specs.Pieces.{Kind, asks, opens, carries, wrong, passed, Judging, kindBy, Judged, judgedFrom, judgedBy, kinds, wrongOn}
 use Rattle.rfcomm.specs.Pieces.{Counts, Piece, pieceOf, brought, counting, noCounts, pieces}
+use Rattle.spans.specs.Scan.{restOf}
 use Rattle.spans.specs.Spans.{scanner, emptied, spans, unfinished, onDlci}
+use Rattle.spans.specs.Account.{droppedOf, clearedOf, weighing, inSpans, dropped, cleared, left, accountOf}
 use Rattle.outcome.specs.Import.{Options, onChannel, first, hasFrame, chosen, listed, filePieces, fileWrong, read}
 use Rattle.adapters.specs.Links.{relinked}
 
@@ -78,6 +82,47 @@ module _ (ρ : ℕ → ℕ) (one : (x y : ℕ) → ρ x ≡ ρ y → x ≡ y) wh
     unfolding after
     after-renamed m n same [] k = same k
     after-renamed m n same (x ∷ xs) k = after-renamed (step M m x) (step M n (f x)) (step-renamed m n same x) xs k
+
+  -- step and output do not look at what f renames
+  pub record Blind {X Y : Type 0} (M : Machine X Y) (f : X → X) : Type 0 where
+    pub key : (x : X) → M .key (f x) ≡ keyed (M .key x)
+    pub next : (s : M .S) (x : X) → M .next s (f x) ≡ M .next s x
+    pub out : (s : M .S) (x : X) → M .out s (f x) ≡ M .out s x
+
+  -- Such a machine, begun in one state at every key, puts out the same, and each key's state is the same.
+  module _ {X Y : Type 0} (M : Machine X Y) (f : X → X) (B : Blind M f) (s : M .S) where
+    blind : Renames M f (λ ys. ys)
+    blind = record { key = B .key; next = B .next; out = B .out; empty = refl; joins = λ a b. refl }
+
+    pub outputs-same : (xs : List X) → run M (λ k. s) (map f xs) ≡ run M (λ k. s) xs
+    outputs-same xs = run-renamed M f (λ ys. ys) blind (λ k. s) (λ k. s) (λ k. refl) xs
+
+    pub states-same : (xs : List X) (k : Key) → after M (λ j. s) (map f xs) (keyed k) ≡ after M (λ j. s) xs k
+    states-same xs k = after-renamed M f (λ ys. ys) blind (λ j. s) (λ j. s) (λ j. refl) xs k
+
+  -- ---- different keys
+
+  mem-same : (k : Key) (ks : List Key) → mem (keyed k) (map keyed ks) ≡ mem k ks
+  unfolding mem
+  mem-same k [] = refl
+  mem-same k (j ∷ ks) = rw (eqK-same k j, mem-same k ks)
+
+  nub-same : (ks : List Key) → nub (map keyed ks) ≡ map keyed (nub ks)
+  unfolding nub
+  nub-same [] = refl
+  nub-same (k ∷ ks) = splitB (mem k ks) (λ e. rw (mem-same k ks, e) (nub-same ks)) (λ e. rw (mem-same k ks, e, nub-same ks))
+
+  count-same : (p q : Key → Bool) → ((k : Key) → p (keyed k) ≡ q k) → (ks : List Key) → count p (map keyed ks) ≡ count q ks
+  unfolding count
+  count-same p q h [] = refl
+  count-same p q h (k ∷ ks) = rw (h k, count-same p q h ks)
+
+  -- a count over the different keys of a list, and a sum
+  pub nub-count : (p q : Key → Bool) → ((k : Key) → p (keyed k) ≡ q k) → (ks : List Key) → count p (nub (map keyed ks)) ≡ count q (nub ks)
+  nub-count p q h ks = rw (nub-same ks) (count-same p q h (nub ks))
+
+  pub nub-total : (f g : Key → ℕ) → ((k : Key) → f (keyed k) ≡ g k) → (ks : List Key) → total f (nub (map keyed ks)) ≡ total g (nub ks)
+  nub-total f g h ks = rw (nub-same ks) (total-map f keyed (nub ks) ∙ total-same (λ k. f (keyed k)) g h (nub ks))
 
   -- ---- PDUs
 
@@ -321,32 +366,17 @@ module _ (ρ : ℕ → ℕ) (one : (x y : ℕ) → ρ x ≡ ρ y → x ≡ y) wh
 
   -- ---- spans
 
-  scans : Renames scanner piece (λ ss. ss)
-  scans = record { key = λ p. refl; next = λ b p. refl; out = λ b p. refl; empty = refl; joins = λ a b. refl }
+  scans : Blind scanner piece
+  scans = record { key = λ p. refl; next = λ b p. refl; out = λ b p. refl }
 
   spans-same : (ps : List Piece) → spans (map piece ps) ≡ spans ps
   unfolding spans
-  spans-same ps = run-renamed scanner piece (λ ss. ss) scans emptied emptied (λ k. refl) ps
+  spans-same ps = outputs-same scanner piece scans [] ps
 
   on-dlci : (d : ℕ) (ps : List Piece) → onDlci d (map piece ps) ≡ map piece (onDlci d ps)
   unfolding onDlci
   on-dlci d [] = refl
   on-dlci d (p ∷ ps) = splitB (eqb (p .dlci) d) (λ e. rw (e, on-dlci d ps)) (λ e. rw e (on-dlci d ps))
-
-  mem-same : (k : Key) (ks : List Key) → mem (keyed k) (map keyed ks) ≡ mem k ks
-  unfolding mem
-  mem-same k [] = refl
-  mem-same k (j ∷ ks) = rw (eqK-same k j, mem-same k ks)
-
-  nub-same : (ks : List Key) → nub (map keyed ks) ≡ map keyed (nub ks)
-  unfolding nub
-  nub-same [] = refl
-  nub-same (k ∷ ks) = splitB (mem k ks) (λ e. rw (mem-same k ks, e) (nub-same ks)) (λ e. rw (mem-same k ks, e, nub-same ks))
-
-  count-same : (p q : Key → Bool) → ((k : Key) → p (keyed k) ≡ q k) → (ks : List Key) → count p (map keyed ks) ≡ count q ks
-  unfolding count
-  count-same p q h [] = refl
-  count-same p q h (k ∷ ks) = rw (h k, count-same p q h ks)
 
   keys-same : (ps : List Piece) → map (λ (p : Piece). p .key) (map piece ps) ≡ map keyed (map (λ (p : Piece). p .key) ps)
   keys-same [] = refl
@@ -355,9 +385,40 @@ module _ (ρ : ℕ → ℕ) (one : (x y : ℕ) → ρ x ≡ ρ y → x ≡ y) wh
   unfinished-same : (ps : List Piece) → unfinished (map piece ps) ≡ unfinished ps
   unfolding unfinished
   unfinished-same ps =
-      rw (keys-same ps, nub-same (map (λ (p : Piece). p .key) ps))
-      (count-same (λ k. ltb 0 (length (after scanner emptied (map piece ps) k))) (λ k. ltb 0 (length (after scanner emptied ps k)))
-      (λ k. rw (after-renamed scanner piece (λ ss. ss) scans emptied emptied (λ j. refl) ps k)) (nub (map (λ (p : Piece). p .key) ps)))
+      rw (keys-same ps)
+      (nub-count (λ k. ltb 0 (length (after scanner emptied (map piece ps) k))) (λ k. ltb 0 (length (after scanner emptied ps k)))
+      (λ k. rw (states-same scanner piece scans [] ps k)) (map (λ (p : Piece). p .key) ps))
+
+  -- ---- where bytes went
+
+  weighs : (f : List ℕ → ℕ) → Blind (weighing f) piece
+  weighs f = record { key = λ p. refl; next = λ b p. refl; out = λ b p. refl }
+
+  weighed-same : (f : List ℕ → ℕ) (ps : List Piece) → total (λ n. n) (run (weighing f) emptied (map piece ps)) ≡ total (λ n. n) (run (weighing f) emptied ps)
+  weighed-same f ps = ap (total (λ n. n)) (outputs-same (weighing f) piece (weighs f) [] ps)
+
+  in-spans : (ps : List Piece) → inSpans (map piece ps) ≡ inSpans ps
+  unfolding inSpans
+  in-spans ps = rw (spans-same ps)
+
+  dropped-same : (ps : List Piece) → dropped (map piece ps) ≡ dropped ps
+  unfolding dropped
+  dropped-same ps = weighed-same droppedOf ps
+
+  cleared-same : (ps : List Piece) → cleared (map piece ps) ≡ cleared ps
+  unfolding cleared
+  cleared-same ps = weighed-same (λ b. clearedOf (restOf b)) ps
+
+  left-same : (ps : List Piece) → left (map piece ps) ≡ left ps
+  unfolding left
+  left-same ps =
+      rw (keys-same ps)
+      (nub-total (λ k. length (after scanner emptied (map piece ps) k)) (λ k. length (after scanner emptied ps k))
+      (λ k. ap length (states-same scanner piece scans [] ps k)) (map (λ (p : Piece). p .key) ps))
+
+  -- in spans, dropped, cleared, left
+  pub account-same : (ps : List Piece) → accountOf (map piece ps) ≡ accountOf ps
+  account-same ps = rw (in-spans ps, dropped-same ps, cleared-same ps, left-same ps)
 
   -- ---- import
 
@@ -384,7 +445,7 @@ module _ (ρ : ℕ → ℕ) (one : (x y : ℕ) → ρ x ≡ ρ y → x ≡ y) wh
   listed-same : (ps : List Piece) (wrongs : ℕ → ℕ) (tail : ℕ) (o : Option ℕ) → listed (map piece ps) wrongs tail o ≡ listed ps wrongs tail o
   unfolding listed
   listed-same ps wrongs tail none = refl
-  listed-same ps wrongs tail (some d) = rw (on-dlci d ps, spans-same (onDlci d ps), unfinished-same (onDlci d ps))
+  listed-same ps wrongs tail (some d) = rw (on-dlci d ps, spans-same (onDlci d ps), unfinished-same (onDlci d ps), account-same (onDlci d ps))
 
   -- What is found in a file whose packets are another's with their links renamed one to one: by either channel rule, FCS checked or not, in whichever containers.
   pub read-renamed :

@@ -14,6 +14,7 @@ use Rattle.laws.specs.Chop.{chop, chopFrom}
 use Rattle.laws.specs.Keys.{Key, eqK}
 use Rattle.laws.specs.Keyed.{put, of, run, after}
 use Rattle.laws.specs.Count.{count, nub, mem}
+use Rattle.laws.specs.Totals.{total}
 use Rattle.laws.specs.Numbers.{le16, be32, be64}
 use Rattle.items.specs.Items.{span, rxOf}
 use Rattle.mdr.specs.Frame.{headOf, summedOf, bodyOf, packed, judged as judgedFrame, unpackOf, unpacksOf}
@@ -36,10 +37,11 @@ use Rattle.rfcomm.specs.Pieces.{uihKind, frameKind, Judging, unchecked, kindBy,
 use Rattle.search.specs.Seek.{seek}
 use Rattle.spans.specs.Scan.{spansN, restN, spansOf, restOf, capped}
 use Rattle.spans.specs.Spans.{spans, unfinished, onDlci}
+use Rattle.spans.specs.Account.{droppedN, droppedOf, clearedOf, inSpans, dropped, cleared, left}
 use Rattle.outcome.specs.Import.{Found, found, missing, tolerant, Options, onChannel, first as firstOf, hasFrame, chosen, listed, filePieces, read, endsWell, outcome}
-use Rattle.outcome.proofs.Examples.{finds}
+use Rattle.outcome.proofs.Examples.{went, finds}
 use Rattle.cut.specs.Recording.{Link, part, last, Recording, file, cut}
-use Rattle.cut.specs.Left.{leftFrom, recordsLeft, tailLeft, Sent, sent, dataOf, dataLeft, closedIn, ofHandle, framesLeft, midFrame, endsMid, midIn, midLeft}
+use Rattle.cut.specs.Left.{leftFrom, recordsLeft, tailLeft, Sent, sent, dataOf, dataLeft, closedIn, ofHandle, framesLeft, midFrame, endsMid, midIn, midLeft, pastClose, pastLink, pastIn, pastLeft}
 use Rattle.cut.specs.Honest.{pdusIn, markedPdus, withMarks, judgedIn, isDataOf, toData, afterData, adds, carriesOn, Joins, first, further, Fragments, more, end, Honest}
 use Rattle.cut.specs.Claim.{wrongLeft}
 use Rattle.cut.proofs.Tests.{packedChecked, every, once, ends, headerTest, wholeTest, smallTest, dlciTest, dynamicTest, channelTest, channelsTest, checksTest, informationTest, sizesTest, beginningsTest, settledIn, settledTest, aloneIn, aloneTest, handlesTest, dataTest, markTest, fragmentsTest, isNone, rules, passed-all, honest}
@@ -97,12 +99,12 @@ options = record { channel = some 9; tail = tolerant; judging = unchecked source
 abbrev LeftOut : Recording byHandle → ℕ → Found → Type 0
 LeftOut R n x = (leftAt (unchecked source) R n ≡ x) × (foundBy (unchecked source) R n ≡ x) × (outcome btsnoop (cut R n) options ≡ missing 6 [])
 
-pub torn-cut : LeftOut tornByHandle 89 (finds 18 (span 1 6 w₂ ∷ []) 0 89)
-unfolding ifThere cut file tailLeft ofHandle closedIn framesLeft midFrame endsMid midIn midLeft wrongLeft judgedIn withMarks markedPdus pdusIn leftFrom recordsLeft sent dataOf dataLeft outcome isBtsnoop datalink isDatalink endsWell read tailOffset records recordsIn chop chopFrom isWhole recordSize be32 be64 le16 eqK filePieces packetsIn packets packetOf milliseconds fragment monitorPacket pdus run after of joined isComplete stillOpen pduOf completed commandSize isCommand commands body signalOf signalsIn pduSignals signals any names named asksFor admits admittedAfter admitted isTried asksRfcomm asksSession isSabm isUih shortLength infoLength infoStart creditOf isRight fcsOf register shifted shiftOne frameOf uihKind frameKind kindBy triedBy judgedFrom judgedBy counted pieceOf brought pieces seek spansN restN spansOf restOf capped spans unfinished onDlci count nub mem onChannel firstOf hasFrame chosen isWrong wrongOn listed unpacksOf unpackOf judgedFrame isGiven within checksumOf packed bodyOf summedOf headOf rxOf
+pub torn-cut : LeftOut tornByHandle 89 (finds 18 (span 1 6 w₂ ∷ []) 0 89 (went 9 0 0 0))
+unfolding ifThere cut file tailLeft ofHandle closedIn framesLeft midFrame endsMid midIn midLeft pastClose pastLink pastIn pastLeft wrongLeft judgedIn withMarks markedPdus pdusIn leftFrom recordsLeft sent dataOf dataLeft outcome isBtsnoop datalink isDatalink endsWell read tailOffset records recordsIn chop chopFrom isWhole recordSize be32 be64 le16 eqK filePieces packetsIn packets packetOf milliseconds fragment monitorPacket pdus run after of joined isComplete stillOpen pduOf completed commandSize isCommand commands body signalOf signalsIn pduSignals signals any names named asksFor admits admittedAfter admitted isTried asksRfcomm asksSession isSabm isUih shortLength infoLength infoStart creditOf isRight fcsOf register shifted shiftOne frameOf uihKind frameKind kindBy triedBy judgedFrom judgedBy counted pieceOf brought pieces seek spansN restN spansOf restOf capped spans unfinished onDlci total droppedN droppedOf clearedOf inSpans dropped cleared left count nub mem onChannel firstOf hasFrame chosen isWrong wrongOn listed unpacksOf unpackOf judgedFrame isGiven within checksumOf packed bodyOf summedOf headOf rxOf
 torn-cut = (refl, refl, refl)
 
-pub tornFrame-cut : LeftOut tornFrameByHandle 97 (finds 18 (span 1 6 w₀ ∷ []) 0 97)
-unfolding ifThere cut file tailLeft ofHandle closedIn framesLeft midFrame endsMid midIn midLeft wrongLeft judgedIn withMarks markedPdus pdusIn leftFrom recordsLeft sent dataOf dataLeft outcome isBtsnoop datalink isDatalink endsWell read tailOffset records recordsIn chop chopFrom isWhole recordSize be32 be64 le16 eqK filePieces packetsIn packets packetOf milliseconds fragment monitorPacket pdus run after of joined isComplete stillOpen pduOf completed commandSize isCommand commands body signalOf signalsIn pduSignals signals any names named asksFor admits admittedAfter admitted isTried asksRfcomm asksSession isSabm isUih shortLength infoLength infoStart creditOf isRight fcsOf register shifted shiftOne frameOf uihKind frameKind kindBy triedBy judgedFrom judgedBy counted pieceOf brought pieces seek spansN restN spansOf restOf capped spans unfinished onDlci count nub mem onChannel firstOf hasFrame chosen isWrong wrongOn listed unpacksOf unpackOf judgedFrame isGiven within checksumOf packed bodyOf summedOf headOf rxOf
+pub tornFrame-cut : LeftOut tornFrameByHandle 97 (finds 18 (span 1 6 w₀ ∷ []) 0 97 (went 9 0 0 0))
+unfolding ifThere cut file tailLeft ofHandle closedIn framesLeft midFrame endsMid midIn midLeft pastClose pastLink pastIn pastLeft wrongLeft judgedIn withMarks markedPdus pdusIn leftFrom recordsLeft sent dataOf dataLeft outcome isBtsnoop datalink isDatalink endsWell read tailOffset records recordsIn chop chopFrom isWhole recordSize be32 be64 le16 eqK filePieces packetsIn packets packetOf milliseconds fragment monitorPacket pdus run after of joined isComplete stillOpen pduOf completed commandSize isCommand commands body signalOf signalsIn pduSignals signals any names named asksFor admits admittedAfter admitted isTried asksRfcomm asksSession isSabm isUih shortLength infoLength infoStart creditOf isRight fcsOf register shifted shiftOne frameOf uihKind frameKind kindBy triedBy judgedFrom judgedBy counted pieceOf brought pieces seek spansN restN spansOf restOf capped spans unfinished onDlci total droppedN droppedOf clearedOf inSpans dropped cleared left count nub mem onChannel firstOf hasFrame chosen isWrong wrongOn listed unpacksOf unpackOf judgedFrame isGiven within checksumOf packed bodyOf summedOf headOf rxOf
 tornFrame-cut = (refl, refl, refl)
 
 abbrev pub isMissing : Found → Bool
@@ -113,7 +115,7 @@ isMissing (missing n vs) = true
 pub claim-by-handle-false : {G : Type 0} → ((R : Recording byHandle) → Honest (unchecked source) R → (n : ℕ) → 16 ≤ n → n ≤ length (file R) → outcome btsnoop (cut R n) (record { channel = some (R .d / 2); tail = tolerant; judging = unchecked source }) ≡ leftAt (unchecked source) R n) → G
 unfolding file packed bodyOf summedOf headOf checksumOf within
 claim-by-handle-false claim =
-    let e : missing 6 [] ≡ finds 18 (span 1 6 w₂ ∷ []) 0 89 = sym (torn-cut .2) ∙ claim tornByHandle torn-honest 89 (omega arith) (leb-true 89 _ refl) ∙ torn-cut .0 in
+    let e : missing 6 [] ≡ finds 18 (span 1 6 w₂ ∷ []) 0 89 (went 9 0 0 0) = sym (torn-cut .2) ∙ claim tornByHandle torn-honest 89 (omega arith) (leb-true 89 _ refl) ∙ torn-cut .0 in
     no-way refl (ap isMissing e)
 
 -- ---- by index and handle they are not honest

@@ -9,6 +9,7 @@ use Rattle.laws.specs.Chop.{chop, chopFrom}
 use Rattle.laws.specs.Keys.{eqK}
 use Rattle.laws.specs.Keyed.{of, run, after}
 use Rattle.laws.specs.Count.{count, nub, mem}
+use Rattle.laws.specs.Totals.{total}
 use Rattle.laws.specs.Numbers.{le16, be32, be64}
 use Rattle.items.specs.Items.{Span, span, rxOf}
 use Rattle.mdr.specs.Frame.{headOf, summedOf, bodyOf, packed, judged as judgedFrame, unpackOf, unpacksOf}
@@ -30,12 +31,13 @@ use Rattle.rfcomm.specs.Pieces.{uihKind, frameKind, Judging, unchecked, kindBy,
 use Rattle.search.specs.Seek.{seek}
 use Rattle.spans.specs.Scan.{spansN, restN, spansOf, restOf, capped}
 use Rattle.spans.specs.Spans.{spans, unfinished, onDlci}
+use Rattle.spans.specs.Account.{droppedN, droppedOf, clearedOf, inSpans, dropped, cleared, left}
 use Rattle.outcome.specs.Import.{Found, found, missing, tolerant, onChannel, first, hasFrame, chosen, listed, filePieces, read, endsWell, outcome}
-use Rattle.outcome.proofs.Examples.{sample, finds}
+use Rattle.outcome.proofs.Examples.{sample, finds, went}
 use Rattle.cut.specs.Recording.{Recording, file, cut}
-use Rattle.cut.specs.Left.{leftFrom, recordsLeft, tailLeft, sent, dataOf, dataLeft, closedIn, ofHandle, framesLeft, midFrame, endsMid, midIn, midLeft}
+use Rattle.cut.specs.Left.{leftFrom, recordsLeft, tailLeft, sent, dataOf, dataLeft, closedIn, ofHandle, framesLeft, midFrame, endsMid, midIn, midLeft, pastClose, pastLink, pastIn, pastLeft}
 use Rattle.cut.specs.Honest.{pdusIn, markedPdus, withMarks, judgedIn, isDataOf, toData, afterData, adds, carriesOn, Honest}
-use Rattle.cut.specs.Claim.{wrongLeft}
+use Rattle.cut.specs.Claim.{wrongLeft, accountLeft}
 use Rattle.cut.proofs.Tests.{packedChecked, every, once, ends, headerTest, wholeTest, smallTest, dlciTest, dynamicTest, channelTest, channelsTest, rightTest, checksTest, informationTest, sizesTest, beginningsTest, settledIn, settledTest, aloneIn, aloneTest, handlesTest, dataTest, markTest, fragmentsTest, rules, passed-all, honest}
 use Rattle.cut.proofs.Recordings.{unended, example, busy, badHeader, notWhole, sameHandles, lowCid, namedChannel, admittedLate, falseMark, noStart, between, early, otherFrames, noBeginning, newLink, newSession, otherData, otherDlci, onlyCut}
 
@@ -111,7 +113,7 @@ abbrev pub leftAt : {C : Container} → Judging → Recording C → ℕ → Foun
 leftAt by R n = ofFrames (framesLeft R n) where
   ofFrames : List Span → Found
   ofFrames [] = missing 6 []
-  ofFrames (s ∷ ss) = found (record { dlci = R .d; spans = s ∷ ss; unfinished = midLeft R n; tail = tailLeft R n; wrong = wrongLeft by R n })
+  ofFrames (s ∷ ss) = found (record { dlci = R .d; spans = s ∷ ss; unfinished = midLeft R n; tail = tailLeft R n; wrong = wrongLeft by R n; account = accountLeft R n (s ∷ ss) })
 
 abbrev pub w₀ : List ℕ
 w₀ = 0x3E ∷ 0x01 ∷ 0x00 ∷ 0x00 ∷ 0x00 ∷ 0x00 ∷ 0x00 ∷ 0x01 ∷ 0x3C ∷ []
@@ -134,7 +136,7 @@ four = span 1 7 w₃ ∷ span 1 7 w₂ ∷ span 1 8 w₁ ∷ span 1 8 w₂ ∷ [
 
 abbrev answers : List Found
 answers =
-    finds 18 (four ++ (span 0 10 w₀ ∷ [])) 2 628 ∷ finds 18 (four ++ (span 0 10 w₀ ∷ [])) 1 587 ∷ finds 18 four 0 386 ∷ finds 18 (span 1 7 w₃ ∷ span 1 7 w₂ ∷ []) 0 337 ∷ missing 6 [] ∷ missing 6 [] ∷ []
+    finds 18 (four ++ (span 0 10 w₀ ∷ [])) 2 628 (went 51 0 0 11) ∷ finds 18 (four ++ (span 0 10 w₀ ∷ [])) 1 587 (went 51 0 0 7) ∷ finds 18 four 0 386 (went 42 0 0 0) ∷ finds 18 (span 1 7 w₃ ∷ span 1 7 w₂ ∷ []) 0 337 (went 21 0 0 0) ∷ missing 6 [] ∷ missing 6 [] ∷ []
 
 -- import finds the first, the second is left
 abbrev pub DifferBy : {C : Container} → Judging → Recording C → ℕ → Found → Found → Type 0
@@ -145,25 +147,25 @@ Differ R n x y = DifferBy (unchecked source) R n x y
 
 pub all-cuts :
     -- honest: import finds what is left
-    Differ example 62 (finds 18 (span 1 0 w₀ ∷ []) 0 62) (finds 18 (span 1 0 w₀ ∷ []) 0 62) × Differ example 61 (missing 6 []) (missing 6 []) ×
+    Differ example 62 (finds 18 (span 1 0 w₀ ∷ []) 0 62 (went 9 0 0 0)) (finds 18 (span 1 0 w₀ ∷ []) 0 62 (went 9 0 0 0)) × Differ example 61 (missing 6 []) (missing 6 []) ×
     (map (foundBy (unchecked source) busy) cuts ≡ answers) × (map (leftAt (unchecked source) busy) cuts ≡ answers) ×
     -- a rule is broken: it does not
-    Differ badHeader 62 (missing 3 []) (finds 18 (span 1 5 w₀ ∷ []) 0 62) ×
-    Differ notWhole 88 (missing 6 []) (finds 18 (span 1 5 w₀ ∷ []) 0 88) ×
-    Differ sameHandles 66 (finds 18 (span 1 5 w₀ ∷ []) 1 66) (finds 18 (span 1 5 w₀ ∷ []) 2 66) ×
-    Differ lowCid 62 (missing 6 []) (finds 18 (span 1 5 w₀ ∷ []) 0 62) ×
-    Differ namedChannel 103 (missing 6 []) (finds 18 (span 1 5 w₀ ∷ []) 0 103) ×
-    Differ admittedLate 144 (missing 6 []) (finds 18 (span 1 5 w₀ ∷ []) 0 144) ×
-    Differ falseMark 62 (finds 18 (span 1 5 w₀ ∷ []) 0 62) (finds 18 (span 1 5 w₂ ∷ []) 0 62) ×
-    Differ noStart 62 (missing 6 []) (finds 18 (span 1 5 w₀ ∷ []) 0 62) ×
-    Differ between 124 (missing 6 []) (finds 18 (span 1 7 w₀ ∷ []) 0 124) ×
-    Differ early 92 (finds 18 (span 1 5 w₀ ∷ []) 0 92) (finds 18 (span 1 6 w₀ ∷ []) 0 92) ×
-    Differ otherFrames 62 (finds 18 (span 1 5 w₀ ∷ []) 0 62) (finds 18 (span 1 5 w₂ ∷ []) 0 62) ×
-    Differ noBeginning 65 (finds 18 (span 1 5 w₀ ∷ span 1 5 (0x3E ∷ 0x00 ∷ 0x3C ∷ []) ∷ []) 0 65) (finds 18 (span 1 5 w₀ ∷ []) 1 65) ×
-    Differ newLink 136 (missing 6 []) (finds 18 (span 1 7 w₀ ∷ []) 0 136) ×
-    Differ newSession 136 (missing 6 []) (finds 18 (span 1 7 w₀ ∷ []) 0 136) ×
-    Differ otherData 108 (finds 18 (span 1 5 w₀ ∷ span 1 6 w₂ ∷ []) 0 108) (finds 18 (span 1 5 w₀ ∷ []) 0 108) ×
-    Differ otherDlci 108 (finds 19 (span 1 4 w₂ ∷ []) 0 108) (finds 18 (span 1 5 w₀ ∷ []) 0 108) ×
-    Differ onlyCut 108 (finds 18 (span 1 5 w₀ ∷ span 1 6 w₂ ∷ []) 0 108) (finds 18 (span 1 5 w₀ ∷ []) 0 108)
-unfolding cut file tailLeft ofHandle closedIn framesLeft midFrame endsMid midIn midLeft leftFrom recordsLeft sent dataOf dataLeft outcome isBtsnoop datalink isDatalink endsWell read tailOffset records recordsIn chop chopFrom isWhole recordSize be32 be64 le16 eqK filePieces packetsIn packets packetOf milliseconds fragment h4Packet hciPacket monitorPacket pdus run after of joined isComplete stillOpen pduOf completed commandSize isCommand commands body signalOf signalsIn pduSignals signals any names named asksFor admits admittedAfter admitted isTried asksRfcomm asksSession isSabm isUih shortLength infoLength infoStart creditOf isRight fcsOf register shifted shiftOne frameOf uihKind frameKind kindBy triedBy judgedFrom judgedBy counted pieceOf brought pieces seek spansN restN spansOf restOf capped spans unfinished onDlci count nub mem onChannel first hasFrame chosen isWrong wrongOn listed unpacksOf unpackOf judgedFrame isGiven within checksumOf packed bodyOf summedOf headOf rxOf wrongLeft judgedIn withMarks markedPdus pdusIn
+    Differ badHeader 62 (missing 3 []) (finds 18 (span 1 5 w₀ ∷ []) 0 62 (went 9 0 0 0)) ×
+    Differ notWhole 88 (missing 6 []) (finds 18 (span 1 5 w₀ ∷ []) 0 88 (went 9 0 0 0)) ×
+    Differ sameHandles 66 (finds 18 (span 1 5 w₀ ∷ []) 1 66 (went 9 0 0 4)) (finds 18 (span 1 5 w₀ ∷ []) 2 66 (went 9 0 0 8)) ×
+    Differ lowCid 62 (missing 6 []) (finds 18 (span 1 5 w₀ ∷ []) 0 62 (went 9 0 0 0)) ×
+    Differ namedChannel 103 (missing 6 []) (finds 18 (span 1 5 w₀ ∷ []) 0 103 (went 9 0 0 0)) ×
+    Differ admittedLate 144 (missing 6 []) (finds 18 (span 1 5 w₀ ∷ []) 0 144 (went 9 0 0 0)) ×
+    Differ falseMark 62 (finds 18 (span 1 5 w₀ ∷ []) 0 62 (went 9 0 0 0)) (finds 18 (span 1 5 w₂ ∷ []) 0 62 (went 9 0 0 0)) ×
+    Differ noStart 62 (missing 6 []) (finds 18 (span 1 5 w₀ ∷ []) 0 62 (went 9 0 0 0)) ×
+    Differ between 124 (missing 6 []) (finds 18 (span 1 7 w₀ ∷ []) 0 124 (went 9 0 0 0)) ×
+    Differ early 92 (finds 18 (span 1 5 w₀ ∷ []) 0 92 (went 9 0 0 0)) (finds 18 (span 1 6 w₀ ∷ []) 0 92 (went 9 0 0 0)) ×
+    Differ otherFrames 62 (finds 18 (span 1 5 w₀ ∷ []) 0 62 (went 9 0 0 0)) (finds 18 (span 1 5 w₂ ∷ []) 0 62 (went 9 0 0 0)) ×
+    Differ noBeginning 65 (finds 18 (span 1 5 w₀ ∷ span 1 5 (0x3E ∷ 0x00 ∷ 0x3C ∷ []) ∷ []) 0 65 (went 12 0 0 0)) (finds 18 (span 1 5 w₀ ∷ []) 1 65 (went 9 0 0 3)) ×
+    Differ newLink 136 (missing 6 []) (finds 18 (span 1 7 w₀ ∷ []) 0 136 (went 9 0 0 0)) ×
+    Differ newSession 136 (missing 6 []) (finds 18 (span 1 7 w₀ ∷ []) 0 136 (went 9 0 0 0)) ×
+    Differ otherData 108 (finds 18 (span 1 5 w₀ ∷ span 1 6 w₂ ∷ []) 0 108 (went 18 0 0 0)) (finds 18 (span 1 5 w₀ ∷ []) 0 108 (went 9 0 0 0)) ×
+    Differ otherDlci 108 (finds 19 (span 1 4 w₂ ∷ []) 0 108 (went 9 0 0 0)) (finds 18 (span 1 5 w₀ ∷ []) 0 108 (went 9 0 0 0)) ×
+    Differ onlyCut 108 (finds 18 (span 1 5 w₀ ∷ span 1 6 w₂ ∷ []) 0 108 (went 18 0 0 0)) (finds 18 (span 1 5 w₀ ∷ []) 0 108 (went 9 0 0 0))
+unfolding cut file tailLeft ofHandle closedIn framesLeft midFrame endsMid midIn midLeft pastClose pastLink pastIn pastLeft leftFrom recordsLeft sent dataOf dataLeft outcome isBtsnoop datalink isDatalink endsWell read tailOffset records recordsIn chop chopFrom isWhole recordSize be32 be64 le16 eqK filePieces packetsIn packets packetOf milliseconds fragment h4Packet hciPacket monitorPacket pdus run after of joined isComplete stillOpen pduOf completed commandSize isCommand commands body signalOf signalsIn pduSignals signals any names named asksFor admits admittedAfter admitted isTried asksRfcomm asksSession isSabm isUih shortLength infoLength infoStart creditOf isRight fcsOf register shifted shiftOne frameOf uihKind frameKind kindBy triedBy judgedFrom judgedBy counted pieceOf brought pieces seek spansN restN spansOf restOf capped spans unfinished onDlci total droppedN droppedOf clearedOf inSpans dropped cleared left count nub mem onChannel first hasFrame chosen isWrong wrongOn listed unpacksOf unpackOf judgedFrame isGiven within checksumOf packed bodyOf summedOf headOf rxOf wrongLeft judgedIn withMarks markedPdus pdusIn
 all-cuts = ((refl, refl), (refl, refl), refl, refl, (refl, refl), (refl, refl), (refl, refl), (refl, refl), (refl, refl), (refl, refl), (refl, refl), (refl, refl), (refl, refl), (refl, refl), (refl, refl), (refl, refl), (refl, refl), (refl, refl), (refl, refl), (refl, refl), (refl, refl))

@@ -8,6 +8,7 @@ use Rattle.laws.specs.Chop.{chop, chopFrom}
 use Rattle.laws.specs.Keys.{eqK}
 use Rattle.laws.specs.Keyed.{of, run, after}
 use Rattle.laws.specs.Count.{count, nub, mem}
+use Rattle.laws.specs.Totals.{total}
 use Rattle.laws.specs.Numbers.{le16, be32, be64}
 use Rattle.items.specs.Items.{span, rxOf}
 use Rattle.mdr.specs.Frame.{headOf, summedOf, bodyOf, packed, judged as judgedFrame, unpackOf, unpacksOf}
@@ -30,10 +31,11 @@ use Rattle.rfcomm.specs.Pieces.{unchecked, uihKind, frameKind, kindBy, judgedFr
 use Rattle.search.specs.Seek.{seek}
 use Rattle.spans.specs.Scan.{spansN, restN, spansOf, restOf, capped}
 use Rattle.spans.specs.Spans.{spans, unfinished, onDlci}
+use Rattle.spans.specs.Account.{droppedN, droppedOf, clearedOf, inSpans, dropped, cleared, left}
 use Rattle.outcome.specs.Import.{missing, onChannel, first, hasFrame, chosen, listed, filePieces, read, endsWell, outcome}
-use Rattle.outcome.proofs.Examples.{finds}
+use Rattle.outcome.proofs.Examples.{finds, went}
 use Rattle.cut.specs.Recording.{file, cut}
-use Rattle.cut.specs.Left.{leftFrom, recordsLeft, tailLeft, sent, dataOf, dataLeft, closedIn, ofHandle, framesLeft, midFrame, endsMid, midIn, midLeft}
+use Rattle.cut.specs.Left.{leftFrom, recordsLeft, tailLeft, sent, dataOf, dataLeft, closedIn, ofHandle, framesLeft, midFrame, endsMid, midIn, midLeft, pastClose, pastLink, pastIn, pastLeft}
 use Rattle.cut.specs.Honest.{Honest, pdusIn, markedPdus, withMarks, judgedIn, isDataOf, toData, afterData, adds, carriesOn}
 use Rattle.cut.specs.Claim.{wrongLeft}
 use Rattle.cut.proofs.Tests.{packedChecked, every, once, openTest, ends, headerTest, wholeTest, smallTest, dlciTest, dynamicTest, channelTest, channelsTest, rightTest, checksTest, informationTest, sizesTest, beginningsTest, settledIn, settledTest, aloneIn, aloneTest, handlesTest, dataTest, markTest, fragmentsTest, rules, passed-all, honest}
@@ -78,24 +80,24 @@ reused-uncovered H = no-way refl (third (H .alone 189) refl)
 
 pub all-cuts :
     -- honest: import finds what is left
-    DifferBy (unchecked core) reused 413 (finds 18 (span 1 6 w₀ ∷ span 0 7 w₂ ∷ []) 0 413) (finds 18 (span 1 6 w₀ ∷ span 0 7 w₂ ∷ []) 0 413) ×
-    DifferBy (unchecked core) reused 325 (finds 18 (span 1 6 w₀ ∷ []) 0 280) (finds 18 (span 1 6 w₀ ∷ []) 0 280) ×
+    DifferBy (unchecked core) reused 413 (finds 18 (span 1 6 w₀ ∷ span 0 7 w₂ ∷ []) 0 413 (went 18 0 0 0)) (finds 18 (span 1 6 w₀ ∷ span 0 7 w₂ ∷ []) 0 413 (went 18 0 0 0)) ×
+    DifferBy (unchecked core) reused 325 (finds 18 (span 1 6 w₀ ∷ []) 0 280 (went 9 0 0 0)) (finds 18 (span 1 6 w₀ ∷ []) 0 280 (went 9 0 0 0)) ×
     DifferBy (unchecked core) reused 279 (missing 6 []) (missing 6 []) ×
-    DifferBy (unchecked core) succeedsWithin 177 (finds 18 (span 0 4 w₀ ∷ []) 0 177) (finds 18 (span 0 4 w₀ ∷ []) 0 177) ×
-    DifferBy (unchecked source) foreignSource 194 (finds 18 (span 1 2 w₀ ∷ []) 0 194) (finds 18 (span 1 2 w₀ ∷ []) 0 194) ×
+    DifferBy (unchecked core) succeedsWithin 177 (finds 18 (span 0 4 w₀ ∷ []) 0 177 (went 9 0 0 0)) (finds 18 (span 0 4 w₀ ∷ []) 0 177 (went 9 0 0 0)) ×
+    DifferBy (unchecked source) foreignSource 194 (finds 18 (span 1 2 w₀ ∷ []) 0 194 (went 9 0 0 0)) (finds 18 (span 1 2 w₀ ∷ []) 0 194 (went 9 0 0 0)) ×
     -- the source's rule lists the look-alike bytes as frames
-    DifferBy (unchecked source) reused 413 (finds 18 (span 1 3 w₂ ∷ span 1 6 w₀ ∷ span 0 7 w₂ ∷ span 1 9 w₂ ∷ []) 0 413) (finds 18 (span 1 6 w₀ ∷ span 0 7 w₂ ∷ []) 0 413) ×
+    DifferBy (unchecked source) reused 413 (finds 18 (span 1 3 w₂ ∷ span 1 6 w₀ ∷ span 0 7 w₂ ∷ span 1 9 w₂ ∷ []) 0 413 (went 36 0 0 0)) (finds 18 (span 1 6 w₀ ∷ span 0 7 w₂ ∷ []) 0 413 (went 18 0 0 0)) ×
     -- a rule is broken: import finds something else
-    DifferBy (unchecked core) otherIdentifier 148 (missing 6 []) (finds 18 (span 0 3 w₀ ∷ []) 0 148) ×
-    DifferBy (unchecked core) afterEnd 189 (missing 6 []) (finds 18 (span 0 4 w₀ ∷ []) 0 189) ×
-    DifferBy (unchecked core) endsWithin 218 (missing 6 []) (finds 18 (span 0 5 w₀ ∷ []) 0 218) ×
-    DifferBy (unchecked core) namedChannel 103 (missing 6 []) (finds 18 (span 1 5 w₀ ∷ []) 0 103) ×
-    DifferBy (unchecked core) askedWithin 140 (missing 6 []) (finds 18 (span 1 3 w₀ ∷ []) 0 140) ×
-    DifferBy (unchecked core) newLink 136 (missing 6 []) (finds 18 (span 1 7 w₀ ∷ []) 0 136) ×
-    DifferBy (unchecked core) newSession 136 (missing 6 []) (finds 18 (span 1 7 w₀ ∷ []) 0 136) ×
-    DifferBy (unchecked core) foreignSource 194 (finds 18 (span 1 2 w₀ ∷ span 0 4 w₂ ∷ []) 0 194) (finds 18 (span 1 2 w₀ ∷ []) 0 194) ×
-    DifferBy (unchecked core) otherData 108 (finds 18 (span 1 5 w₀ ∷ span 1 6 w₂ ∷ []) 0 108) (finds 18 (span 1 5 w₀ ∷ []) 0 108) ×
-    DifferBy (unchecked core) otherDlci 108 (finds 19 (span 1 4 w₂ ∷ []) 0 108) (finds 18 (span 1 5 w₀ ∷ []) 0 108) ×
-    DifferBy (unchecked core) onlyCut 108 (finds 18 (span 1 5 w₀ ∷ span 1 6 w₂ ∷ []) 0 108) (finds 18 (span 1 5 w₀ ∷ []) 0 108)
-unfolding triedBy holds holdsAfter events eventsAfter eventsOf bothHold latest coreSignals pduCoreSignals coreSignalsIn coreSignalOf cut file tailLeft ofHandle closedIn framesLeft midFrame endsMid midIn midLeft leftFrom recordsLeft sent dataOf dataLeft outcome isBtsnoop datalink isDatalink endsWell read tailOffset records recordsIn chop chopFrom isWhole recordSize be32 be64 le16 eqK filePieces packetsIn packets packetOf milliseconds fragment h4Packet hciPacket monitorPacket pdus run after of joined isComplete stillOpen pduOf completed commandSize isCommand commands body signalOf signalsIn pduSignals signals any names named asksFor admits admittedAfter admitted isTried asksRfcomm asksSession isSabm isUih shortLength infoLength infoStart creditOf isRight fcsOf register shifted shiftOne frameOf uihKind frameKind kindBy judgedFrom judgedBy counted pieceOf brought pieces seek spansN restN spansOf restOf capped spans unfinished onDlci count nub mem onChannel first hasFrame chosen isWrong wrongOn listed unpacksOf unpackOf judgedFrame isGiven within checksumOf packed bodyOf summedOf headOf rxOf wrongLeft judgedIn withMarks markedPdus pdusIn
+    DifferBy (unchecked core) otherIdentifier 148 (missing 6 []) (finds 18 (span 0 3 w₀ ∷ []) 0 148 (went 9 0 0 0)) ×
+    DifferBy (unchecked core) afterEnd 189 (missing 6 []) (finds 18 (span 0 4 w₀ ∷ []) 0 189 (went 9 0 0 0)) ×
+    DifferBy (unchecked core) endsWithin 218 (missing 6 []) (finds 18 (span 0 5 w₀ ∷ []) 0 218 (went 9 0 0 0)) ×
+    DifferBy (unchecked core) namedChannel 103 (missing 6 []) (finds 18 (span 1 5 w₀ ∷ []) 0 103 (went 9 0 0 0)) ×
+    DifferBy (unchecked core) askedWithin 140 (missing 6 []) (finds 18 (span 1 3 w₀ ∷ []) 0 140 (went 9 0 0 0)) ×
+    DifferBy (unchecked core) newLink 136 (missing 6 []) (finds 18 (span 1 7 w₀ ∷ []) 0 136 (went 9 0 0 0)) ×
+    DifferBy (unchecked core) newSession 136 (missing 6 []) (finds 18 (span 1 7 w₀ ∷ []) 0 136 (went 9 0 0 0)) ×
+    DifferBy (unchecked core) foreignSource 194 (finds 18 (span 1 2 w₀ ∷ span 0 4 w₂ ∷ []) 0 194 (went 18 0 0 0)) (finds 18 (span 1 2 w₀ ∷ []) 0 194 (went 9 0 0 0)) ×
+    DifferBy (unchecked core) otherData 108 (finds 18 (span 1 5 w₀ ∷ span 1 6 w₂ ∷ []) 0 108 (went 18 0 0 0)) (finds 18 (span 1 5 w₀ ∷ []) 0 108 (went 9 0 0 0)) ×
+    DifferBy (unchecked core) otherDlci 108 (finds 19 (span 1 4 w₂ ∷ []) 0 108 (went 9 0 0 0)) (finds 18 (span 1 5 w₀ ∷ []) 0 108 (went 9 0 0 0)) ×
+    DifferBy (unchecked core) onlyCut 108 (finds 18 (span 1 5 w₀ ∷ span 1 6 w₂ ∷ []) 0 108 (went 18 0 0 0)) (finds 18 (span 1 5 w₀ ∷ []) 0 108 (went 9 0 0 0))
+unfolding triedBy holds holdsAfter events eventsAfter eventsOf bothHold latest coreSignals pduCoreSignals coreSignalsIn coreSignalOf cut file tailLeft ofHandle closedIn framesLeft midFrame endsMid midIn midLeft pastClose pastLink pastIn pastLeft leftFrom recordsLeft sent dataOf dataLeft outcome isBtsnoop datalink isDatalink endsWell read tailOffset records recordsIn chop chopFrom isWhole recordSize be32 be64 le16 eqK filePieces packetsIn packets packetOf milliseconds fragment h4Packet hciPacket monitorPacket pdus run after of joined isComplete stillOpen pduOf completed commandSize isCommand commands body signalOf signalsIn pduSignals signals any names named asksFor admits admittedAfter admitted isTried asksRfcomm asksSession isSabm isUih shortLength infoLength infoStart creditOf isRight fcsOf register shifted shiftOne frameOf uihKind frameKind kindBy judgedFrom judgedBy counted pieceOf brought pieces seek spansN restN spansOf restOf capped spans unfinished onDlci total droppedN droppedOf clearedOf inSpans dropped cleared left count nub mem onChannel first hasFrame chosen isWrong wrongOn listed unpacksOf unpackOf judgedFrame isGiven within checksumOf packed bodyOf summedOf headOf rxOf wrongLeft judgedIn withMarks markedPdus pdusIn
 all-cuts = ((refl, refl), (refl, refl), (refl, refl), (refl, refl), (refl, refl), (refl, refl), (refl, refl), (refl, refl), (refl, refl), (refl, refl), (refl, refl), (refl, refl), (refl, refl), (refl, refl), (refl, refl), (refl, refl), (refl, refl))

@@ -5,7 +5,7 @@ use lib.ListN.{take, drop}
 use Rattle.items.specs.declared.Direction.the-variants.{Rx, Tx}
 use Rattle.btsnoop.specs.Records.{btsnoop}
 use Rattle.cut.specs.Recording.{Frame, wire, Record, Recording}
-use Rattle.cut.proofs.Made.{headerOf, uihOn, sabmOn, requestBy, responseBy, endOf, freely, sends, starts, ends-with, frameOf, each}
+use Rattle.cut.proofs.Made.{headerOf, uihOn, requestBy, responseBy, endOf, freely, sends, starts, ends-with, frameOf, each}
 use Rattle.cut.proofs.Recordings.{ack}
 
 abbrev f₂ : Frame

@@ -8,6 +8,7 @@ use Rattle.laws.proofs.Choice.{splitB, no-way}
 use Rattle.laws.specs.Keys.{Key, eqK}
 use Rattle.laws.proofs.Keys.{splitK, eq-eqK, ne-eqK}
 use Rattle.laws.specs.Count.{mem, nub, count}
+use Rattle.laws.specs.Totals.{hits}
 
 -- no key twice
 pub data Once : List Key → Type 0 where
@@ -25,6 +26,14 @@ mem-tail k x xs h = splitK k x (λ e. rw (eq-eqK k x)) (λ e. rw (ne-eqK k x, h)
 pub mem-not : (k x : Key) (xs : List Key) → k ≢ x → mem k (x ∷ xs) ≡ mem k xs
 unfolding mem
 mem-not k x xs e = rw (ne-eqK k x)
+
+pub once-hits : (k : Key) {ks : List Key} → Once ks → hits k ks ≡ cond (mem k ks) 1 0
+unfolding count mem
+once-hits k once-nil = refl
+once-hits k (once-cons {x = x} {xs = xs} n o) =
+    splitK k x
+    (λ e. let z : hits k xs ≡ 0 = once-hits k o ∙ rw (e, n) in rw (eq-eqK k x e, z))
+    (λ e. rw (ne-eqK k x e) (once-hits k o))
 
 -- a list less the first place of x
 without : Key → List Key → List Key

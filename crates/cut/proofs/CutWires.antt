@@ -1,4 +1,4 @@
--- Wires that stand one after another, cut anywhere: the rule on a buffer gives those whose 3C has come and holds the rest.
+-- Wires that stand one after another, cut anywhere: the rule on a buffer gives those whose 3C has come and holds the rest. No byte is lost.
 -- A wire is any 3E .. 3C with no 3C inside and at most 65,536 bytes.
 use Prim.Native.Nat.{ℕ, zero, suc, _+_, _-_, _≤_, _<_}
 use mathlib.Core.Path.{_≡_, refl, sym, ap, _∙_}
@@ -13,12 +13,16 @@ use lib.Dec.{leb, ltb}
 use borrow.Author.Tests.{ne-eqb, le-leb, lt-leb, lt-ltb, le-ltb}
 use Rattle.laws.proofs.Choice.{split≤, splitB}
 use Rattle.laws.specs.Lists.{flat, All, all-nil, all-cons}
+use Rattle.laws.specs.Totals.{total}
+use Rattle.laws.proofs.Totals.{total-append}
 use Rattle.mdr.specs.Frame.{unpacksOf}
 use Rattle.spans.specs.Scan.{spansOf, restOf, capped}
 use Rattle.spans.specs.Bytewise.{feed, emit, held, emitted}
 use Rattle.spans.proofs.Bytewise.{held-append, emitted-append, quiet-nil, quiet-held, next-is, out-is}
+use Rattle.spans.specs.Account.{droppedOf, clearedOf}
+use Rattle.spans.proofs.Account.{piece-conserves}
 use Rattle.cut.specs.Recording.{Framing}
-use Rattle.cut.specs.Left.{closedIn, midFrame}
+use Rattle.cut.specs.Left.{closedIn, midFrame, pastClose}
 use Rattle.cut.proofs.TwoParts.{take-past, all-take}
 
 abbrev pub NoEnd : List ℕ → Type 0
@@ -110,8 +114,17 @@ unfolding midFrame
 mid-none at came [] h = le-ltb at came h
 mid-none at came (w ∷ ws) h = rw (le-ltb at came h, mid-none (at + length w) came ws (omega arith))
 
-some-more : (at t : ℕ) → ltb 0 t ≡ ltb at (at + t)
-some-more at t = split≤ t 0 (λ h. rw (le-ltb 0 t h, le-ltb at (at + t) (omega arith))) (λ h. rw (lt-ltb 0 t h, lt-ltb at (at + t) (omega arith)))
+some-past : (at came : ℕ) → ltb 0 (came - at) ≡ ltb at came
+some-past at came = split≤ came at (λ h. rw (le-ltb 0 (came - at) (omega arith), le-ltb at came h)) (λ h. rw (lt-ltb 0 (came - at) (omega arith), lt-ltb at came h))
+
+-- some bytes stand after the last closing 3C just if they end mid-frame
+pub past-mid : (at came : ℕ) (ws : List (List ℕ)) → ltb 0 (pastClose at came ws) ≡ midFrame at came ws
+unfolding pastClose midFrame
+past-mid at came [] = some-past at came
+past-mid at came (w ∷ ws) =
+    split≤ (at + length w) came
+    (λ h. rw (le-leb (at + length w) came h, le-ltb came (at + length w) h, past-mid (at + length w) came ws) (splitB (ltb at came) (λ q. rw q) (λ q. rw q)))
+    (λ h. rw (lt-leb (at + length w) came h, lt-ltb came (at + length w) h, mid-none (at + length w) came ws (omega arith), some-past at came) (splitB (ltb at came) (λ q. rw q) (λ q. rw q)))
 
 -- ---- wires and a beginning behind them
 
@@ -141,24 +154,30 @@ module _ (p : List ℕ) (P : Begun p) where
       (λ h. rw (take-past t w (stream ws p) h, held-append [] w (take (t - length w) (stream ws p)), wire-held W) (stream-begun (t - length w) Ws))
       (λ h. rw (take-append-le t w (stream ws p) (omega arith), begun-held (wire-take t W h)) (wire-take t W h)))
 
-  -- and not empty if they end mid-frame
-  stream-mid : (at t : ℕ) {ws : List (List ℕ)} → All Wire ws → t ≤ length (stream ws p) → ltb 0 (length (held [] (take t (stream ws p)))) ≡ midFrame at (at + t) ws
-  unfolding midFrame
-  stream-mid at t all-nil g =
-      let n : length (take t p) ≡ t = length-take t p ∙ omega arith in
-      rw (begun-held (begun-take t P), n) (some-more at t)
-  stream-mid at t (all-cons {x = w} {xs = ws} W Ws) g =
-      let z : 0 < length w = wire-some W in
+  -- as long as what stands after the last closing 3C
+  stream-past : (at t : ℕ) {ws : List (List ℕ)} → All Wire ws → t ≤ length (stream ws p) → length (held [] (take t (stream ws p))) ≡ pastClose at (at + t) ws
+  unfolding pastClose
+  stream-past at t all-nil g = rw (begun-held (begun-take t P), length-take t p) (omega arith)
+  stream-past at t (all-cons {x = w} {xs = ws} W Ws) g =
       let l : length (flat (w ∷ ws) ++ p) ≡ length w + length (stream ws p) = simp (append-assoc, length-append) in
       rw append-assoc
       (split≤ (length w) t
       (λ h.
       let e : at + t ≡ at + length w + (t - length w) = omega arith in
-      rw (take-past t w (stream ws p) h, held-append [] w (take (t - length w) (stream ws p)), wire-held W, lt-ltb at (at + t) (omega arith), le-ltb (at + t) (at + length w) (omega arith), stream-mid (at + length w) (t - length w) Ws (omega arith), e))
+      rw (take-past t w (stream ws p) h, held-append [] w (take (t - length w) (stream ws p)), wire-held W, le-leb (at + length w) (at + t) (omega arith), stream-past (at + length w) (t - length w) Ws (omega arith), e))
+      (λ h. rw (take-append-le t w (stream ws p) (omega arith), begun-held (wire-take t W h), length-take t w, lt-leb (at + length w) (at + t) (omega arith)) (omega arith)))
+
+  -- the spans and what is held are all of them
+  stream-kept : (t : ℕ) {ws : List (List ℕ)} → All Wire ws → total length (emitted [] (take t (stream ws p))) + length (held [] (take t (stream ws p))) ≡ length (take t (stream ws p))
+  unfolding total
+  stream-kept t all-nil = rw (begun-emitted (begun-take t P), begun-held (begun-take t P)) (omega arith)
+  stream-kept t (all-cons {x = w} {xs = ws} W Ws) =
+      rw append-assoc
+      (split≤ (length w) t
       (λ h.
-      let n : length (take t w) ≡ t = length-take t w ∙ omega arith in
-      rw (take-append-le t w (stream ws p) (omega arith), begun-held (wire-take t W h), n, lt-ltb (at + t) (at + length w) (omega arith), mid-none (at + length w) (at + t) ws (omega arith), some-more at t)
-      (splitB (ltb at (at + t)) (λ q. rw q) (λ q. rw q))))
+      rw (take-past t w (stream ws p) h, emitted-append [] w (take (t - length w) (stream ws p)), held-append [] w (take (t - length w) (stream ws p)), wire-emitted W, wire-held W, length-append w (take (t - length w) (stream ws p)))
+      (omega (arith, stream-kept (t - length w) Ws)))
+      (λ h. rw (take-append-le t w (stream ws p) (omega arith), begun-emitted (wire-take t W h), begun-held (wire-take t W h)) (omega arith)))
 
 -- ---- one piece more
 
@@ -167,8 +186,8 @@ module _ (ws : List (List ℕ)) (p : List ℕ) (W : All Wire ws) (P : Begun p) (
   abbrev pub heldAt : List ℕ
   heldAt = held [] (take t (stream ws p))
 
-  pub held-mid : t ≤ length (stream ws p) → ltb 0 (length heldAt) ≡ midFrame 0 t ws
-  held-mid h = stream-mid p P 0 t W h ∙ rw zero-add
+  pub held-past : t ≤ length (stream ws p) → length heldAt ≡ pastClose 0 t ws
+  held-past h = stream-past p P 0 t W h ∙ rw zero-add
 
 module _ (ws : List (List ℕ)) (p : List ℕ) (W : All Wire ws) (P : Begun p) (t : ℕ) (x rest : List ℕ) (e : drop t (stream ws p) ≡ x ++ rest) where
   grown : take (t + length x) (stream ws p) ≡ take t (stream ws p) ++ x
@@ -191,3 +210,13 @@ module _ (ws : List (List ℕ)) (p : List ℕ) (W : All Wire ws) (P : Begun p) (
       let c : emitted [] (take (t + length x) (stream ws p)) ≡ emitted [] (take t (stream ws p)) ++ emitted (held [] (take t (stream ws p))) x = ap (emitted []) grown ∙ emitted-append [] (take t (stream ws p)) x in
       let s : closedIn 0 0 (t + length x) ws ≡ closedIn 0 0 t ws ++ closedIn 0 t (t + length x) ws = closed-split 0 t (t + length x) W (omega arith) in
       out-is (held [] (take t (stream ws p))) x q ∙ append-cancel-left (closedIn 0 0 t ws) (emitted (held [] (take t (stream ws p))) x) (closedIn 0 t (t + length x) ws) (rw (← a, ← c, b, a) s)
+
+  -- nothing is dropped, nothing cleared
+  pub piece-none : droppedOf (held [] (take t (stream ws p)) ++ x) + clearedOf (restOf (held [] (take t (stream ws p)) ++ x)) ≡ 0
+  piece-none =
+      let q = quiet-held (take t (stream ws p)) [] quiet-nil in
+      let o : total length (spansOf (held [] (take t (stream ws p)) ++ x)) ≡ total length (emitted (held [] (take t (stream ws p))) x) = ap (total length) (out-is (held [] (take t (stream ws p))) x q) in
+      let a : total length (emitted [] (take (t + length x) (stream ws p))) ≡ total length (emitted [] (take t (stream ws p))) + total length (emitted (held [] (take t (stream ws p))) x) =
+      rw (grown, emitted-append [] (take t (stream ws p)) x) (total-append length (emitted [] (take t (stream ws p))) (emitted (held [] (take t (stream ws p))) x)) in
+      let l : length (take (t + length x) (stream ws p)) ≡ length (take t (stream ws p)) + length x = rw grown (length-append (take t (stream ws p)) x) in
+      omega (arith, piece-conserves (held [] (take t (stream ws p))) x, o, ap length piece-next, a, l, stream-kept p P t W, stream-kept p P (t + length x) W)

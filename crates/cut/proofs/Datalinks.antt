@@ -9,6 +9,7 @@ use Rattle.laws.specs.Chop.{chop, chopFrom}
 use Rattle.laws.specs.Keys.{eqK}
 use Rattle.laws.specs.Keyed.{of, run, after}
 use Rattle.laws.specs.Count.{count, nub, mem}
+use Rattle.laws.specs.Totals.{total}
 use Rattle.laws.specs.Numbers.{le16, be32, be64}
 use Rattle.items.specs.Items.{Span, span, rxOf}
 use Rattle.mdr.specs.Frame.{headOf, summedOf, bodyOf, packed, judged as judgedFrame, unpackOf, unpacksOf}
@@ -30,10 +31,11 @@ use Rattle.rfcomm.specs.Pieces.{unchecked, uihKind, frameKind, kindBy, judgedFr
 use Rattle.search.specs.Seek.{seek}
 use Rattle.spans.specs.Scan.{spansN, restN, spansOf, restOf, capped}
 use Rattle.spans.specs.Spans.{spans, unfinished, onDlci}
+use Rattle.spans.specs.Account.{droppedN, droppedOf, clearedOf, inSpans, dropped, cleared, left}
 use Rattle.outcome.specs.Import.{Found, missing, onChannel, first, hasFrame, chosen, listed, filePieces, read, endsWell, outcome}
-use Rattle.outcome.proofs.Examples.{finds}
+use Rattle.outcome.proofs.Examples.{finds, went}
 use Rattle.cut.specs.Recording.{wire, free, last, Recording, file, cut}
-use Rattle.cut.specs.Left.{leftFrom, recordsLeft, tailLeft, sent, dataOf, dataLeft, closedIn, ofHandle, framesLeft, midFrame, endsMid, midIn, midLeft}
+use Rattle.cut.specs.Left.{leftFrom, recordsLeft, tailLeft, sent, dataOf, dataLeft, closedIn, ofHandle, framesLeft, midFrame, endsMid, midIn, midLeft, pastClose, pastLink, pastIn, pastLeft}
 use Rattle.cut.specs.Honest.{pdusIn, markedPdus, withMarks, judgedIn, isDataOf, toData, afterData, adds, carriesOn, Honest}
 use Rattle.cut.specs.Claim.{wrongLeft}
 use Rattle.cut.proofs.Tests.{packedChecked, every, once, ends, headerTest, wholeTest, smallTest, dlciTest, dynamicTest, channelTest, channelsTest, rightTest, checksTest, informationTest, sizesTest, beginningsTest, settledIn, settledTest, aloneIn, aloneTest, handlesTest, dataTest, markTest, fragmentsTest, rules, passed-all, honest}
@@ -87,11 +89,11 @@ abbrev both : List Span
 both = span 1 0 w₀ ∷ span 0 5 w₀ ∷ []
 
 abbrev answers : List Found
-answers = finds 18 both 1 155 ∷ finds 18 both 1 110 ∷ finds 18 (span 1 0 w₀ ∷ []) 0 61 ∷ missing 6 [] ∷ missing 6 [] ∷ []
+answers = finds 18 both 1 155 (went 18 0 0 4) ∷ finds 18 both 1 110 (went 18 0 0 4) ∷ finds 18 (span 1 0 w₀ ∷ []) 0 61 (went 9 0 0 0) ∷ missing 6 [] ∷ missing 6 [] ∷ []
 
 -- import finds what is left
 pub datalinks-cut :
     (map (foundBy (unchecked source) hci) cuts ≡ answers) × (map (leftAt (unchecked source) hci) cuts ≡ answers) ×
     (map (foundBy (unchecked source) monitor) cuts ≡ answers) × (map (leftAt (unchecked source) monitor) cuts ≡ answers)
-unfolding cut file tailLeft ofHandle closedIn framesLeft midFrame endsMid midIn midLeft leftFrom recordsLeft sent dataOf dataLeft outcome isBtsnoop datalink isDatalink endsWell read tailOffset records recordsIn chop chopFrom isWhole recordSize be32 be64 le16 eqK filePieces packetsIn packets packetOf milliseconds fragment h4Packet hciPacket monitorPacket pdus run after of joined isComplete stillOpen pduOf completed commandSize isCommand commands body signalOf signalsIn pduSignals signals any names named asksFor admits admittedAfter admitted isTried asksRfcomm asksSession isSabm isUih shortLength infoLength infoStart creditOf isRight fcsOf register shifted shiftOne frameOf uihKind frameKind kindBy triedBy judgedFrom judgedBy counted pieceOf brought pieces seek spansN restN spansOf restOf capped spans unfinished onDlci count nub mem onChannel first hasFrame chosen isWrong wrongOn listed unpacksOf unpackOf judgedFrame isGiven within checksumOf packed bodyOf summedOf headOf rxOf wrongLeft judgedIn withMarks markedPdus pdusIn
+unfolding cut file tailLeft ofHandle closedIn framesLeft midFrame endsMid midIn midLeft pastClose pastLink pastIn pastLeft leftFrom recordsLeft sent dataOf dataLeft outcome isBtsnoop datalink isDatalink endsWell read tailOffset records recordsIn chop chopFrom isWhole recordSize be32 be64 le16 eqK filePieces packetsIn packets packetOf milliseconds fragment h4Packet hciPacket monitorPacket pdus run after of joined isComplete stillOpen pduOf completed commandSize isCommand commands body signalOf signalsIn pduSignals signals any names named asksFor admits admittedAfter admitted isTried asksRfcomm asksSession isSabm isUih shortLength infoLength infoStart creditOf isRight fcsOf register shifted shiftOne frameOf uihKind frameKind kindBy triedBy judgedFrom judgedBy counted pieceOf brought pieces seek spansN restN spansOf restOf capped spans unfinished onDlci total droppedN droppedOf clearedOf inSpans dropped cleared left count nub mem onChannel first hasFrame chosen isWrong wrongOn listed unpacksOf unpackOf judgedFrame isGiven within checksumOf packed bodyOf summedOf headOf rxOf wrongLeft judgedIn withMarks markedPdus pdusIn
 datalinks-cut = (refl, refl, refl, refl)

@@ -1,4 +1,5 @@
--- The data PDUs of several link directions, interleaved: the scanner's spans are the frames closed, in order, and its buffers hold what is mid-frame.
+-- The data PDUs of several link directions, interleaved: the scanner's spans are the frames closed, in order, its buffers hold what is mid-frame,
+-- and nothing is dropped or cleared.
 use Prim.Native.Nat.{ℕ, _+_}
 use mathlib.Core.Path.{_≡_, refl, sym, _∙_}
 use mathlib.Core.List.{List, [], _∷_, _++_, append-assoc, map}
@@ -11,13 +12,15 @@ use Rattle.laws.proofs.Lists.{flat-append}
 use Rattle.laws.specs.Keys.{Key, eqK}
 use Rattle.laws.proofs.Keys.{splitK, eq-eqK, ne-eqK}
 use Rattle.laws.specs.Keyed.{of, step, run, after}
+use Rattle.laws.specs.Totals.{total}
 use Rattle.rfcomm.specs.Pieces.{Piece}
 use Rattle.spans.specs.Scan.{spansOf, restOf, capped}
 use Rattle.spans.specs.Bytewise.{held}
 use Rattle.spans.specs.Spans.{scanner}
+use Rattle.spans.specs.Account.{droppedOf, clearedOf, weighing}
 use Rattle.cut.specs.Left.{Data, dataKey, informationOf, closedIn, closing}
 use Rattle.cut.proofs.TwoParts.{map-append, of-append}
-use Rattle.cut.proofs.CutWires.{Wire, Begun, stream, piece-next, piece-out}
+use Rattle.cut.proofs.CutWires.{Wire, Begun, stream, piece-next, piece-out, piece-none}
 
 -- ---- lists of data PDUs in two parts
 
@@ -73,6 +76,11 @@ module _ (W : ℕ → ℕ → List (List ℕ)) (P : ℕ → ℕ → List ℕ) (S
         rw (f .holds (x .link) (x .rx))
         (piece-next (W (x .link) (x .rx)) (P (x .link) (x .rx)) (S .whole (x .link) (x .rx)) (S .begun (x .link) (x .rx)) (came (dataKey x)) (x .information) (informationOf (dataKey x) xs ++ f .rest (x .link) (x .rx)) comes-here)
 
+    none-here : droppedOf (m (F (x .link) (x .rx)) ++ x .information) + clearedOf (restOf (m (F (x .link) (x .rx)) ++ x .information)) ≡ 0
+    none-here =
+        rw (f .holds (x .link) (x .rx))
+        (piece-none (W (x .link) (x .rx)) (P (x .link) (x .rx)) (S .whole (x .link) (x .rx)) (S .begun (x .link) (x .rx)) (came (dataKey x)) (x .information) (informationOf (dataKey x) xs ++ f .rest (x .link) (x .rx)) comes-here)
+
     rest-here : drop (came (dataKey x) + length (x .information)) (stream (W (x .link) (x .rx)) (P (x .link) (x .rx))) ≡ informationOf (dataKey x) xs ++ f .rest (x .link) (x .rx)
     rest-here = sym (drop-drop (length (x .information)) (came (dataKey x)) (stream (W (x .link) (x .rx)) (P (x .link) (x .rx)))) ∙ rw comes-here (drop-append-seam (x .information) _)
 
@@ -102,3 +110,10 @@ module _ (W : ℕ → ℕ → List (List ℕ)) (P : ℕ → ℕ → List ℕ) (S
   unfolding after
   fed-after m came [] f h r = f .holds h r
   fed-after m came (x ∷ xs) f h r = fed-after (step scanner m (asPiece d F x)) (step (closing W) came x) xs (fed-next m came x xs f) h r
+
+  -- nothing is dropped, nothing cleared
+  pub fed-none : (m : Key → List ℕ) (came : Key → ℕ) (xs : List Data) → Fed m came xs →
+      total (λ n. n) (run (weighing droppedOf) m (map (asPiece d F) xs)) + total (λ n. n) (run (weighing (λ b. clearedOf (restOf b))) m (map (asPiece d F) xs)) ≡ 0
+  unfolding run total
+  fed-none m came [] f = refl
+  fed-none m came (x ∷ xs) f = omega (arith, none-here m came x xs f, fed-none (step scanner m (asPiece d F x)) (step (closing W) came x) xs (fed-next m came x xs f))

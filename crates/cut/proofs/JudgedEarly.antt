@@ -8,6 +8,7 @@ use Rattle.laws.specs.Chop.{chop, chopFrom}
 use Rattle.laws.specs.Keys.{eqK}
 use Rattle.laws.specs.Keyed.{of, run, after}
 use Rattle.laws.specs.Count.{count, nub, mem}
+use Rattle.laws.specs.Totals.{total}
 use Rattle.laws.specs.Numbers.{le16, be32, be64}
 use Rattle.items.specs.Items.{span, rxOf}
 use Rattle.mdr.specs.Frame.{headOf, summedOf, bodyOf, packed, judged as judgedFrame, unpackOf, unpacksOf}
@@ -28,8 +29,9 @@ use Rattle.rfcomm.specs.Pieces.{unchecked, kinds, Judged, Piece, uihKind, frame
 use Rattle.search.specs.Seek.{seek}
 use Rattle.spans.specs.Scan.{spansN, restN, spansOf, restOf, capped}
 use Rattle.spans.specs.Spans.{spans, unfinished, onDlci}
+use Rattle.spans.specs.Account.{droppedN, droppedOf, clearedOf, inSpans, dropped, cleared, left}
 use Rattle.outcome.specs.Import.{Found, missing, onChannel, first, hasFrame, chosen, listed, filePieces, read, endsWell, outcome}
-use Rattle.outcome.proofs.Examples.{finds}
+use Rattle.outcome.proofs.Examples.{finds, went}
 use Rattle.cut.specs.Recording.{Recording, file, cut}
 use Rattle.cut.proofs.Recordings.{admittedLate, onlyCut}
 use Rattle.cut.proofs.Computed.{foundBy, w₀, w₂}
@@ -52,7 +54,7 @@ foundEarly R = listed (earlyPieces R) (λ d. wrongOn d (kinds (earlyJudged R))) 
 -- a channel named before its data and admitted after it: by the wrong rule its frame is lost. A channel named after its data, for another
 -- service: by the wrong rule a frame of that service is listed
 pub judged-early :
-    (foundBy (unchecked source) admittedLate 189 ≡ finds 18 (span 1 5 w₀ ∷ []) 0 189) × (foundEarly admittedLate ≡ missing 6 []) ×
-    (foundBy (unchecked source) onlyCut 149 ≡ finds 18 (span 1 5 w₀ ∷ []) 0 149) × (foundEarly onlyCut ≡ finds 18 (span 1 5 w₀ ∷ span 1 6 w₂ ∷ []) 0 149)
-unfolding cut file outcome isBtsnoop datalink isDatalink endsWell read tailOffset records recordsIn chop chopFrom isWhole recordSize be32 be64 le16 eqK filePieces packetsIn packets packetOf milliseconds fragment h4Packet hciPacket monitorPacket pdus run after of joined isComplete stillOpen pduOf completed commandSize isCommand commands body signalOf signalsIn pduSignals signals any names named asksFor admits admittedAfter admitted isTried asksRfcomm asksSession isSabm isUih shortLength infoLength infoStart creditOf isRight fcsOf register shifted shiftOne frameOf uihKind frameKind kindBy triedBy judgedFrom judgedBy counted pieceOf brought pieces seek spansN restN spansOf restOf capped spans unfinished onDlci count nub mem onChannel first hasFrame chosen isWrong wrongOn listed unpacksOf unpackOf judgedFrame isGiven within checksumOf packed bodyOf summedOf headOf rxOf
+    (foundBy (unchecked source) admittedLate 189 ≡ finds 18 (span 1 5 w₀ ∷ []) 0 189 (went 9 0 0 0)) × (foundEarly admittedLate ≡ missing 6 []) ×
+    (foundBy (unchecked source) onlyCut 149 ≡ finds 18 (span 1 5 w₀ ∷ []) 0 149 (went 9 0 0 0)) × (foundEarly onlyCut ≡ finds 18 (span 1 5 w₀ ∷ span 1 6 w₂ ∷ []) 0 149 (went 18 0 0 0))
+unfolding cut file outcome isBtsnoop datalink isDatalink endsWell read tailOffset records recordsIn chop chopFrom isWhole recordSize be32 be64 le16 eqK filePieces packetsIn packets packetOf milliseconds fragment h4Packet hciPacket monitorPacket pdus run after of joined isComplete stillOpen pduOf completed commandSize isCommand commands body signalOf signalsIn pduSignals signals any names named asksFor admits admittedAfter admitted isTried asksRfcomm asksSession isSabm isUih shortLength infoLength infoStart creditOf isRight fcsOf register shifted shiftOne frameOf uihKind frameKind kindBy triedBy judgedFrom judgedBy counted pieceOf brought pieces seek spansN restN spansOf restOf capped spans unfinished onDlci total droppedN droppedOf clearedOf inSpans dropped cleared left count nub mem onChannel first hasFrame chosen isWrong wrongOn listed unpacksOf unpackOf judgedFrame isGiven within checksumOf packed bodyOf summedOf headOf rxOf
 judged-early = (refl, refl, refl, refl)

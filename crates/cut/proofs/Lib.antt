@@ -5,6 +5,7 @@ pub mod Interleaving
 pub mod Counts
 pub mod LinkWires
 pub mod DataPdus
+pub mod DataKeys
 pub mod JudgedLists
 pub mod CutPieces
 pub mod Verdicts

@@ -1,4 +1,4 @@
--- The links of a recording as a list: the wires of each direction, and the directions counted.
+-- The links of a recording as a list: the wires of each direction, the directions counted, and their bytes added up.
 use Prim.Native.Nat.{ℕ, _≤_}
 use mathlib.Core.Path.{_≡_, refl, sym, ap}
 use mathlib.Core.Logic.{_≢_}
@@ -13,6 +13,7 @@ use Rattle.laws.specs.Lists.{All, all-nil, all-cons}
 use Rattle.laws.specs.Keys.{Key}
 use Rattle.laws.proofs.Keys.{ne-eqK}
 use Rattle.laws.specs.Count.{mem, count}
+use Rattle.laws.specs.Totals.{total}
 use Rattle.items.specs.declared.Direction.{Direction}
 use Rattle.items.specs.declared.Direction.the-variants.{Rx, Tx}
 use Rattle.items.specs.Items.{rxOf}
@@ -22,11 +23,11 @@ use Rattle.mdr.specs.Frame.{unpacksOf}
 use Rattle.mdr.specs.Wire.{innerOf}
 use Rattle.mdr.proofs.Wire.{packed-framed, packed-least, packed-unpacks}
 use Rattle.cut.specs.Recording.{Frame, wire, Framing, packedFrames, LinkOf, RecordingOf}
-use Rattle.cut.specs.Left.{linkKey, dataLeft, informationOf, directionOf, ofHandle, wires, wiresOf, midFrame, endsMid, midIn}
+use Rattle.cut.specs.Left.{linkKey, dataLeft, informationOf, directionOf, ofHandle, wires, wiresOf, midFrame, endsMid, midIn, pastClose, pastLink, pastIn}
 use Rattle.cut.specs.Honest.{Different, no-more, one-more, Beginning}
 use Rattle.cut.proofs.TwoParts.{all-map}
 use Rattle.cut.proofs.CutWires.{NoEnd, Wire, wired, Spanning, Begun, nothing, wire-take}
-use Rattle.cut.proofs.Interleaving.{Framed}
+use Rattle.cut.proofs.Interleaving.{plain, Framed}
 use Rattle.cut.proofs.Counts.{Once, once-nil, once-cons, mem-head, mem-tail}
 
 -- ---- packed frames
@@ -145,3 +146,19 @@ mid-count R n D (l ∷ ls) sub =
 
 pub mid-counted : {C : Container} {S : Framing} (R : RecordingOf C S) (n : ℕ) → Different (handles (R .links)) → midIn R n (R .links) ≡ count (midAt R n) (directions (R .links))
 mid-counted R n D = mid-count R n D (R .links) (λ l m. m)
+
+-- ---- the bytes after the last closing 3C
+
+-- by handle and direction
+abbrev pub pastAt : {C : Container} {S : Framing} → RecordingOf C S → ℕ → ℕ → ℕ → ℕ
+pastAt R n h r = pastClose 0 (length (informationOf (plain h r) (dataLeft R n))) (wiresOf (R .links) h r)
+
+past-total : {C : Container} {S : Framing} (R : RecordingOf C S) (n : ℕ) → Different (handles (R .links)) → (ls : List (LinkOf S)) → ((l : LinkOf S) → List·Memᴰ l ls → List·Memᴰ l (R .links)) → pastIn R n ls ≡ total (λ k. pastAt R n (getD k 0 0) (getD k 1 0)) (directions ls)
+unfolding pastIn pastLink total
+past-total R n D [] sub = refl
+past-total R n D (l ∷ ls) sub =
+    let m : List·Memᴰ l (R .links) = sub l (List·Memᴰ·head refl) in
+    rw (past-total R n D ls (λ x i. sub x (List·Memᴰ·tail i)), found [] wires l Rx m D, found [] wires l Tx m D) (omega arith)
+
+pub past-added : {C : Container} {S : Framing} (R : RecordingOf C S) (n : ℕ) → Different (handles (R .links)) → pastIn R n (R .links) ≡ total (λ k. pastAt R n (getD k 0 0) (getD k 1 0)) (directions (R .links))
+past-added R n D = past-total R n D (R .links) (λ l m. m)

@@ -14,7 +14,7 @@ use Rattle.laws.specs.Lists.{flat, All, all-nil, all-cons}
 use Rattle.laws.specs.Numbers.{le16}
 use Rattle.laws.specs.Keys.{Key}
 use Rattle.laws.proofs.Keys.{eq-eqK}
-use Rattle.laws.specs.Keyed.{of, run, after, step}
+use Rattle.laws.specs.Keyed.{of, run, step}
 use Rattle.items.specs.declared.Direction.{Direction}
 use Rattle.items.specs.declared.Direction.the-variants.{Rx, Tx}
 use Rattle.items.specs.Items.{rxOf}

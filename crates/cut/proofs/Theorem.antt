@@ -3,7 +3,7 @@ use Prim.Native.Nat.{ℕ, _+_, _-_, _*_, _/_, _≤_, _<_}
 use mathlib.Core.Path.{_≡_, refl, sym, ap, _∙_, fun-ext}
 use mathlib.Core.Logic.{_≢_}
 use mathlib.Core.Bool.{true, false, _&&_}
-use mathlib.Core.List.{List, [], _∷_, _++_, map, nil≢cons, List·Memᴰ}
+use mathlib.Core.List.{List, [], _∷_, _++_, map, nil≢cons}
 use mathlib.Core.Option.{some}
 use native.Mathlib.Omega.{arith}
 use native.Mathlib.Nat.{zero-add}
@@ -15,10 +15,9 @@ use Rattle.laws.specs.Lists.{flat, All, all-nil, all-cons}
 use Rattle.laws.specs.Stores.{filled}
 use Rattle.laws.specs.Answers.{Answer, Outcome, gives, refuses, answer, output, Meets}
 use Rattle.laws.specs.Keys.{Key}
-use Rattle.laws.proofs.Keys.{splitK, eq-eqK, ne-eqK}
-use Rattle.laws.specs.Keyed.{of, step, run, after}
+use Rattle.laws.specs.Keyed.{step, run, after}
 use Rattle.laws.specs.Count.{mem, nub}
-use Rattle.items.specs.declared.Direction.{Direction}
+use Rattle.laws.proofs.Totals.{total-map, total-same}
 use Rattle.items.specs.Items.{Span, span, rxOf, spanList}
 use Rattle.mdr.proofs.Escaping.{all-append}
 use Rattle.mdr.specs.Frame.{unpacksOf}
@@ -27,56 +26,24 @@ use Rattle.channels.specs.Channels.{any}
 use Rattle.rfcomm.specs.Pieces.{Judging, Judged, kinds, Piece, judgedBy, counting, noCounts, pieces, wrongOn}
 use Rattle.spans.specs.Bytewise.{held}
 use Rattle.spans.specs.Spans.{scanner, emptied, spans, unfinished, onDlci}
+use Rattle.spans.specs.Account.{inSpans, dropped, cleared, left, accountOf, accountValues}
+use Rattle.spans.proofs.Account.{left-over}
 use Rattle.outcome.specs.Import.{Options, hasFrame, chosen, listed, filePieces, fileWrong, read, endsWell, outcome, given, fits, workSuffices, imported}
-use Rattle.cut.specs.Recording.{LinkOf, Record, RecordingOf, rows, file, cut, Framing}
-use Rattle.cut.specs.Left.{recordsLeft, tailLeft, sentIn, Data, dataKey, linkKey, informationOf, dataOf, dataLeft, closedIn, wires, wiresOf, closing, framesLeft, midLeft}
+use Rattle.cut.specs.Recording.{Record, RecordingOf, rows, file, cut, Framing}
+use Rattle.cut.specs.Left.{recordsLeft, tailLeft, sentIn, Data, dataKey, linkKey, informationOf, dataOf, dataLeft, closedIn, wires, wiresOf, closing, framesLeft, midLeft, pastLeft}
 use Rattle.cut.specs.Honest.{pdusIn, JudgedPdu, judgedIn, Honest}
-use Rattle.cut.specs.Claim.{answerLeft, listLeft, CutClaimOf, CutClaim, wrongLeft}
+use Rattle.cut.specs.Claim.{accountLeft, answerLeft, listLeft, CutClaimOf, CutClaim, wrongLeft}
 use Rattle.cut.proofs.TwoParts.{map-map, take-past, all-at}
 use Rattle.cut.proofs.CutRecords.{records-front, cut-records}
-use Rattle.cut.proofs.CutWires.{Spanning, stream, held-mid, mid-none}
-use Rattle.cut.proofs.Interleaving.{information-append, plain, Framed, asPiece, Apart, came-after, Fed, fed-run, fed-after}
+use Rattle.cut.proofs.CutWires.{Spanning, stream, held-past, mid-none, past-mid}
+use Rattle.cut.proofs.Interleaving.{information-append, plain, Framed, asPiece, Apart, came-after, Fed, fed-run, fed-after, fed-none}
 use Rattle.cut.proofs.Counts.{mem-nub, once-nub, count-same, count-respell}
-use Rattle.cut.proofs.LinkWires.{partialOf, packed-spans, wires-all, links-framed, handles, found, directions, on-directions, directions-once, midAt, mid-counted}
+use Rattle.cut.proofs.LinkWires.{partialOf, packed-spans, wires-all, links-framed, handles, found, directions, directions-once, midAt, mid-counted, pastAt, past-added}
 use Rattle.cut.proofs.DataPdus.{dataIn, sent-append, data-append, cut-trace, cut-data, OnLink, trace-links}
+use Rattle.cut.proofs.DataKeys.{Where, nowhere, at-link, where-is, occurs, within, stretchAt, among-directions}
 use Rattle.cut.proofs.JudgedLists.{judgedOf, markedOf, in-judged, in-marked}
 use Rattle.cut.proofs.CutPieces.{stretch, stretch-apart, calm-pieces, Near, calm-near, chosen-yes, chosen-no}
 use Rattle.cut.proofs.CutRules.{cidOf, cut-calm}
-
--- ---- where a key of data PDUs is
-
-data Where {S : Framing} (ls : List (LinkOf S)) (k : Key) (xs : List Data) : Type 0 where
-  nowhere : of dataKey k xs ≡ [] → Where ls k xs
-  at-link : (l : LinkOf S) (t : Direction) → List·Memᴰ l ls → k ≡ linkKey l t → Where ls k xs
-
-where-is : {S : Framing} (ls : List (LinkOf S)) (k : Key) {xs : List Data} → All (OnLink ls) xs → Where ls k xs
-unfolding of
-where-is ls k all-nil = nowhere refl
-where-is ls k (all-cons {x = x} {xs = xs} o os) =
-    splitK (dataKey x) k
-    (λ e. at-link (o .link) (o .direction) (o .listed) (sym e ∙ o .is))
-    (λ n. go n (where-is ls k os))
-  where
-    go : dataKey x ≢ k → Where ls k xs → Where ls k (x ∷ xs)
-    go n (nowhere e) = nowhere (rw (ne-eqK (dataKey x) k n) e)
-    go n (at-link l t m e) = at-link l t m e
-
--- a key with information is among the data PDUs' keys, and is a link direction
-occurs : (k : Key) (xs : List Data) → 0 < length (informationOf k xs) → mem k (map dataKey xs) ≡ true
-unfolding of mem
-occurs k [] h = absurd (omega arith)
-occurs k (x ∷ xs) h =
-    splitK k (dataKey x)
-    (λ e. rw (eq-eqK k (dataKey x) e))
-    (λ n. rw (ne-eqK k (dataKey x) n) (occurs k xs (rw (ne-eqK (dataKey x) k (λ q. n (sym q))) at h)))
-
-within : {S : Framing} (k : Key) (ls : List (LinkOf S)) {xs : List Data} → All (OnLink ls) xs → mem k (map dataKey xs) ≡ true → mem k (directions ls) ≡ true
-unfolding mem
-within k ls all-nil h = no-way h refl
-within k ls (all-cons {x = x} {xs = xs} o os) h =
-    splitK k (dataKey x)
-    (λ e. rw (e, o .is) (on-directions (o .link) (o .direction) (o .listed)))
-    (λ n. within k ls os (rw (ne-eqK k (dataKey x) n) at h))
 
 -- ---- the frames closed unpack
 
@@ -147,7 +114,10 @@ module _ {by : Judging} {C : Container} {S : Framing} (R : RecordingOf C S) (G :
   on-links = trace-links (cut-trace R n (H .fragments))
 
   -- the pieces on d
-  pieces-on : onDlci (R .d) ps ≡ map (asPiece (R .d) F) D
+  abbrev scanned : List Piece
+  scanned = map (asPiece (R .d) F) D
+
+  pieces-on : onDlci (R .d) ps ≡ scanned
   pieces-on = calm-pieces (R .d) (cidOf (R .links)) noCounts (cut-calm R H n) ∙ ap (map (asPiece (R .d) F)) data-is
 
   framed : Framed (wiresOf (R .links)) (partialOf (R .links))
@@ -180,13 +150,17 @@ module _ {by : Judging} {C : Container} {S : Framing} (R : RecordingOf C S) (G :
   unfolding spans framesLeft
   spans-left = rw pieces-on (fed-run (wiresOf (R .links)) (partialOf (R .links)) framed (R .d) F apart emptied (λ k. 0) D fed)
 
-  -- a buffer is not empty if its link direction ends mid-frame
-  buffers : (h r : ℕ) → ltb 0 (length (after scanner emptied (map (asPiece (R .d) F) D) (F h r))) ≡ midAt R n (plain h r)
+  -- a buffer holds what came of its link direction after the last closing 3C
+  buffers : (h r : ℕ) → length (after scanner emptied scanned (F h r)) ≡ pastAt R n h r
   buffers h r =
       let c : after (closing (wiresOf (R .links))) (λ k. 0) D (plain h r) ≡ length (informationOf (plain h r) D) = came-after (wiresOf (R .links)) (λ k. 0) D (plain h r) ∙ zero-add (length (informationOf (plain h r) D)) in
       let g : length (informationOf (plain h r) D) ≤ length (stream (wiresOf (R .links) h r) (partialOf (R .links) h r)) = omega (arith, ap length (comes h r .is), length-append (informationOf (plain h r) D) (comes h r .rest)) in
       rw (fed-after (wiresOf (R .links)) (partialOf (R .links)) framed (R .d) F apart emptied (λ k. 0) D fed h r, c)
-      (held-mid (wiresOf (R .links) h r) (partialOf (R .links) h r) (framed .whole h r) (framed .begun h r) (length (informationOf (plain h r) D)) g)
+      (held-past (wiresOf (R .links) h r) (partialOf (R .links) h r) (framed .whole h r) (framed .begun h r) (length (informationOf (plain h r) D)) g)
+
+  -- it is not empty if its link direction ends mid-frame
+  buffers-mid : (h r : ℕ) → ltb 0 (length (after scanner emptied scanned (F h r))) ≡ midAt R n (plain h r)
+  buffers-mid h r = rw (buffers h r) (past-mid 0 (length (informationOf (plain h r) D)) (wiresOf (R .links) h r))
 
   same-keys : (k : Key) → midAt R n k ≡ true → mem k (nub (map dataKey D)) ≡ mem k (directions (R .links))
   same-keys k q =
@@ -198,9 +172,32 @@ module _ {by : Judging} {C : Container} {S : Framing} (R : RecordingOf C S) (G :
   unfolding unfinished midLeft
   unfinished-left =
       rw (pieces-on, map-map (λ (p : Piece). p .key) (asPiece (R .d) F) D)
-      (count-respell (λ (x : Data). F (x .link) (x .rx)) dataKey (λ x y. apart (x .link) (x .rx) (y .link) (y .rx)) (λ k. ltb 0 (length (after scanner emptied (map (asPiece (R .d) F) D) k))) (midAt R n) (λ x. buffers (x .link) (x .rx)) D
+      (count-respell (λ (x : Data). F (x .link) (x .rx)) dataKey (λ x y. apart (x .link) (x .rx) (y .link) (y .rx)) (λ k. ltb 0 (length (after scanner emptied scanned k))) (midAt R n) (λ x. buffers-mid (x .link) (x .rx)) D
       ∙ count-same (midAt R n) (once-nub (map dataKey D)) (directions-once (R .links) (H .handles)) same-keys
       ∙ sym (mid-counted R n (H .handles)))
+
+  -- the bytes left in buffers, added up over the link directions
+  left-past : left (onDlci (R .d) ps) ≡ pastLeft R n
+  unfolding pastLeft
+  left-past =
+      rw pieces-on
+      (left-over (map (stretchAt F) (directions (R .links))) scanned (among-directions (R .d) F apart (H .handles) on-links)
+      ∙ total-map (λ k. length (after scanner emptied scanned k)) (stretchAt F) (directions (R .links))
+      ∙ total-same (λ k. length (after scanner emptied scanned (stretchAt F k))) (λ k. pastAt R n (getD k 0 0) (getD k 1 0)) (λ k. buffers (getD k 0 0) (getD k 1 0)) (directions (R .links))
+      ∙ sym (past-added R n (H .handles)))
+
+  -- nothing is dropped, nothing cleared
+  none-lost : dropped (onDlci (R .d) ps) + cleared (onDlci (R .d) ps) ≡ 0
+  unfolding dropped cleared
+  none-lost = rw pieces-on (fed-none (wiresOf (R .links)) (partialOf (R .links)) framed (R .d) F apart emptied (λ k. 0) D fed)
+
+  -- where the bytes on d went
+  account-left : accountOf (onDlci (R .d) ps) ≡ accountLeft R n (framesLeft R n)
+  unfolding inSpans
+  account-left =
+      let x : dropped (onDlci (R .d) ps) ≡ 0 = omega (arith, none-lost) in
+      let y : cleared (onDlci (R .d) ps) ≡ 0 = omega (arith, none-lost) in
+      rw (x, y, left-past, spans-left)
 
   left-unpack : All Unpacks (framesLeft R n)
   unfolding framesLeft
@@ -226,7 +223,7 @@ module _ {by : Judging} {C : Container} {S : Framing} (R : RecordingOf C S) (G :
 -- what import gives, as it is left
 unfoldable pub outcomeLeft : {C : Container} {S : Framing} → Judging → RecordingOf C S → ℕ → List Span → Outcome
 outcomeLeft by R n [] = refuses 6 []
-outcomeLeft by R n (s ∷ ss) = gives (R .d ∷ length (s ∷ ss) ∷ midLeft R n ∷ tailLeft R n ∷ length (spanList (s ∷ ss)) ∷ wrongLeft by R n ∷ []) (spanList (s ∷ ss))
+outcomeLeft by R n (s ∷ ss) = gives (R .d ∷ length (s ∷ ss) ∷ midLeft R n ∷ tailLeft R n ∷ length (spanList (s ∷ ss)) ∷ wrongLeft by R n ∷ accountValues (accountLeft R n (s ∷ ss))) (spanList (s ∷ ss))
 
 module _ {by : Judging} {C : Container} {S : Framing} (R : RecordingOf C S) (G : Spanning S) (H : Honest by R) (n : ℕ) where
   none-left : framesLeft R n ≡ [] → given (listed (ps R G H n) (wrongs R G H n) (tailLeft R n) (chosen (some (R .d / 2)) (ps R G H n))) ≡ outcomeLeft by R n []
@@ -235,7 +232,7 @@ module _ {by : Judging} {C : Container} {S : Framing} (R : RecordingOf C S) (G :
 
   some-left : (s : Span) (ss : List Span) → framesLeft R n ≡ s ∷ ss → Unpacks s → given (listed (ps R G H n) (wrongs R G H n) (tailLeft R n) (chosen (some (R .d / 2)) (ps R G H n))) ≡ outcomeLeft by R n (s ∷ ss)
   unfolding chosen given listed outcomeLeft wrongLeft
-  some-left s ss e u = rw (chosen-yes (R .d) (hasFrame (ps R G H n)) (near R G H n) (good-yes R G H n s ss e u) (some-piece R G H n s ss e), spans-left R G H n, e, unfinished-left R G H n)
+  some-left s ss e u = rw (chosen-yes (R .d) (hasFrame (ps R G H n)) (near R G H n) (good-yes R G H n s ss e u) (some-piece R G H n s ss e), ap accountValues (account-left R G H n), spans-left R G H n, e, unfinished-left R G H n)
 
   listed-left : given (listed (ps R G H n) (wrongs R G H n) (tailLeft R n) (chosen (some (R .d / 2)) (ps R G H n))) ≡ outcomeLeft by R n (framesLeft R n)
   listed-left = go (framesLeft R n) refl (left-unpack R G H n)
