@@ -1,38 +1,35 @@
 -- The walk that chooses a DLCI.
-use Prim.Native.Nat.{ℕ, zero, suc, _+_, _-_, _*_, _/_, _%_, _<_, _≤_}
+use Prim.Native.Nat.{ℕ, zero, suc, _+_, _-_, _*_, _/_, _<_, _≤_}
 use mathlib.Core.Path.{_≡_, refl, sym, ap, _∙_}
 use mathlib.Core.Bool.{Bool, true, false, cond, _&&_}
 use mathlib.Core.List.{List, [], _∷_, map}
-use mathlib.Core.Option.{Option, none, some}
+use mathlib.Core.Option.{some}
 use native.Mathlib.Omega.{arith}
 use native.Mathlib.Numerals.{add-one}
 use lib.ListN.{length, getD, set, replicate, length-set}
-use lib.Seq.{getD-set-other, set-out}
+use lib.Seq.{getD-set-other}
 use lib.Dec.{eqb}
 use Rattle.laws.proofs.Choice.{splitB, split≡}
 use Rattle.words.specs.Words.{word}
 use Rattle.words.specs.Front.{Front}
-use Rattle.words.proofs.Front.{front-refl, front-then, front-less, front-word}
-use Rattle.items.specs.Items.{spanList}
-use Rattle.mdr.specs.Frame.{unpacksOf}
-use Rattle.channels.specs.Channels.{any}
+use Rattle.words.proofs.Front.{front-refl, front-then, front-word}
 use Rattle.rfcomm.specs.Pieces.{Piece}
-use Rattle.rfcomm.specs.PieceTable.{pieceAt, piecesFrom, infosOf, Within, Pieced}
+use Rattle.rfcomm.specs.PieceTable.{pieceAt, piecesFrom, Within}
 use Rattle.rfcomm.proofs.PieceRows.{pieces-front}
 use Rattle.rfcomm.proofs.Gathering.{getD-zeros}
 use Rattle.spans.specs.Parts.{bit}
-use Rattle.spans.specs.Spans.{spans, unfinished, onDlci}
+use Rattle.spans.specs.Spans.{onDlci}
 use Rattle.split.specs.Rows.{all, tailAt, keyAt, Linked, Laid}
 use Rattle.split.proofs.Fronts.{laid-front}
 use Rattle.split.specs.declared.Plan.{Plan}
 use Rattle.measuring.specs.Counting.{CountIs}
 use Rattle.measuring.specs.declared.Sums.{Sums}
 use Rattle.outcome.specs.Import.{onChannel, first, hasFrame, chosen}
-use Rattle.streams.specs.Streams.{channelOf, planOf, tablePieces, Tabled, Ready, below, streamOf, choiceOf, Chooses}
+use Rattle.streams.specs.Streams.{channelOf, planOf, tablePieces, Tabled, Ready, below, Accountable, streamSummed, streamOf, choiceOf, Chooses}
 use Rattle.streams.specs.declared.Channel.{Channel}
 use Rattle.streams.specs.declared.Stream.{Stream}
-use Rattle.streams.specs.declared.Choice.{Choice}
 use Rattle.streams.specs.declared.Choice.the-variants.{Nothing, Chosen}
+use Rattle.streams.proofs.Summing.{accountable, stream-summed}
 
 -- ---- where the tables lie
 
@@ -126,7 +123,7 @@ module _ (f w₀ : List ℕ) (n : ℕ) (channel : Channel) (w tried : List ℕ) 
     mine : word w₀ (5 * (length f / 4) + 8 * i) ≡ d
     mine = sym (dlci-same f w₀ n t w (v .front) i d h ed)
 
-    pub choosing-small : d < 64
+    choosing-small : d < 64
     choosing-small = rw mine at (t .tabled .within i h .most)
 
     more : first (Fit channel (tablePieces f w₀ n)) (dlcis f w₀ n i) ≡ cond (Fit channel (tablePieces f w₀ n) d) (some d) (first (Fit channel (tablePieces f w₀ n)) (dlcis f w₀ n (i + 1)))
@@ -175,14 +172,17 @@ module _ (f w₀ : List ℕ) (n : ℕ) (channel : Channel) (w tried : List ℕ) 
                 (λ x y. split≡ x d (λ z. rw z (has-not g)) (λ z. v .bad x (λ b. y (getD-set-other tried d x 1 0 z ∙ b))))
                 (fit false (has-not g)))
 
-            pub choosing-found : s .tally .frame ≡ 1 → Chooses f w₀ n channel u (Chosen (record { dlci = d; spans = s .tally .count; bytes = s .tally .bytes; unfinished = s .unfinished }))
-            unfolding choiceOf streamOf planOf
-            choosing-found g =
-                let a : all f w p ≡ onDlci d (tablePieces f w₀ n) = all-same f w₀ n t w (v .front) p d ep in
+            pub choosing-account : Accountable d s
+            choosing-account = accountable f w p u s c d (omega (arith, choosing-small))
+
+            pub choosing-found : s .tally .frame ≡ 1 → (r : Stream) → r ≡ streamSummed d s → Chooses f w₀ n channel u (Chosen r)
+            unfolding choiceOf streamSummed planOf
+            choosing-found g r er =
+                let a : streamSummed d s ≡ streamOf (tablePieces f w₀ n) d = stream-summed f w p u s c (tablePieces f w₀ n) d (all-same f w₀ n t w (v .front) p d ep) in
                 let o : chosen (channelOf channel) (tablePieces f w₀ n) ≡ some d = sym (v .same) ∙ more ∙ rw (fit true (has g)) in
-                record {
-                  chooses = rw (o, c .count, c .bytes, c .live, a);
+                rw er (record {
+                  chooses = rw o (ap Chosen a);
                   front = front-then (below f n) u w w₀ (front-plan f u w n d p ep (c .front)) (v .front);
-                  told = λ s e. (let y : s .dlci ≡ d = cc in rw y (rw ep at (c .told)));
-                  small = λ s e. (let y : s .dlci ≡ d = cc in rw y choosing-small);
-                }
+                  told = λ x e. (let y : x .dlci ≡ d = cc in rw y (rw ep at (c .told)));
+                  small = λ x e. (let y : x .dlci ≡ d = cc in rw y choosing-small);
+                })

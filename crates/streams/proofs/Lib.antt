@@ -1,3 +1,4 @@
+pub mod Summing
 pub mod Choosing
 pub mod Listing
 pub mod Streams

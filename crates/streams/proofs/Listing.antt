@@ -5,7 +5,7 @@ use mathlib.Core.List.{List, [], _∷_}
 use mathlib.Core.Option.{Option, none, some}
 use native.Mathlib.Omega.{arith}
 use lib.ListN.{length}
-use Rattle.laws.specs.Answers.{Outcome, gives, Meets}
+use Rattle.laws.specs.Answers.{gives}
 use Rattle.laws.proofs.Answers.{meets-refused, meets-short, meets-wrote}
 use Rattle.laws.specs.Stores.{Writes}
 use Rattle.words.specs.Front.{Front}
@@ -14,7 +14,7 @@ use Rattle.items.specs.Items.{spanList}
 use Rattle.rfcomm.specs.Pieces.{Piece}
 use Rattle.rfcomm.specs.PieceTable.{infosOf}
 use Rattle.rfcomm.proofs.PieceRows.{pieces-front, infos-front, within-front}
-use Rattle.spans.specs.Spans.{spans, unfinished, onDlci}
+use Rattle.spans.specs.Spans.{spans, onDlci}
 use Rattle.split.specs.Rows.{all}
 use Rattle.split.specs.Walks.{LinkRoom, LinkedTo}
 use Rattle.split.specs.declared.Plan.{Plan}
@@ -67,12 +67,11 @@ module _ (f w : List ℕ) (n : ℕ) (channel : Channel) (u : List ℕ) (c : Choi
 
     gives-list :
         (tail : ℕ) (wrongs : ℕ → ℕ) →
-        given (listed (tablePieces f w n) wrongs tail (chosen (channelOf channel) (tablePieces f w n))) ≡ gives (s .dlci ∷ s .spans ∷ s .unfinished ∷ tail ∷ s .bytes ∷ wrongs (s .dlci) ∷ []) list
+        given (listed (tablePieces f w n) wrongs tail (chosen (channelOf channel) (tablePieces f w n))) ≡ gives (s .dlci ∷ s .spans ∷ s .unfinished ∷ tail ∷ s .bytes ∷ wrongs (s .dlci) ∷ s .in_spans ∷ s .dropped ∷ s .cleared ∷ s .left ∷ []) list
     unfolding given listed streamOf
     gives-list tail wrongs =
-        let a : s .spans ≡ length (spans (onDlci (s .dlci) (tablePieces f w n))) = ap (λ (x : Stream). x .spans) (of-stream .1) in
-        let b : s .unfinished ≡ unfinished (onDlci (s .dlci) (tablePieces f w n)) = ap (λ (x : Stream). x .unfinished) (of-stream .1) in
-        rw (of-stream .0, a, b, needed)
+        let v : Stream → List ℕ = λ x. s .dlci ∷ x .spans ∷ x .unfinished ∷ tail ∷ x .bytes ∷ wrongs (s .dlci) ∷ x .in_spans ∷ x .dropped ∷ x .cleared ∷ x .left ∷ [] in
+        rw (of-stream .0) (sym (ap (λ (x : Stream). gives (v x) list) (of-stream .1)))
 
     pub lists-short : length out < s .bytes → ListsSpans f w n channel out (OutShort (s .bytes)) u out
     unfolding told

@@ -1,5 +1,4 @@
-use Rattle.streams.proofs.Choosing.{Choosing, choosing-start, choosing-small, choosing-skip, choosing-known, choosing-laid, choosing-bad, choosing-found, choosing-end}
-use mathlib.Core.Path.{_∙_}
+use Rattle.streams.proofs.Choosing.{Choosing, choosing-start, choosing-skip, choosing-known, choosing-laid, choosing-bad, choosing-account, choosing-found, choosing-end}
 use Prim.Native.Nat.{_-_}
 use borrow.Author.Needs.{needs}
 use native.Mathlib.Omega.{arith}
@@ -11,6 +10,7 @@ use Rattle.measuring.proofs.count_spans.Reads as count-spans-reads
 use Rattle.streams.proofs.mark.Reads as mark-reads
 use Rattle.streams.proofs.on_channel.Reads as on-channel-reads
 use Rattle.streams.proofs.plan.Reads as plan-reads
+use Rattle.streams.proofs.stream_of.Reads as stream-of-reads
 use Rattle.streams.proofs.was_tried.Reads as was-tried-reads
 use Rattle.words.proofs.get32.Reads as get32-reads
 
@@ -72,17 +72,17 @@ plan-requires c κs = (omega (arith, c .before .before .before .before .before .
 count-spans-requires : tie.Need-count-spans-requires Inv-loop μ-loop
 count-spans-requires c κs = choosing-laid _ _ _ _ _ _ _ (c .before .before .before .before .before .before .before .before .before .before .before .before .before .loop .inv) (c .before .before .before .before .before .before .before .before .before .before .before .before .before .before .before .before .pre) (c .before .before .before .before .before .before .before .before .before .before .before .before .loop-test .taken) _ (c .before .before .before .before .before .before .before .before .before .before .get32 .ensures) _ (c .before .before .before .before .before .before .before .before .before .on-channel .ensures) (c .before .before .before .before .before .before .before .before .if1 .taken) _ (c .before .plan .ensures)
 
--- src/lib.rt:96:31
-cast-t31 : tie.Need-cast-t31 Inv-loop μ-loop
-cast-t31 c = let h = choosing-small _ _ _ _ _ _ _ (c .before .before .before .before .before .before .before .before .before .before .before .before .before .before .before .before .before .before .before .loop .inv) (c .before .before .before .before .before .before .before .before .before .before .before .before .before .before .before .before .before .before .before .before .before .before .pre) (c .before .before .before .before .before .before .before .before .before .before .before .before .before .before .before .before .before .before .loop-test .taken) _ (c .before .before .before .before .before .before .before .before .before .before .before .before .before .before .before .before .get32 .ensures) in omega arith
+-- src/lib.rt:126:33
+stream-of-requires : tie.Need-stream-of-requires Inv-loop μ-loop
+stream-of-requires c κs = choosing-account _ _ _ _ _ _ _ (c .before .before .before .before .before .before .before .before .before .before .before .before .before .before .before .before .before .before .before .loop .inv) (c .before .before .before .before .before .before .before .before .before .before .before .before .before .before .before .before .before .before .before .before .before .before .pre) (c .before .before .before .before .before .before .before .before .before .before .before .before .before .before .before .before .before .before .loop-test .taken) _ (c .before .before .before .before .before .before .before .before .before .before .before .before .before .before .before .before .get32 .ensures) _ (c .before .before .before .before .before .before .before .before .before .before .before .before .before .before .before .on-channel .ensures) (c .before .before .before .before .before .before .before .before .before .before .before .before .before .before .if1 .taken) _ (c .before .before .before .before .before .before .before .plan .ensures) _ _ (c .before .before .before .before .before .count-spans .ensures)
 
--- src/lib.rt:101:21
+-- src/lib.rt:127:21
 same-length : tie.Need-same-length Inv-loop μ-loop
-same-length c = omega (arith, c .before .before .before .before .before .before .before .before .before .before .before .before .before .before .before .before .before .before .before .loop .inv .long)
+same-length c = omega (arith, c .before .before .before .before .before .before .before .before .before .before .before .before .before .before .before .before .before .before .before .before .loop .inv .long)
 
--- src/lib.rt:101:21
+-- src/lib.rt:127:21
 returns : tie.Need-returns Inv-loop μ-loop
-returns c = choosing-found _ _ _ _ _ _ _ (c .before .before .before .before .before .before .before .before .before .before .before .before .before .before .before .before .before .before .before .loop .inv) (c .before .before .before .before .before .before .before .before .before .before .before .before .before .before .before .before .before .before .before .before .before .before .pre) (c .before .before .before .before .before .before .before .before .before .before .before .before .before .before .before .before .before .before .loop-test .taken) _ (c .before .before .before .before .before .before .before .before .before .before .before .before .before .before .before .before .get32 .ensures) _ (c .before .before .before .before .before .before .before .before .before .before .before .before .before .before .before .on-channel .ensures) (c .before .before .before .before .before .before .before .before .before .before .before .before .before .before .if1 .taken) _ (c .before .before .before .before .before .before .before .plan .ensures) _ _ (c .before .before .before .before .before .count-spans .ensures) (c .if3 .taken)
+returns c = choosing-found _ _ _ _ _ _ _ (c .before .before .before .before .before .before .before .before .before .before .before .before .before .before .before .before .before .before .before .before .loop .inv) (c .before .before .before .before .before .before .before .before .before .before .before .before .before .before .before .before .before .before .before .before .before .before .before .pre) (c .before .before .before .before .before .before .before .before .before .before .before .before .before .before .before .before .before .before .before .loop-test .taken) _ (c .before .before .before .before .before .before .before .before .before .before .before .before .before .before .before .before .before .get32 .ensures) _ (c .before .before .before .before .before .before .before .before .before .before .before .before .before .before .before .before .on-channel .ensures) (c .before .before .before .before .before .before .before .before .before .before .before .before .before .before .before .if1 .taken) _ (c .before .before .before .before .before .before .before .before .plan .ensures) _ _ (c .before .before .before .before .before .before .count-spans .ensures) (c .before .if3 .taken) _ (c .stream-of .ensures)
 
 -- src/lib.rt:85:5
 loop-less : tie.Need-loop-less Inv-loop μ-loop
@@ -135,7 +135,7 @@ choose-dlci-spec =
     mark-requires
     plan-requires
     count-spans-requires
-    cast-t31
+    stream-of-requires
     same-length
     returns
     loop-less
