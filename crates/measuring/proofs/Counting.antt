@@ -156,6 +156,19 @@ module _ (f w : List ℕ) (p : Plan) (i h : ℕ) (t : Tally) (q : CountHeld f w 
               bytes = omega (arith, y .bytes, ap length behind, length-append held (bytesAt f w p i), held-long, own-long);
             }
 
+-- nothing was held and nothing is left
+pub added-none : (s : Sums) (t : Tally) (m h n r : ℕ) → AddPre s m h n r → h + n ≡ 0 →
+    record { tally = t; unfinished = s .unfinished; taken = s .taken + m; cleared = s .cleared; left = s .left } ≡ added s t m h n r
+unfolding added
+added-none s t m h n r p e =
+    let eh : h ≡ 0 = omega arith in
+    let en : n ≡ 0 = omega arith in
+    let er : r ≡ 0 = omega (arith, p .part) in
+    let a : s .unfinished ≡ s .unfinished + sign r - sign h = rw (eh, er) (omega arith) in
+    let b : s .cleared ≡ s .cleared + (n - r) = omega arith in
+    let c : s .left ≡ s .left + r - h = omega arith in
+    rw (← a, ← b, ← c)
+
 pub added-is : (s : Sums) (t : Tally) (m h n r o : ℕ) → o ≡ s .unfinished + sign r - sign h →
     record { tally = t; unfinished = o; taken = s .taken + m; cleared = s .cleared + (n - r); left = s .left + r - h } ≡ added s t m h n r
 unfolding added

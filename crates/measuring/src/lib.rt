@@ -117,16 +117,27 @@ fn count_behind(file: &[u8], w: &mut [u8], p: Plan, i: usize, h: usize, t: Tally
     count_joined(file, w, p, i, h, t)
 }
 
-// The sums with a piece of m bytes more, whose spans are counted in t, and of whose rest of n bytes r are held where h were.
+// The sums with a piece of m bytes more, whose spans are counted in t, and of whose rest of n bytes r are held where h were. Mostly
+// nothing was held and nothing is left.
 fn add_piece(s: Sums, t: Tally, m: usize, h: usize, n: usize, r: u32) -> Sums
     requires { ⌜ AddPre s m h n r ⌝ }
     ensures { λ o. ⌜ o ≡ added s t m h n r ⌝ }
 {
+    let taken = s.taken + m;
+    if h + n == 0 {
+        return Sums {
+            tally: t,
+            unfinished: s.unfinished,
+            taken,
+            cleared: s.cleared,
+            left: s.left,
+        };
+    }
     let held = r as usize;
     Sums {
         tally: t,
         unfinished: count_open(s.unfinished, r, h),
-        taken: s.taken + m,
+        taken,
         cleared: s.cleared + (n - held),
         left: s.left + held - h,
     }
