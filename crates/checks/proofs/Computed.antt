@@ -11,6 +11,7 @@ use Rattle.laws.specs.Chop.{chop, chopFrom}
 use Rattle.laws.specs.Keys.{eqK}
 use Rattle.laws.specs.Keyed.{of, run, after}
 use Rattle.laws.specs.Count.{count, nub, mem}
+use Rattle.laws.specs.Totals.{total}
 use Rattle.laws.specs.Numbers.{le16, be32, be64}
 use Rattle.items.specs.Items.{Span, span, rxOf}
 use Rattle.mdr.specs.Frame.{headOf, summedOf, bodyOf, packed, judged as judgedFrame, unpackOf, unpacksOf}
@@ -33,10 +34,11 @@ use Rattle.rfcomm.specs.Pieces.{uihKind, frameKind, unchecked, kindBy, judgedFr
 use Rattle.search.specs.Seek.{seek}
 use Rattle.spans.specs.Scan.{spansN, restN, spansOf, restOf, capped}
 use Rattle.spans.specs.Spans.{spans, unfinished, onDlci}
+use Rattle.spans.specs.Account.{Account, droppedN, droppedOf, clearedOf, inSpans, dropped, cleared, left}
 use Rattle.outcome.specs.Import.{Found, found, missing, strict, onChannel, first, hasFrame, chosen, listed, filePieces, read, endsWell, outcome}
-use Rattle.outcome.proofs.Examples.{sample}
+use Rattle.outcome.proofs.Examples.{sample, went}
 use Rattle.cut.specs.Recording.{file, cut}
-use Rattle.cut.specs.Left.{leftFrom, recordsLeft, tailLeft, sent, dataOf, dataLeft, closedIn, ofHandle, framesLeft, midFrame, endsMid, midIn, midLeft}
+use Rattle.cut.specs.Left.{leftFrom, recordsLeft, tailLeft, sent, dataOf, dataLeft, closedIn, ofHandle, framesLeft, midFrame, endsMid, midIn, midLeft, pastClose, pastLink, pastIn, pastLeft}
 use Rattle.cut.specs.Honest.{pdusIn, markedPdus, withMarks, judgedIn, isDataOf, toData, afterData, adds, carriesOn, Honest}
 use Rattle.cut.specs.Claim.{wrongLeft}
 use Rattle.cut.proofs.Tests.{packedChecked, every, once, openTest, ends, headerTest, wholeTest, smallTest, dlciTest, dynamicTest, channelTest, channelsTest, rightTest, checksTest, informationTest, sizesTest, beginningsTest, settledIn, settledTest, aloneIn, aloneTest, handlesTest, dataTest, markTest, fragmentsTest, rules, passed-all, honest}
@@ -117,9 +119,9 @@ wrongSabm-uncovered H = no-way refl (first-of (H .settled 136 0x40) refl)
 
 -- ---- cuts
 
--- DLCI, spans, unfinished, tail offset, frames with a wrong FCS
-abbrev counts : ℕ → List Span → ℕ → ℕ → ℕ → Found
-counts d ss unfinished tail wrong = found (record { dlci = d; spans = ss; unfinished = unfinished; tail = tail; wrong = wrong })
+-- DLCI, spans, unfinished, tail offset, frames with a wrong FCS, and where the bytes went
+abbrev counts : ℕ → List Span → ℕ → ℕ → ℕ → Account → Found
+counts d ss unfinished tail wrong account = found (record { dlci = d; spans = ss; unfinished = unfinished; tail = tail; wrong = wrong; account = account })
 
 -- whole; less one byte, so without the last wrong frame; a byte short of the second frame; within a wrong frame; a byte short of the first frame; nothing but the header
 abbrev cuts : List ℕ
@@ -127,11 +129,11 @@ cuts = 390 ∷ 389 ∷ 352 ∷ 200 ∷ 141 ∷ 16 ∷ []
 
 abbrev answers : List Found
 answers =
-    counts 18 (span 1 3 w₀ ∷ span 1 8 w₁ ∷ []) 0 390 3 ∷ counts 18 (span 1 3 w₀ ∷ span 1 8 w₁ ∷ []) 0 353 2 ∷ counts 18 (span 1 3 w₀ ∷ []) 1 308 2 ∷ counts 18 (span 1 3 w₀ ∷ []) 1 188 1 ∷ missing 6 [] ∷ missing 6 [] ∷ []
+    counts 18 (span 1 3 w₀ ∷ span 1 8 w₁ ∷ []) 0 390 3 (went 21 0 0 0) ∷ counts 18 (span 1 3 w₀ ∷ span 1 8 w₁ ∷ []) 0 353 2 (went 21 0 0 0) ∷ counts 18 (span 1 3 w₀ ∷ []) 1 308 2 (went 9 0 0 5) ∷ counts 18 (span 1 3 w₀ ∷ []) 1 188 1 (went 9 0 0 5) ∷ missing 6 [] ∷ missing 6 [] ∷ []
 
 -- import finds what is left, and counts
 pub noisy-cuts : (map (foundBy (checked source) noisy) cuts ≡ answers) × (map (leftAt (checked source) noisy) cuts ≡ answers)
-unfolding cut file tailLeft ofHandle closedIn framesLeft midFrame endsMid midIn midLeft leftFrom recordsLeft sent dataOf dataLeft outcome isBtsnoop datalink isDatalink endsWell read tailOffset records recordsIn chop chopFrom isWhole recordSize be32 be64 le16 eqK filePieces packetsIn packets packetOf milliseconds fragment h4Packet hciPacket monitorPacket pdus run after of joined isComplete stillOpen pduOf completed commandSize isCommand commands body signalOf signalsIn pduSignals signals any names named asksFor admits admittedAfter admitted isTried asksRfcomm asksSession isSabm isUih shortLength infoLength infoStart creditOf isRight fcsOf register shifted shiftOne frameOf uihKind frameKind kindBy triedBy judgedFrom judgedBy counted pieceOf brought pieces seek spansN restN spansOf restOf capped spans unfinished onDlci count nub mem onChannel first hasFrame chosen isWrong wrongOn listed unpacksOf unpackOf judgedFrame isGiven within checksumOf packed bodyOf summedOf headOf rxOf wrongLeft judgedIn withMarks markedPdus pdusIn
+unfolding cut file tailLeft ofHandle closedIn framesLeft midFrame endsMid midIn midLeft pastClose pastLink pastIn pastLeft leftFrom recordsLeft sent dataOf dataLeft outcome isBtsnoop datalink isDatalink endsWell read tailOffset records recordsIn chop chopFrom isWhole recordSize be32 be64 le16 eqK filePieces packetsIn packets packetOf milliseconds fragment h4Packet hciPacket monitorPacket pdus run after of joined isComplete stillOpen pduOf completed commandSize isCommand commands body signalOf signalsIn pduSignals signals any names named asksFor admits admittedAfter admitted isTried asksRfcomm asksSession isSabm isUih shortLength infoLength infoStart creditOf isRight fcsOf register shifted shiftOne frameOf uihKind frameKind kindBy triedBy judgedFrom judgedBy counted pieceOf brought pieces seek spansN restN spansOf restOf capped spans unfinished onDlci total droppedN droppedOf clearedOf inSpans dropped cleared left count nub mem onChannel first hasFrame chosen isWrong wrongOn listed unpacksOf unpackOf judgedFrame isGiven within checksumOf packed bodyOf summedOf headOf rxOf wrongLeft judgedIn withMarks markedPdus pdusIn
 noisy-cuts = (refl, refl)
 
 -- counted in the cut before the request that names its channel, and not in the whole file
@@ -139,42 +141,42 @@ abbrev laterCuts : List ℕ
 laterCuts = 140 ∷ 139 ∷ 98 ∷ 61 ∷ 16 ∷ []
 
 abbrev laterAnswers : List Found
-laterAnswers = counts 18 (span 1 5 w₀ ∷ []) 0 140 0 ∷ counts 18 (span 1 5 w₀ ∷ []) 0 99 1 ∷ counts 18 (span 1 5 w₀ ∷ []) 0 62 0 ∷ missing 6 [] ∷ missing 6 [] ∷ []
+laterAnswers = counts 18 (span 1 5 w₀ ∷ []) 0 140 0 (went 9 0 0 0) ∷ counts 18 (span 1 5 w₀ ∷ []) 0 99 1 (went 9 0 0 0) ∷ counts 18 (span 1 5 w₀ ∷ []) 0 62 0 (went 9 0 0 0) ∷ missing 6 [] ∷ missing 6 [] ∷ []
 
 pub heardLater-cuts : (map (foundBy (checked source) heardLater) laterCuts ≡ laterAnswers) × (map (leftAt (checked source) heardLater) laterCuts ≡ laterAnswers)
-unfolding cut file tailLeft ofHandle closedIn framesLeft midFrame endsMid midIn midLeft leftFrom recordsLeft sent dataOf dataLeft outcome isBtsnoop datalink isDatalink endsWell read tailOffset records recordsIn chop chopFrom isWhole recordSize be32 be64 le16 eqK filePieces packetsIn packets packetOf milliseconds fragment h4Packet hciPacket monitorPacket pdus run after of joined isComplete stillOpen pduOf completed commandSize isCommand commands body signalOf signalsIn pduSignals signals any names named asksFor admits admittedAfter admitted isTried asksRfcomm asksSession isSabm isUih shortLength infoLength infoStart creditOf isRight fcsOf register shifted shiftOne frameOf uihKind frameKind kindBy triedBy judgedFrom judgedBy counted pieceOf brought pieces seek spansN restN spansOf restOf capped spans unfinished onDlci count nub mem onChannel first hasFrame chosen isWrong wrongOn listed unpacksOf unpackOf judgedFrame isGiven within checksumOf packed bodyOf summedOf headOf rxOf wrongLeft judgedIn withMarks markedPdus pdusIn
+unfolding cut file tailLeft ofHandle closedIn framesLeft midFrame endsMid midIn midLeft pastClose pastLink pastIn pastLeft leftFrom recordsLeft sent dataOf dataLeft outcome isBtsnoop datalink isDatalink endsWell read tailOffset records recordsIn chop chopFrom isWhole recordSize be32 be64 le16 eqK filePieces packetsIn packets packetOf milliseconds fragment h4Packet hciPacket monitorPacket pdus run after of joined isComplete stillOpen pduOf completed commandSize isCommand commands body signalOf signalsIn pduSignals signals any names named asksFor admits admittedAfter admitted isTried asksRfcomm asksSession isSabm isUih shortLength infoLength infoStart creditOf isRight fcsOf register shifted shiftOne frameOf uihKind frameKind kindBy triedBy judgedFrom judgedBy counted pieceOf brought pieces seek spansN restN spansOf restOf capped spans unfinished onDlci total droppedN droppedOf clearedOf inSpans dropped cleared left count nub mem onChannel first hasFrame chosen isWrong wrongOn listed unpacksOf unpackOf judgedFrame isGiven within checksumOf packed bodyOf summedOf headOf rxOf wrongLeft judgedIn withMarks markedPdus pdusIn
 heardLater-cuts = (refl, refl)
 
 -- what comes after the end is tried, and counted, by the source's rule only
 pub held-cuts :
-    DifferBy (checked core) held 272 (counts 18 (span 0 3 w₀ ∷ []) 0 272 1) (counts 18 (span 0 3 w₀ ∷ []) 0 272 1) ×
-    DifferBy (checked core) held 193 (counts 18 (span 0 3 w₀ ∷ []) 0 148 0) (counts 18 (span 0 3 w₀ ∷ []) 0 148 0) ×
+    DifferBy (checked core) held 272 (counts 18 (span 0 3 w₀ ∷ []) 0 272 1 (went 9 0 0 0)) (counts 18 (span 0 3 w₀ ∷ []) 0 272 1 (went 9 0 0 0)) ×
+    DifferBy (checked core) held 193 (counts 18 (span 0 3 w₀ ∷ []) 0 148 0 (went 9 0 0 0)) (counts 18 (span 0 3 w₀ ∷ []) 0 148 0 (went 9 0 0 0)) ×
     DifferBy (checked core) held 147 (missing 6 []) (missing 6 []) ×
-    DifferBy (checked source) held 272 (counts 18 (span 0 3 w₀ ∷ []) 0 272 2) (counts 18 (span 0 3 w₀ ∷ []) 0 272 2)
-unfolding triedBy holds holdsAfter events eventsAfter eventsOf bothHold latest coreSignals pduCoreSignals coreSignalsIn coreSignalOf cut file tailLeft ofHandle closedIn framesLeft midFrame endsMid midIn midLeft leftFrom recordsLeft sent dataOf dataLeft outcome isBtsnoop datalink isDatalink endsWell read tailOffset records recordsIn chop chopFrom isWhole recordSize be32 be64 le16 eqK filePieces packetsIn packets packetOf milliseconds fragment h4Packet hciPacket monitorPacket pdus run after of joined isComplete stillOpen pduOf completed commandSize isCommand commands body signalOf signalsIn pduSignals signals any names named asksFor admits admittedAfter admitted isTried asksRfcomm asksSession isSabm isUih shortLength infoLength infoStart creditOf isRight fcsOf register shifted shiftOne frameOf uihKind frameKind kindBy judgedFrom judgedBy counted pieceOf brought pieces seek spansN restN spansOf restOf capped spans unfinished onDlci count nub mem onChannel first hasFrame chosen isWrong wrongOn listed unpacksOf unpackOf judgedFrame isGiven within checksumOf packed bodyOf summedOf headOf rxOf wrongLeft judgedIn withMarks markedPdus pdusIn
+    DifferBy (checked source) held 272 (counts 18 (span 0 3 w₀ ∷ []) 0 272 2 (went 9 0 0 0)) (counts 18 (span 0 3 w₀ ∷ []) 0 272 2 (went 9 0 0 0))
+unfolding triedBy holds holdsAfter events eventsAfter eventsOf bothHold latest coreSignals pduCoreSignals coreSignalsIn coreSignalOf cut file tailLeft ofHandle closedIn framesLeft midFrame endsMid midIn midLeft pastClose pastLink pastIn pastLeft leftFrom recordsLeft sent dataOf dataLeft outcome isBtsnoop datalink isDatalink endsWell read tailOffset records recordsIn chop chopFrom isWhole recordSize be32 be64 le16 eqK filePieces packetsIn packets packetOf milliseconds fragment h4Packet hciPacket monitorPacket pdus run after of joined isComplete stillOpen pduOf completed commandSize isCommand commands body signalOf signalsIn pduSignals signals any names named asksFor admits admittedAfter admitted isTried asksRfcomm asksSession isSabm isUih shortLength infoLength infoStart creditOf isRight fcsOf register shifted shiftOne frameOf uihKind frameKind kindBy judgedFrom judgedBy counted pieceOf brought pieces seek spansN restN spansOf restOf capped spans unfinished onDlci total droppedN droppedOf clearedOf inSpans dropped cleared left count nub mem onChannel first hasFrame chosen isWrong wrongOn listed unpacksOf unpackOf judgedFrame isGiven within checksumOf packed bodyOf summedOf headOf rxOf wrongLeft judgedIn withMarks markedPdus pdusIn
 held-cuts = ((refl, refl), (refl, refl), (refl, refl), (refl, refl))
 
--- unchecked, wrong frames are taken in: another DLCI is chosen, or their bytes stand within a frame that was sent
+-- unchecked, wrong frames are taken in: another DLCI is chosen, or their bytes stand within a frame that was sent, whose last 7 bytes are dropped
 pub side-by-side :
-    DifferBy (unchecked source) noisy 390 (counts 19 (span 1 1 w₀ ∷ []) 0 390 0) (counts 18 (span 1 3 w₀ ∷ span 1 8 w₁ ∷ []) 0 390 0) ×
-    DifferBy (checked source) mixed 157 (counts 18 (span 1 5 w₀ ∷ span 1 7 w₁ ∷ []) 0 157 1) (counts 18 (span 1 5 w₀ ∷ span 1 7 w₁ ∷ []) 0 157 1) ×
-    DifferBy (unchecked source) mixed 157 (counts 18 (span 1 5 w₀ ∷ span 1 6 (take 5 w₁ ++ w₂) ∷ []) 0 157 0) (counts 18 (span 1 5 w₀ ∷ span 1 7 w₁ ∷ []) 0 157 0)
-unfolding cut file tailLeft ofHandle closedIn framesLeft midFrame endsMid midIn midLeft leftFrom recordsLeft sent dataOf dataLeft outcome isBtsnoop datalink isDatalink endsWell read tailOffset records recordsIn chop chopFrom isWhole recordSize be32 be64 le16 eqK filePieces packetsIn packets packetOf milliseconds fragment h4Packet hciPacket monitorPacket pdus run after of joined isComplete stillOpen pduOf completed commandSize isCommand commands body signalOf signalsIn pduSignals signals any names named asksFor admits admittedAfter admitted isTried asksRfcomm asksSession isSabm isUih shortLength infoLength infoStart creditOf isRight fcsOf register shifted shiftOne frameOf uihKind frameKind kindBy triedBy judgedFrom judgedBy counted pieceOf brought pieces seek spansN restN spansOf restOf capped spans unfinished onDlci count nub mem onChannel first hasFrame chosen isWrong wrongOn listed unpacksOf unpackOf judgedFrame isGiven within checksumOf packed bodyOf summedOf headOf rxOf wrongLeft judgedIn withMarks markedPdus pdusIn
+    DifferBy (unchecked source) noisy 390 (counts 19 (span 1 1 w₀ ∷ []) 0 390 0 (went 9 0 0 0)) (counts 18 (span 1 3 w₀ ∷ span 1 8 w₁ ∷ []) 0 390 0 (went 21 0 0 0)) ×
+    DifferBy (checked source) mixed 157 (counts 18 (span 1 5 w₀ ∷ span 1 7 w₁ ∷ []) 0 157 1 (went 21 0 0 0)) (counts 18 (span 1 5 w₀ ∷ span 1 7 w₁ ∷ []) 0 157 1 (went 21 0 0 0)) ×
+    DifferBy (unchecked source) mixed 157 (counts 18 (span 1 5 w₀ ∷ span 1 6 (take 5 w₁ ++ w₂) ∷ []) 0 157 0 (went 23 7 0 0)) (counts 18 (span 1 5 w₀ ∷ span 1 7 w₁ ∷ []) 0 157 0 (went 21 0 0 0))
+unfolding cut file tailLeft ofHandle closedIn framesLeft midFrame endsMid midIn midLeft pastClose pastLink pastIn pastLeft leftFrom recordsLeft sent dataOf dataLeft outcome isBtsnoop datalink isDatalink endsWell read tailOffset records recordsIn chop chopFrom isWhole recordSize be32 be64 le16 eqK filePieces packetsIn packets packetOf milliseconds fragment h4Packet hciPacket monitorPacket pdus run after of joined isComplete stillOpen pduOf completed commandSize isCommand commands body signalOf signalsIn pduSignals signals any names named asksFor admits admittedAfter admitted isTried asksRfcomm asksSession isSabm isUih shortLength infoLength infoStart creditOf isRight fcsOf register shifted shiftOne frameOf uihKind frameKind kindBy triedBy judgedFrom judgedBy counted pieceOf brought pieces seek spansN restN spansOf restOf capped spans unfinished onDlci total droppedN droppedOf clearedOf inSpans dropped cleared left count nub mem onChannel first hasFrame chosen isWrong wrongOn listed unpacksOf unpackOf judgedFrame isGiven within checksumOf packed bodyOf summedOf headOf rxOf wrongLeft judgedIn withMarks markedPdus pdusIn
 side-by-side = ((refl, refl), (refl, refl), (refl, refl))
 
 -- a rule is broken: import finds something else
 pub broken-cuts :
-    DifferBy (checked source) wrongData 62 (missing 6 []) (counts 18 (span 1 5 w₀ ∷ []) 0 62 1) ×
-    DifferBy (unchecked source) wrongData 62 (counts 18 (span 1 5 w₀ ∷ []) 0 62 0) (counts 18 (span 1 5 w₀ ∷ []) 0 62 0) ×
-    DifferBy (checked source) rightData 108 (counts 18 (span 1 5 w₀ ∷ span 1 6 w₂ ∷ []) 0 108 0) (counts 18 (span 1 5 w₀ ∷ []) 0 108 0) ×
-    DifferBy (checked source) wrongSabm 136 (missing 6 []) (counts 18 (span 1 7 w₀ ∷ []) 0 136 0)
-unfolding cut file tailLeft ofHandle closedIn framesLeft midFrame endsMid midIn midLeft leftFrom recordsLeft sent dataOf dataLeft outcome isBtsnoop datalink isDatalink endsWell read tailOffset records recordsIn chop chopFrom isWhole recordSize be32 be64 le16 eqK filePieces packetsIn packets packetOf milliseconds fragment h4Packet hciPacket monitorPacket pdus run after of joined isComplete stillOpen pduOf completed commandSize isCommand commands body signalOf signalsIn pduSignals signals any names named asksFor admits admittedAfter admitted isTried asksRfcomm asksSession isSabm isUih shortLength infoLength infoStart creditOf isRight fcsOf register shifted shiftOne frameOf uihKind frameKind kindBy triedBy judgedFrom judgedBy counted pieceOf brought pieces seek spansN restN spansOf restOf capped spans unfinished onDlci count nub mem onChannel first hasFrame chosen isWrong wrongOn listed unpacksOf unpackOf judgedFrame isGiven within checksumOf packed bodyOf summedOf headOf rxOf wrongLeft judgedIn withMarks markedPdus pdusIn
+    DifferBy (checked source) wrongData 62 (missing 6 []) (counts 18 (span 1 5 w₀ ∷ []) 0 62 1 (went 9 0 0 0)) ×
+    DifferBy (unchecked source) wrongData 62 (counts 18 (span 1 5 w₀ ∷ []) 0 62 0 (went 9 0 0 0)) (counts 18 (span 1 5 w₀ ∷ []) 0 62 0 (went 9 0 0 0)) ×
+    DifferBy (checked source) rightData 108 (counts 18 (span 1 5 w₀ ∷ span 1 6 w₂ ∷ []) 0 108 0 (went 18 0 0 0)) (counts 18 (span 1 5 w₀ ∷ []) 0 108 0 (went 9 0 0 0)) ×
+    DifferBy (checked source) wrongSabm 136 (missing 6 []) (counts 18 (span 1 7 w₀ ∷ []) 0 136 0 (went 9 0 0 0))
+unfolding cut file tailLeft ofHandle closedIn framesLeft midFrame endsMid midIn midLeft pastClose pastLink pastIn pastLeft leftFrom recordsLeft sent dataOf dataLeft outcome isBtsnoop datalink isDatalink endsWell read tailOffset records recordsIn chop chopFrom isWhole recordSize be32 be64 le16 eqK filePieces packetsIn packets packetOf milliseconds fragment h4Packet hciPacket monitorPacket pdus run after of joined isComplete stillOpen pduOf completed commandSize isCommand commands body signalOf signalsIn pduSignals signals any names named asksFor admits admittedAfter admitted isTried asksRfcomm asksSession isSabm isUih shortLength infoLength infoStart creditOf isRight fcsOf register shifted shiftOne frameOf uihKind frameKind kindBy triedBy judgedFrom judgedBy counted pieceOf brought pieces seek spansN restN spansOf restOf capped spans unfinished onDlci total droppedN droppedOf clearedOf inSpans dropped cleared left count nub mem onChannel first hasFrame chosen isWrong wrongOn listed unpacksOf unpackOf judgedFrame isGiven within checksumOf packed bodyOf summedOf headOf rxOf wrongLeft judgedIn withMarks markedPdus pdusIn
 broken-cuts = ((refl, refl), (refl, refl), (refl, refl), (refl, refl))
 
 -- ---- document 01's worked example: its last byte is its FCS, 00; 14 is right
 
 pub sample-checked :
     (outcome btsnoop sample (record { channel = none; tail = strict; judging = checked source }) ≡ missing 6 []) ×
-    (outcome btsnoop (take 61 sample ++ (0x14 ∷ [])) (record { channel = none; tail = strict; judging = checked source }) ≡ counts 18 (span 1 0 w₀ ∷ []) 0 62 0)
-unfolding outcome isBtsnoop datalink isDatalink endsWell read tailOffset records recordsIn chop chopFrom isWhole recordSize be32 be64 le16 eqK filePieces packetsIn packets packetOf milliseconds fragment h4Packet hciPacket monitorPacket pdus run after joined isComplete stillOpen pduOf completed commandSize isCommand commands body signalOf signalsIn pduSignals signals any names named asksFor admits admittedAfter admitted isTried asksRfcomm asksSession isSabm isUih shortLength infoLength infoStart creditOf isRight fcsOf register shifted shiftOne frameOf uihKind frameKind kindBy triedBy judgedFrom judgedBy counted pieceOf brought pieces seek spansN restN spansOf restOf capped spans unfinished onDlci count nub mem onChannel first hasFrame chosen isWrong wrongOn listed unpacksOf unpackOf judgedFrame isGiven checksumOf
+    (outcome btsnoop (take 61 sample ++ (0x14 ∷ [])) (record { channel = none; tail = strict; judging = checked source }) ≡ counts 18 (span 1 0 w₀ ∷ []) 0 62 0 (went 9 0 0 0))
+unfolding outcome isBtsnoop datalink isDatalink endsWell read tailOffset records recordsIn chop chopFrom isWhole recordSize be32 be64 le16 eqK filePieces packetsIn packets packetOf milliseconds fragment h4Packet hciPacket monitorPacket pdus run after joined isComplete stillOpen pduOf completed commandSize isCommand commands body signalOf signalsIn pduSignals signals any names named asksFor admits admittedAfter admitted isTried asksRfcomm asksSession isSabm isUih shortLength infoLength infoStart creditOf isRight fcsOf register shifted shiftOne frameOf uihKind frameKind kindBy triedBy judgedFrom judgedBy counted pieceOf brought pieces seek spansN restN spansOf restOf capped spans unfinished onDlci total droppedN droppedOf clearedOf inSpans dropped cleared left count nub mem onChannel first hasFrame chosen isWrong wrongOn listed unpacksOf unpackOf judgedFrame isGiven checksumOf
 sample-checked = (refl, refl)

@@ -13,7 +13,6 @@ use Rattle.container.specs.Container.{packetsIn}
 use Rattle.pcap.specs.Header.{isBig, isLittle, isNano, isPcap, number, linkOf, isLink}
 use Rattle.pcap.specs.Records.{recordSize}
 use Rattle.pcap.specs.Packets.{milliseconds, directedPacket, packetOf}
-use Rattle.pcap.specs.Pcap.{pcap}
 use Rattle.l2cap.specs.Pdus.{joined, isComplete, stillOpen, pduOf, completed, pdus}
 use Rattle.channels.specs.Signals.{commandSize, isCommand, commands, body, signalOf, signalsIn, pduSignals, signals}
 use Rattle.channels.specs.Channels.{any, names, named, asksFor, admits, admittedAfter, admitted, isTried, asksRfcomm, asksSession}

@@ -10,6 +10,7 @@ use Rattle.laws.specs.Chop.{chop, chopFrom}
 use Rattle.laws.specs.Keys.{eqK}
 use Rattle.laws.specs.Keyed.{run, after}
 use Rattle.laws.specs.Count.{count, nub, mem}
+use Rattle.laws.specs.Totals.{total}
 use Rattle.laws.specs.Numbers.{le16, le32, be32, be64}
 use Rattle.laws.specs.Lists.{flat}
 use Rattle.items.specs.declared.Direction.the-variants.{Rx}
@@ -34,8 +35,9 @@ use Rattle.rfcomm.specs.Pieces.{uihKind, frameKind, kindBy, judgedFrom, judgedB
 use Rattle.search.specs.Seek.{seek}
 use Rattle.spans.specs.Scan.{spansN, restN, spansOf, restOf, capped}
 use Rattle.spans.specs.Spans.{spans, unfinished, onDlci}
+use Rattle.spans.specs.Account.{droppedN, droppedOf, clearedOf, inSpans, dropped, cleared, left}
 use Rattle.outcome.specs.Import.{Tail, strict, tolerant, bySource, onChannel, first, hasFrame, chosen, Found, missing, listed, filePieces, read, endsWell, outcome}
-use Rattle.outcome.proofs.Examples.{sample, finds}
+use Rattle.outcome.proofs.Examples.{sample, finds, went}
 use Rattle.formats.specs.Written.{num, Seen, btsnoopFile, pcapHead, pcapFile}
 
 -- the packet of the worked example, and a nanosecond less than a millisecond past its time
@@ -62,7 +64,7 @@ abbrev answerOf : Bool → Bool → Tail → Found
 answerOf big nano tail = outcome pcap (pcapFile big nano (packet ∷ [])) (bySource none tail)
 
 abbrev one : Found
-one = finds 18 (span 1 0 frame ∷ []) 0 66
+one = finds 18 (span 1 0 frame ∷ []) 0 66 (went 9 0 0 0)
 
 -- a header with another link type field
 abbrev linked : Bool → ℕ → List ℕ
@@ -97,11 +99,11 @@ pub pcap-examples :
     -- 22: all four bytes, in the file's byte order
     (outcome pcap (linked false 202) (bySource none strict) ≡ missing 22 (202 ∷ [])) × (outcome pcap (linked true 202) (bySource none strict) ≡ missing 22 (202 ∷ [])) × (outcome pcap (linked false 0x200000C9) (bySource none strict) ≡ missing 22 (0x200000C9 ∷ [])) ×
     -- seconds and a fraction of more than one, rounded down
-    (answerTo (row 4294967295 1999999 (toward rx) ∷ []) ≡ finds 18 (span 1 4294967296999 frame ∷ []) 0 66) ×
+    (answerTo (row 4294967295 1999999 (toward rx) ∷ []) ≡ finds 18 (span 1 4294967296999 frame ∷ []) 0 66 (went 9 0 0 0)) ×
     -- a direction is four bytes big-endian, and compared whole; Tx is listed as Tx
     (answerTo (row 0 0 (toward (1 ∷ 0 ∷ 0 ∷ 0 ∷ [])) ∷ []) ≡ missing 6 []) × (answerTo (row 0 0 (toward (0 ∷ 0 ∷ 0 ∷ 3 ∷ [])) ∷ []) ≡ missing 6 []) ×
-    (answerTo (row 0 0 (toward (0 ∷ 0 ∷ 0 ∷ 0 ∷ [])) ∷ []) ≡ finds 18 (span 0 0 frame ∷ []) 0 66) ×
+    (answerTo (row 0 0 (toward (0 ∷ 0 ∷ 0 ∷ 0 ∷ [])) ∷ []) ≡ finds 18 (span 0 0 frame ∷ []) 0 66 (went 9 0 0 0)) ×
     -- packets too short for a direction, or with nothing behind it, are skipped, and do not end the reading
-    (answerTo (row 0 0 [] ∷ row 0 0 (2 ∷ 2 ∷ 2 ∷ []) ∷ row 0 0 rx ∷ row 0 0 (toward rx) ∷ []) ≡ finds 18 (span 1 0 frame ∷ []) 0 121)
-unfolding outcome isBtsnoop isPcap isBig isLittle isNano number linkOf isLink endsWell read tailOffset records recordsIn chop chopFrom isWhole recordSize be32 be64 le16 eqK filePieces packetsIn packets packetOf directedPacket milliseconds fragment h4Packet pdus run after joined isComplete stillOpen pduOf completed commandSize isCommand commands body signalOf signalsIn pduSignals signals any names named asksFor admits admittedAfter admitted isTried asksRfcomm asksSession isSabm isUih shortLength infoLength infoStart creditOf isRight fcsOf register shifted shiftOne frameOf uihKind frameKind kindBy triedBy judgedFrom judgedBy counted pieceOf brought pieces seek spansN restN spansOf restOf capped spans unfinished onDlci count nub mem onChannel first hasFrame chosen isWrong wrongOn listed unpacksOf unpackOf judgedFrame isGiven checksumOf le32 rxOf
+    (answerTo (row 0 0 [] ∷ row 0 0 (2 ∷ 2 ∷ 2 ∷ []) ∷ row 0 0 rx ∷ row 0 0 (toward rx) ∷ []) ≡ finds 18 (span 1 0 frame ∷ []) 0 121 (went 9 0 0 0))
+unfolding outcome isBtsnoop isPcap isBig isLittle isNano number linkOf isLink endsWell read tailOffset records recordsIn chop chopFrom isWhole recordSize be32 be64 le16 eqK filePieces packetsIn packets packetOf directedPacket milliseconds fragment h4Packet pdus run after joined isComplete stillOpen pduOf completed commandSize isCommand commands body signalOf signalsIn pduSignals signals any names named asksFor admits admittedAfter admitted isTried asksRfcomm asksSession isSabm isUih shortLength infoLength infoStart creditOf isRight fcsOf register shifted shiftOne frameOf uihKind frameKind kindBy triedBy judgedFrom judgedBy counted pieceOf brought pieces seek spansN restN spansOf restOf capped spans unfinished onDlci total droppedN droppedOf clearedOf inSpans dropped cleared left count nub mem onChannel first hasFrame chosen isWrong wrongOn listed unpacksOf unpackOf judgedFrame isGiven checksumOf le32 rxOf
 pcap-examples = (refl, refl, refl, refl, refl, refl, refl, refl, refl, refl, refl, refl, refl, refl, refl, refl, refl, refl, refl, refl)

@@ -34,7 +34,7 @@ use Rattle.formats.specs.Written.{be, Seen, Fits, btsnoopHead, btsnoopRe
 
 -- an answer with another tail offset
 abbrev pub withTail : ℕ → Found → Found
-withTail t (found x) = found (record { dlci = x .dlci; spans = x .spans; unfinished = x .unfinished; tail = t; wrong = x .wrong })
+withTail t (found x) = found (record { dlci = x .dlci; spans = x .spans; unfinished = x .unfinished; tail = t; wrong = x .wrong; account = x .account })
 withTail t (missing n vs) = missing n vs
 
 listed-tail : (ps : List Piece) (wrongs : ℕ → ℕ) (s t : ℕ) (o : Option ℕ) → listed ps wrongs t o ≡ withTail t (listed ps wrongs s o)

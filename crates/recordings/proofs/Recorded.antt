@@ -9,6 +9,7 @@ use Rattle.laws.specs.Chop.{chop, chopFrom}
 use Rattle.laws.specs.Keys.{eqK}
 use Rattle.laws.specs.Keyed.{of, run, after}
 use Rattle.laws.specs.Count.{count, nub, mem}
+use Rattle.laws.specs.Totals.{total}
 use Rattle.laws.specs.Numbers.{le16, le32, be32, be64}
 use Rattle.items.specs.Items.{span, rxOf}
 use Rattle.mdr.specs.Frame.{headOf, summedOf, bodyOf, packed, judged as judgedFrame, unpackOf, unpacksOf}
@@ -32,12 +33,13 @@ use Rattle.rfcomm.specs.Pieces.{unchecked, uihKind, frameKind, kindBy, judgedFr
 use Rattle.search.specs.Seek.{seek}
 use Rattle.spans.specs.Scan.{spansN, restN, spansOf, restOf, capped}
 use Rattle.spans.specs.Spans.{spans, unfinished, onDlci}
+use Rattle.spans.specs.Account.{droppedN, droppedOf, clearedOf, inSpans, dropped, cleared, left}
 use Rattle.btsnoop.specs.Packets.{milliseconds as timeOf}
 use Rattle.pcap.proofs.Laws.{lawful}
 use Rattle.outcome.specs.Import.{onChannel, first, hasFrame, chosen, Found, missing, listed, filePieces, read, endsWell, outcome}
-use Rattle.outcome.proofs.Examples.{finds}
+use Rattle.outcome.proofs.Examples.{finds, went}
 use Rattle.cut.specs.Recording.{Recording, file, cut}
-use Rattle.cut.specs.Left.{leftFrom, recordsLeft, tailLeft, sent, dataOf, dataLeft, closedIn, ofHandle, framesLeft, midFrame, endsMid, midIn, midLeft}
+use Rattle.cut.specs.Left.{leftFrom, recordsLeft, tailLeft, sent, dataOf, dataLeft, closedIn, ofHandle, framesLeft, midFrame, endsMid, midIn, midLeft, pastClose, pastLink, pastIn, pastLeft}
 use Rattle.cut.specs.Honest.{pdusIn, markedPdus, withMarks, judgedIn, isDataOf, toData, afterData, adds, carriesOn, Honest}
 use Rattle.cut.specs.Claim.{wrongLeft}
 use Rattle.cut.proofs.Tests.{packedChecked, every, once, openTest, ends, headerTest, wholeTest, smallTest, dlciTest, dynamicTest, channelTest, channelsTest, checksTest, informationTest, sizesTest, beginningsTest, settledIn, settledTest, aloneIn, aloneTest, handlesTest, dataTest, markTest, fragmentsTest, rules, passed-all, honest}
@@ -102,13 +104,13 @@ cuts = 576 ∷ 575 ∷ 360 ∷ 357 ∷ 312 ∷ 24 ∷ []
 -- the frames of the btsnoop recording with everything, at the same cuts; the tail offsets are pcap's
 abbrev answers : List Found
 answers =
-    finds 18 (four ++ (span 0 10 w₀ ∷ [])) 2 576 ∷ finds 18 (four ++ (span 0 10 w₀ ∷ [])) 1 539 ∷ finds 18 four 0 358 ∷ finds 18 (span 1 7 w₃ ∷ span 1 7 w₂ ∷ []) 0 313 ∷ missing 6 [] ∷ missing 6 [] ∷ []
+    finds 18 (four ++ (span 0 10 w₀ ∷ [])) 2 576 (went 51 0 0 11) ∷ finds 18 (four ++ (span 0 10 w₀ ∷ [])) 1 539 (went 51 0 0 7) ∷ finds 18 four 0 358 (went 42 0 0 0) ∷ finds 18 (span 1 7 w₃ ∷ span 1 7 w₂ ∷ []) 0 313 (went 21 0 0 0) ∷ missing 6 [] ∷ missing 6 [] ∷ []
 
 pub all-cuts :
     (map (foundBy (unchecked source) little) cuts ≡ answers) × (map (leftAt (unchecked source) little) cuts ≡ answers) ×
     -- a cut within the header is refused with 21, though nothing is left: the claim is for n from 24 on
     (foundBy (unchecked source) little 23 ≡ missing 21 []) × (leftAt (unchecked source) little 23 ≡ missing 6 [])
-unfolding cut file tailLeft ofHandle closedIn framesLeft midFrame endsMid midIn midLeft wrongLeft judgedIn withMarks markedPdus pdusIn leftFrom recordsLeft sent dataOf dataLeft outcome isPcap isBig isLittle isNano number linkOf isLink endsWell read tailOffset records recordsIn chop chopFrom isWhole recordSize be32 be64 le16 le32 eqK filePieces packetsIn packets packetOf directedPacket milliseconds timeOf fragment h4Packet pdus run after of joined isComplete stillOpen pduOf completed commandSize isCommand commands body signalOf signalsIn pduSignals signals any names named asksFor admits admittedAfter admitted isTried asksRfcomm asksSession isSabm isUih shortLength infoLength infoStart creditOf isRight fcsOf register shifted shiftOne frameOf uihKind frameKind kindBy triedBy judgedFrom judgedBy counted pieceOf brought pieces seek spansN restN spansOf restOf capped spans unfinished onDlci count nub mem onChannel first hasFrame chosen isWrong wrongOn listed unpacksOf unpackOf judgedFrame isGiven within checksumOf packed bodyOf summedOf headOf rxOf
+unfolding cut file tailLeft ofHandle closedIn framesLeft midFrame endsMid midIn midLeft pastClose pastLink pastIn pastLeft wrongLeft judgedIn withMarks markedPdus pdusIn leftFrom recordsLeft sent dataOf dataLeft outcome isPcap isBig isLittle isNano number linkOf isLink endsWell read tailOffset records recordsIn chop chopFrom isWhole recordSize be32 be64 le16 le32 eqK filePieces packetsIn packets packetOf directedPacket milliseconds timeOf fragment h4Packet pdus run after of joined isComplete stillOpen pduOf completed commandSize isCommand commands body signalOf signalsIn pduSignals signals any names named asksFor admits admittedAfter admitted isTried asksRfcomm asksSession isSabm isUih shortLength infoLength infoStart creditOf isRight fcsOf register shifted shiftOne frameOf uihKind frameKind kindBy triedBy judgedFrom judgedBy counted pieceOf brought pieces seek spansN restN spansOf restOf capped spans unfinished onDlci total droppedN droppedOf clearedOf inSpans dropped cleared left count nub mem onChannel first hasFrame chosen isWrong wrongOn listed unpacksOf unpackOf judgedFrame isGiven within checksumOf packed bodyOf summedOf headOf rxOf
 all-cuts = (refl, refl, refl, refl)
 
 -- the same frames in each byte order and resolution, and the same counts
@@ -116,16 +118,16 @@ abbrev few : List ℕ
 few = 575 ∷ 357 ∷ 24 ∷ []
 
 abbrev fewer : List Found
-fewer = finds 18 (four ++ (span 0 10 w₀ ∷ [])) 1 539 ∷ finds 18 (span 1 7 w₃ ∷ span 1 7 w₂ ∷ []) 0 313 ∷ missing 6 [] ∷ []
+fewer = finds 18 (four ++ (span 0 10 w₀ ∷ [])) 1 539 (went 51 0 0 7) ∷ finds 18 (span 1 7 w₃ ∷ span 1 7 w₂ ∷ []) 0 313 (went 21 0 0 0) ∷ missing 6 [] ∷ []
 
 pub big-cuts : (map (foundBy (unchecked source) big) few ≡ fewer) × (map (leftAt (unchecked source) big) few ≡ fewer)
-unfolding cut file tailLeft ofHandle closedIn framesLeft midFrame endsMid midIn midLeft wrongLeft judgedIn withMarks markedPdus pdusIn leftFrom recordsLeft sent dataOf dataLeft outcome isPcap isBig isLittle isNano number linkOf isLink endsWell read tailOffset records recordsIn chop chopFrom isWhole recordSize be32 be64 le16 le32 eqK filePieces packetsIn packets packetOf directedPacket milliseconds timeOf fragment h4Packet pdus run after of joined isComplete stillOpen pduOf completed commandSize isCommand commands body signalOf signalsIn pduSignals signals any names named asksFor admits admittedAfter admitted isTried asksRfcomm asksSession isSabm isUih shortLength infoLength infoStart creditOf isRight fcsOf register shifted shiftOne frameOf uihKind frameKind kindBy triedBy judgedFrom judgedBy counted pieceOf brought pieces seek spansN restN spansOf restOf capped spans unfinished onDlci count nub mem onChannel first hasFrame chosen isWrong wrongOn listed unpacksOf unpackOf judgedFrame isGiven within checksumOf packed bodyOf summedOf headOf rxOf
+unfolding cut file tailLeft ofHandle closedIn framesLeft midFrame endsMid midIn midLeft pastClose pastLink pastIn pastLeft wrongLeft judgedIn withMarks markedPdus pdusIn leftFrom recordsLeft sent dataOf dataLeft outcome isPcap isBig isLittle isNano number linkOf isLink endsWell read tailOffset records recordsIn chop chopFrom isWhole recordSize be32 be64 le16 le32 eqK filePieces packetsIn packets packetOf directedPacket milliseconds timeOf fragment h4Packet pdus run after of joined isComplete stillOpen pduOf completed commandSize isCommand commands body signalOf signalsIn pduSignals signals any names named asksFor admits admittedAfter admitted isTried asksRfcomm asksSession isSabm isUih shortLength infoLength infoStart creditOf isRight fcsOf register shifted shiftOne frameOf uihKind frameKind kindBy triedBy judgedFrom judgedBy counted pieceOf brought pieces seek spansN restN spansOf restOf capped spans unfinished onDlci total droppedN droppedOf clearedOf inSpans dropped cleared left count nub mem onChannel first hasFrame chosen isWrong wrongOn listed unpacksOf unpackOf judgedFrame isGiven within checksumOf packed bodyOf summedOf headOf rxOf
 big-cuts = (refl, refl)
 
 pub littleNanos-cuts : (map (foundBy (unchecked source) littleNanos) few ≡ fewer) × (map (leftAt (unchecked source) littleNanos) few ≡ fewer)
-unfolding cut file tailLeft ofHandle closedIn framesLeft midFrame endsMid midIn midLeft wrongLeft judgedIn withMarks markedPdus pdusIn leftFrom recordsLeft sent dataOf dataLeft outcome isPcap isBig isLittle isNano number linkOf isLink endsWell read tailOffset records recordsIn chop chopFrom isWhole recordSize be32 be64 le16 le32 eqK filePieces packetsIn packets packetOf directedPacket milliseconds timeOf fragment h4Packet pdus run after of joined isComplete stillOpen pduOf completed commandSize isCommand commands body signalOf signalsIn pduSignals signals any names named asksFor admits admittedAfter admitted isTried asksRfcomm asksSession isSabm isUih shortLength infoLength infoStart creditOf isRight fcsOf register shifted shiftOne frameOf uihKind frameKind kindBy triedBy judgedFrom judgedBy counted pieceOf brought pieces seek spansN restN spansOf restOf capped spans unfinished onDlci count nub mem onChannel first hasFrame chosen isWrong wrongOn listed unpacksOf unpackOf judgedFrame isGiven within checksumOf packed bodyOf summedOf headOf rxOf
+unfolding cut file tailLeft ofHandle closedIn framesLeft midFrame endsMid midIn midLeft pastClose pastLink pastIn pastLeft wrongLeft judgedIn withMarks markedPdus pdusIn leftFrom recordsLeft sent dataOf dataLeft outcome isPcap isBig isLittle isNano number linkOf isLink endsWell read tailOffset records recordsIn chop chopFrom isWhole recordSize be32 be64 le16 le32 eqK filePieces packetsIn packets packetOf directedPacket milliseconds timeOf fragment h4Packet pdus run after of joined isComplete stillOpen pduOf completed commandSize isCommand commands body signalOf signalsIn pduSignals signals any names named asksFor admits admittedAfter admitted isTried asksRfcomm asksSession isSabm isUih shortLength infoLength infoStart creditOf isRight fcsOf register shifted shiftOne frameOf uihKind frameKind kindBy triedBy judgedFrom judgedBy counted pieceOf brought pieces seek spansN restN spansOf restOf capped spans unfinished onDlci total droppedN droppedOf clearedOf inSpans dropped cleared left count nub mem onChannel first hasFrame chosen isWrong wrongOn listed unpacksOf unpackOf judgedFrame isGiven within checksumOf packed bodyOf summedOf headOf rxOf
 littleNanos-cuts = (refl, refl)
 
 pub bigNanos-cuts : (map (foundBy (unchecked source) bigNanos) few ≡ fewer) × (map (leftAt (unchecked source) bigNanos) few ≡ fewer)
-unfolding cut file tailLeft ofHandle closedIn framesLeft midFrame endsMid midIn midLeft wrongLeft judgedIn withMarks markedPdus pdusIn leftFrom recordsLeft sent dataOf dataLeft outcome isPcap isBig isLittle isNano number linkOf isLink endsWell read tailOffset records recordsIn chop chopFrom isWhole recordSize be32 be64 le16 le32 eqK filePieces packetsIn packets packetOf directedPacket milliseconds timeOf fragment h4Packet pdus run after of joined isComplete stillOpen pduOf completed commandSize isCommand commands body signalOf signalsIn pduSignals signals any names named asksFor admits admittedAfter admitted isTried asksRfcomm asksSession isSabm isUih shortLength infoLength infoStart creditOf isRight fcsOf register shifted shiftOne frameOf uihKind frameKind kindBy triedBy judgedFrom judgedBy counted pieceOf brought pieces seek spansN restN spansOf restOf capped spans unfinished onDlci count nub mem onChannel first hasFrame chosen isWrong wrongOn listed unpacksOf unpackOf judgedFrame isGiven within checksumOf packed bodyOf summedOf headOf rxOf
+unfolding cut file tailLeft ofHandle closedIn framesLeft midFrame endsMid midIn midLeft pastClose pastLink pastIn pastLeft wrongLeft judgedIn withMarks markedPdus pdusIn leftFrom recordsLeft sent dataOf dataLeft outcome isPcap isBig isLittle isNano number linkOf isLink endsWell read tailOffset records recordsIn chop chopFrom isWhole recordSize be32 be64 le16 le32 eqK filePieces packetsIn packets packetOf directedPacket milliseconds timeOf fragment h4Packet pdus run after of joined isComplete stillOpen pduOf completed commandSize isCommand commands body signalOf signalsIn pduSignals signals any names named asksFor admits admittedAfter admitted isTried asksRfcomm asksSession isSabm isUih shortLength infoLength infoStart creditOf isRight fcsOf register shifted shiftOne frameOf uihKind frameKind kindBy triedBy judgedFrom judgedBy counted pieceOf brought pieces seek spansN restN spansOf restOf capped spans unfinished onDlci total droppedN droppedOf clearedOf inSpans dropped cleared left count nub mem onChannel first hasFrame chosen isWrong wrongOn listed unpacksOf unpackOf judgedFrame isGiven within checksumOf packed bodyOf summedOf headOf rxOf
 bigNanos-cuts = (refl, refl)
