@@ -21,8 +21,8 @@ use Rattle.packets.specs.declared.Packets.{Packets}
 use Rattle.l2cap.specs.Pdus.{pdus}
 use Rattle.l2cap.specs.PduTable.{Reassembled}
 use Rattle.channels.specs.Passing.{ReadChannels}
-use Rattle.rfcomm.specs.Gathering.{ReadPieces}
-use Rattle.rfcomm.specs.declared.Gathered.{Gathered}
+use Rattle.gathering.specs.Gathering.{ReadPieces}
+use Rattle.gathering.specs.declared.Gathered.{Gathered}
 use Rattle.streams.specs.Streams.{told, ListsSpans}
 use Rattle.streams.specs.declared.Listed.{Listed}
 use Rattle.streams.specs.declared.Listed.the-variants.{NoStream as NoneListed, OutShort as ListShort, Spans as SpansListed}

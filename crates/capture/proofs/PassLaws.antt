@@ -15,8 +15,8 @@ use Rattle.l2cap.specs.Pdus.{pdus}
 use Rattle.l2cap.specs.PduTable.{pdusFrom}
 use Rattle.channels.specs.Passing.{ReadChannels}
 use Rattle.rfcomm.specs.Pieces.{judged}
-use Rattle.rfcomm.specs.Gathering.{PiecesPre, ReadPieces}
-use Rattle.rfcomm.specs.declared.Gathered.{Gathered}
+use Rattle.gathering.specs.Gathering.{PiecesPre, ReadPieces}
+use Rattle.gathering.specs.declared.Gathered.{Gathered}
 use Rattle.outcome.specs.Import.{filePieces, fileWrong, read}
 use Rattle.streams.specs.Streams.{channelOf, tablePieces, told, Leaves}
 use Rattle.streams.proofs.Streams.{tabled}

@@ -10,8 +10,8 @@ use Rattle.packets.specs.declared.Packets.{Packets}
 use Rattle.l2cap.specs.Pdus.{pdus}
 use Rattle.l2cap.specs.PduTable.{Reassembled}
 use Rattle.channels.specs.Passing.{ReadChannels}
-use Rattle.rfcomm.specs.Gathering.{ReadPieces}
-use Rattle.rfcomm.specs.declared.Gathered.{Gathered}
+use Rattle.gathering.specs.Gathering.{ReadPieces}
+use Rattle.gathering.specs.declared.Gathered.{Gathered}
 use Rattle.outcome.specs.Import.{read, given}
 use Rattle.streams.specs.Streams.{told, ListsSpans}
 use Rattle.streams.specs.declared.Listed.{Listed}

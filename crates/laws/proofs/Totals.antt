@@ -109,4 +109,3 @@ module _ {X Y : Type 0} (M : Machine X Y) where
       (total w (M .out (m (M .key x)) x))
       (rw (eq-eqK (M .key x) (M .key x) refl) (sym (total-append w (M .out (m (M .key x)) x) (run1 M (M .next (m (M .key x)) x) (of (M .key) (M .key x) xs)))))
       ks (a .once))
-

@@ -1,7 +1,5 @@
 pub mod PieceRows
 pub mod Pieces
 pub mod Judging
-pub mod Gathering
-pub mod CountTable
 pub mod Replay
 pub mod CoreExamples

@@ -16,7 +16,7 @@ use Rattle.words.proofs.Front.{front-refl, front-then, front-word}
 use Rattle.rfcomm.specs.Pieces.{Piece}
 use Rattle.rfcomm.specs.PieceTable.{pieceAt, piecesFrom, Within}
 use Rattle.rfcomm.proofs.PieceRows.{pieces-front}
-use Rattle.rfcomm.proofs.Gathering.{getD-zeros}
+use Rattle.laws.proofs.Lists.{getD-zeros}
 use Rattle.spans.specs.Parts.{bit}
 use Rattle.spans.specs.Spans.{onDlci}
 use Rattle.split.specs.Rows.{all, tailAt, keyAt, Linked, Laid}

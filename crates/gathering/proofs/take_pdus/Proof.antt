@@ -1,16 +1,16 @@
-use Rattle.rfcomm.specs.Gathering.{Gathering}
-use Rattle.rfcomm.proofs.Gathering.{gather-start, gather-ready, gather-turn, gathered}
+use Rattle.gathering.specs.Gathering.{Gathering}
+use Rattle.gathering.proofs.Gathering.{gather-start, gather-ready, gather-turn, gathered}
 use Rattle.l2cap.specs.PduTable.{pdusFrom}
 use mathlib.Core.Path.{_≡_, refl}
 use Prim.Native.Nat.{_-_, _*_, _/_}
 use lib.ListN.{length}
 use borrow.Author.Needs.{needs}
 use native.Mathlib.Omega.{arith}
-use Rattle.rfcomm.proofs.take_pdus.Statement.{statement}
-use Rattle.rfcomm.proofs.take_pdus.Tie as tie
-use Rattle.rfcomm.proofs.take_pdus.Reads as reads
-use Rattle.rfcomm.proofs.take_pdus.Lts as lts
-use Rattle.rfcomm.proofs.take_pdu.Reads as take-pdu-reads
+use Rattle.gathering.proofs.take_pdus.Statement.{statement}
+use Rattle.gathering.proofs.take_pdus.Tie as tie
+use Rattle.gathering.proofs.take_pdus.Reads as reads
+use Rattle.gathering.proofs.take_pdus.Lts as lts
+use Rattle.gathering.proofs.take_pdu.Reads as take-pdu-reads
 
 abbrev Inv-loop : tie.InvT-loop
 Inv-loop file w₀ made rows fcs q wrong₀ t₀ j₀ w wrong t j = (q ≡ length file / 4) × Gathering fcs file (pdusFrom file w₀ (2 * (length file / 4)) 0 made) w₀ w made rows t j wrong

@@ -1,12 +1,12 @@
-use Rattle.rfcomm.proofs.Gathering.{count-clear, pieces-begun, pieces-cleared}
+use Rattle.gathering.proofs.Gathering.{count-clear, pieces-begun, pieces-cleared}
 use native.Mathlib.Omega.{arith}
 use borrow.Author.Needs.{needs}
-use Rattle.rfcomm.proofs.read_pieces.Statement.{statement}
-use Rattle.rfcomm.proofs.read_pieces.Tie as tie
-use Rattle.rfcomm.proofs.read_pieces.Reads as reads
-use Rattle.rfcomm.proofs.read_pieces.Lts as lts
-use Rattle.rfcomm.proofs.index_of.Reads as index-of-reads
-use Rattle.rfcomm.proofs.take_pdus.Reads as take-pdus-reads
+use Rattle.gathering.proofs.read_pieces.Statement.{statement}
+use Rattle.gathering.proofs.read_pieces.Tie as tie
+use Rattle.gathering.proofs.read_pieces.Reads as reads
+use Rattle.gathering.proofs.read_pieces.Lts as lts
+use Rattle.gathering.proofs.index_of.Reads as index-of-reads
+use Rattle.gathering.proofs.take_pdus.Reads as take-pdus-reads
 use Rattle.tree.proofs.clear.Reads as clear-reads
 
 -- src/lib.rt:485:23

@@ -10,6 +10,7 @@ use lib.Seq.{set-out, getD-set-same, getD-set-other}
 use lib.Dec.{eqb}
 use borrow.Author.Tests.{eq-eqb, ne-eqb}
 use Rattle.laws.proofs.Choice.{split≤, split≡}
+use Rattle.laws.proofs.Lists.{getD-zeros}
 use Rattle.laws.specs.Keys.{Key}
 use Rattle.laws.specs.Keyed.{put, run}
 use Rattle.words.specs.Words.{word, long}
@@ -26,27 +27,27 @@ use Rattle.channels.specs.Signals.{Signal, signals}
 use Rattle.channels.specs.ChannelTable.{Tells}
 use Rattle.channels.specs.Passing.{Signalled}
 use Rattle.channels.proofs.Passing.{signalled-front}
 use Rattle.rfcomm.specs.Pieces.{Kind, asks, opens, wrong, passed, kindOf, judged, told, kinds, isWrong, wrongOn, Counts, counted, pieceOf, brought, noCounts, pieces}
 use Rattle.rfcomm.proofs.Pieces.{judged-is}
 use Rattle.rfcomm.specs.PieceTable.{pieceAt, piecesFrom, infosOf, Within, Pieced}
 use Rattle.tree.specs.Tree.{Indexed, Entered, Stands, ClearPre, Cleared}
 use Rattle.tree.specs.declared.Tree.{Tree}
 use Rattle.tree.proofs.Index.{indexed-agree}
 use Rattle.tree.specs.declared.Seating.{Seating}
-use Rattle.rfcomm.specs.CountTable.{valueOf, countIndex, UpPre, CountedUp, Counted}
-use Rattle.rfcomm.proofs.CountTable.{up-count, counted-start, counted-agree, counted-none, counted-session, counted-link}
+use Rattle.gathering.specs.CountTable.{valueOf, countIndex, UpPre, CountedUp, Counted}
+use Rattle.gathering.proofs.CountTable.{up-count, counted-start, counted-agree, counted-none, counted-session, counted-link}
 use Rattle.rfcomm.specs.PieceRows.{rowOf, PutPre, partPiece}
 use Rattle.rfcomm.proofs.PieceRows.{row-len, row-piece, row-within, row-long, within-front, pieces-front, infos-front, pieces-snoc}
 use Rattle.rfcomm.specs.Judging.{kindShown, Carried, JudgePre, VerdictIs}
 use Rattle.rfcomm.proofs.Judging.{carries-held}
 use Rattle.rfcomm.specs.declared.Part.{Part}
 use Rattle.rfcomm.specs.declared.Info.{Info}
-use Rattle.rfcomm.specs.declared.Near.{Near}
-use Rattle.rfcomm.specs.declared.Taken.{Taken}
+use Rattle.gathering.specs.declared.Near.{Near}
+use Rattle.gathering.specs.declared.Taken.{Taken}
 use Rattle.rfcomm.specs.declared.Verdict.{Verdict}
-use Rattle.rfcomm.specs.declared.Gathered.{Gathered}
+use Rattle.gathering.specs.declared.Gathered.{Gathered}
 use Rattle.rfcomm.specs.declared.Verdict.the-variants.{Asks, Opens, Carries, Wrong, Passed}
-use Rattle.rfcomm.specs.Gathering.{partOf, TakePre, Ready, TakenIn, PiecesPre, PiecesBegun, ReadPieces, Gathering}
+use Rattle.gathering.specs.Gathering.{partOf, TakePre, Ready, TakenIn, PiecesPre, PiecesBegun, ReadPieces, Gathering}
 
 pub part-is : (w : List ℕ) (row b n : ℕ) (i : Info) (side k₁ k₂ s l cid start len : ℕ) → side ≡ word w row → k₁ ≡ 64 * (side / 2) + 0 → s ≡ valueOf (lookup w b n k₁) → k₂ ≡ 64 * (side / 2) + i .dlci → l ≡ valueOf (lookup w b n k₂) →
     cid ≡ word w (row + 1) → start ≡ i .start → len ≡ i .len →
@@ -308,12 +309,6 @@ module _ (f w : List ℕ) (q rows : ℕ) (t : Taken) (j : ℕ) (a : List ℕ) (r
         above = λ n h. rw eu (puts-above (rowOf (partOf w (2 * q + 7 * j) (6 * q) (t .counts) i) (long w (2 * q + 7 * j + 5))) w (5 * q + 8 * t .pieces) n (omega (arith, row-room, row-long (partOf w (2 * q + 7 * j) (6 * q) (t .counts) i) (long w (2 * q + 7 * j + 5)))));
         size = rw eu (length-puts (rowOf (partOf w (2 * q + 7 * j) (6 * q) (t .counts) i) (long w (2 * q + 7 * j + 5))) w (5 * q + 8 * t .pieces));
       }
-
--- a list of zeros has 0 at every place
-pub getD-zeros : (n e : ℕ) → getD (replicate {0} {A = ℕ} n 0) e 0 ≡ 0
-getD-zeros zero e = refl
-getD-zeros (suc n) zero = refl
-getD-zeros (suc n) (suc e) = getD-zeros n e
 
 pub gather-start : (fcs : Bool) (f w : List ℕ) (made rows : ℕ) (near : Near) → PiecesBegun f w made rows →
     Gathering fcs f (pdusFrom f w (2 * (length f / 4)) 0 made) w w made rows (record { counts = 0; pieces = 0; near = near }) 0 (replicate {0} {A = ℕ} 64 0)

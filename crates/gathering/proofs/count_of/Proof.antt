@@ -1,11 +1,11 @@
-use Rattle.rfcomm.proofs.CountTable.{count-seek, count-row, seek-found, seek-nothing}
+use Rattle.gathering.proofs.CountTable.{count-seek, count-row, seek-found, seek-nothing}
 use native.Mathlib.Omega.{arith}
 use borrow.Author.Needs.{needs}
-use Rattle.rfcomm.proofs.count_of.Statement.{statement}
-use Rattle.rfcomm.proofs.count_of.Tie as tie
-use Rattle.rfcomm.proofs.count_of.Reads as reads
-use Rattle.rfcomm.proofs.count_of.Lts as lts
-use Rattle.rfcomm.proofs.index_of.Reads as index-of-reads
+use Rattle.gathering.proofs.count_of.Statement.{statement}
+use Rattle.gathering.proofs.count_of.Tie as tie
+use Rattle.gathering.proofs.count_of.Reads as reads
+use Rattle.gathering.proofs.count_of.Lts as lts
+use Rattle.gathering.proofs.index_of.Reads as index-of-reads
 use Rattle.tree.proofs.seek_near.Reads as seek-near-reads
 use Rattle.words.proofs.get32.Reads as get32-reads
 

@@ -1,11 +1,11 @@
-use Rattle.rfcomm.proofs.CountTable.{count-enter, up-row, up-put, up-fits, counted-up}
+use Rattle.gathering.proofs.CountTable.{count-enter, up-row, up-put, up-fits, counted-up}
 use native.Mathlib.Omega.{arith}
 use borrow.Author.Needs.{needs}
-use Rattle.rfcomm.proofs.count_up.Statement.{statement}
-use Rattle.rfcomm.proofs.count_up.Tie as tie
-use Rattle.rfcomm.proofs.count_up.Reads as reads
-use Rattle.rfcomm.proofs.count_up.Lts as lts
-use Rattle.rfcomm.proofs.index_of.Reads as index-of-reads
+use Rattle.gathering.proofs.count_up.Statement.{statement}
+use Rattle.gathering.proofs.count_up.Tie as tie
+use Rattle.gathering.proofs.count_up.Reads as reads
+use Rattle.gathering.proofs.count_up.Lts as lts
+use Rattle.gathering.proofs.index_of.Reads as index-of-reads
 use Rattle.tree.proofs.seat.Reads as seat-reads
 use Rattle.words.proofs.get32.Reads as get32-reads
 use Rattle.words.proofs.put32.Reads as put32-reads

@@ -22,8 +22,8 @@ use Rattle.tree.specs.declared.Seating.{Seating}
 use Rattle.tree.proofs.Seats.{seated-value, seated-room, seat-first}
 use Rattle.table.specs.declared.Row.{Row}
 use Rattle.table.specs.declared.Row.the-variants.{At, Nothing}
 use Rattle.rfcomm.specs.Pieces.{Counts, Kind, counted, noCounts}
-use Rattle.rfcomm.specs.CountTable.{valueOf, countIndex, CountPre, UpPre, CountedUp, Counted}
+use Rattle.gathering.specs.CountTable.{valueOf, countIndex, CountPre, UpPre, CountedUp, Counted}
 
 pub count-found : (w : List ℕ) (b k n i : ℕ) (f : Row) (v : ℕ) → f ≡ findIn w b k n → f ≡ At i → v ≡ word w (b + 4 * i + 2) → v ≡ valueOf (lookup w b n k)
 unfolding valueOf

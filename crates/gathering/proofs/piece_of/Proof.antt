@@ -1,13 +1,13 @@
-use Rattle.rfcomm.specs.Gathering.{partOf}
-use Rattle.rfcomm.proofs.Gathering.{part-is}
+use Rattle.gathering.specs.Gathering.{partOf}
+use Rattle.gathering.proofs.Gathering.{part-is}
 use native.Mathlib.Omega.{arith}
 use borrow.Author.Needs.{needs}
-use Rattle.rfcomm.proofs.piece_of.Statement.{statement}
-use Rattle.rfcomm.proofs.piece_of.Tie as tie
-use Rattle.rfcomm.proofs.piece_of.Reads as reads
-use Rattle.rfcomm.proofs.piece_of.Lts as lts
-use Rattle.rfcomm.proofs.count_key.Reads as count-key-reads
-use Rattle.rfcomm.proofs.count_of.Reads as count-of-reads
+use Rattle.gathering.proofs.piece_of.Statement.{statement}
+use Rattle.gathering.proofs.piece_of.Tie as tie
+use Rattle.gathering.proofs.piece_of.Reads as reads
+use Rattle.gathering.proofs.piece_of.Lts as lts
+use Rattle.gathering.proofs.count_key.Reads as count-key-reads
+use Rattle.gathering.proofs.count_of.Reads as count-of-reads
 use Rattle.words.proofs.narrow.Reads as narrow-reads
 use Rattle.words.proofs.get32.Reads as get32-reads
 

@@ -1,12 +1,12 @@
-use Rattle.rfcomm.proofs.Gathering.{take-put, row-put}
+use Rattle.gathering.proofs.Gathering.{take-put, row-put}
 use native.Mathlib.Omega.{arith}
 use borrow.Author.Needs.{needs}
-use Rattle.rfcomm.proofs.take_piece.Statement.{statement}
-use Rattle.rfcomm.proofs.take_piece.Tie as tie
-use Rattle.rfcomm.proofs.take_piece.Reads as reads
-use Rattle.rfcomm.proofs.take_piece.Lts as lts
-use Rattle.rfcomm.proofs.piece_of.Reads as piece-of-reads
+use Rattle.gathering.proofs.take_piece.Statement.{statement}
+use Rattle.gathering.proofs.take_piece.Tie as tie
+use Rattle.gathering.proofs.take_piece.Reads as reads
+use Rattle.gathering.proofs.take_piece.Lts as lts
+use Rattle.gathering.proofs.piece_of.Reads as piece-of-reads
 use Rattle.rfcomm.proofs.put_piece.Reads as put-piece-reads
 use Rattle.words.proofs.get64.Reads as get64-reads
 
 -- src/lib.rt:393:9

@@ -15,14 +15,14 @@ use Rattle.l2cap.specs.PduFrames.{Lent}
 use Rattle.channels.specs.Signals.{Signal, signals}
 use Rattle.channels.specs.ChannelTable.{Tells}
 use Rattle.channels.specs.Passing.{Signalled, Tries}
 use Rattle.rfcomm.specs.Pieces.{kindOf, judged, told, kinds, isWrong, wrongOn, Counts, counted, brought, counting, pieces}
 use Rattle.rfcomm.specs.PieceTable.{piecesFrom, infosOf, Within, Pieced}
 use Rattle.tree.specs.Tree.{Indexed}
-use Rattle.rfcomm.specs.CountTable.{valueOf, countIndex, CountPre, Counted}
+use Rattle.gathering.specs.CountTable.{valueOf, countIndex, CountPre, Counted}
 use Rattle.rfcomm.specs.declared.Part.{Part}
 use Rattle.rfcomm.specs.declared.Info.{Info}
-use Rattle.rfcomm.specs.declared.Taken.{Taken}
-use Rattle.rfcomm.specs.declared.Gathered.{Gathered}
+use Rattle.gathering.specs.declared.Taken.{Taken}
+use Rattle.gathering.specs.declared.Gathered.{Gathered}
 
 -- ---- the piece of a PDU's information
 

@@ -1,10 +1,10 @@
-use Rattle.rfcomm.proofs.CountTable.{index-is}
+use Rattle.gathering.proofs.CountTable.{index-is}
 use native.Mathlib.Omega.{arith}
 use borrow.Author.Needs.{needs}
-use Rattle.rfcomm.proofs.index_of.Statement.{statement}
-use Rattle.rfcomm.proofs.index_of.Tie as tie
-use Rattle.rfcomm.proofs.index_of.Reads as reads
-use Rattle.rfcomm.proofs.index_of.Lts as lts
+use Rattle.gathering.proofs.index_of.Statement.{statement}
+use Rattle.gathering.proofs.index_of.Tie as tie
+use Rattle.gathering.proofs.index_of.Reads as reads
+use Rattle.gathering.proofs.index_of.Lts as lts
 
 -- src/lib.rt:155:23
 mul-t3 : tie.Need-mul-t3

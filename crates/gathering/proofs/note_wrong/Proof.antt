@@ -1,10 +1,10 @@
-use Rattle.rfcomm.proofs.Gathering.{note-past}
+use Rattle.gathering.proofs.Gathering.{note-past}
 use native.Mathlib.Omega.{arith}
 use borrow.Author.Needs.{needs}
-use Rattle.rfcomm.proofs.note_wrong.Statement.{statement}
-use Rattle.rfcomm.proofs.note_wrong.Tie as tie
-use Rattle.rfcomm.proofs.note_wrong.Reads as reads
-use Rattle.rfcomm.proofs.note_wrong.Lts as lts
+use Rattle.gathering.proofs.note_wrong.Statement.{statement}
+use Rattle.gathering.proofs.note_wrong.Tie as tie
+use Rattle.gathering.proofs.note_wrong.Reads as reads
+use Rattle.gathering.proofs.note_wrong.Lts as lts
 
 -- src/lib.rt:306:9
 mul-wrong : tie.Need-mul-wrong

@@ -1,16 +1,16 @@
 use Rattle.rfcomm.proofs.Judging.{opens-small}
-use Rattle.rfcomm.proofs.Gathering.{up-pre, wrong-small, taken-passed, taken-wrong, taken-asks, taken-opens, taken-piece, piece-pre}
+use Rattle.gathering.proofs.Gathering.{up-pre, wrong-small, taken-passed, taken-wrong, taken-asks, taken-opens, taken-piece, piece-pre}
 use native.Mathlib.Omega.{arith}
 use borrow.Author.Needs.{needs}
-use Rattle.rfcomm.proofs.take_pdu.Statement.{statement}
-use Rattle.rfcomm.proofs.take_pdu.Tie as tie
-use Rattle.rfcomm.proofs.take_pdu.Reads as reads
-use Rattle.rfcomm.proofs.take_pdu.Lts as lts
-use Rattle.rfcomm.proofs.count_key.Reads as count-key-reads
-use Rattle.rfcomm.proofs.count_up.Reads as count-up-reads
+use Rattle.gathering.proofs.take_pdu.Statement.{statement}
+use Rattle.gathering.proofs.take_pdu.Tie as tie
+use Rattle.gathering.proofs.take_pdu.Reads as reads
+use Rattle.gathering.proofs.take_pdu.Lts as lts
+use Rattle.gathering.proofs.count_key.Reads as count-key-reads
+use Rattle.gathering.proofs.count_up.Reads as count-up-reads
 use Rattle.rfcomm.proofs.judge.Reads as judge-reads
-use Rattle.rfcomm.proofs.note_wrong.Reads as note-wrong-reads
-use Rattle.rfcomm.proofs.take_piece.Reads as take-piece-reads
+use Rattle.gathering.proofs.note_wrong.Reads as note-wrong-reads
+use Rattle.gathering.proofs.take_piece.Reads as take-piece-reads
 use Rattle.words.proofs.get32.Reads as get32-reads
 
 -- src/lib.rt:324:15

@@ -1,0 +1,2 @@
+pub mod CountTable
+pub mod Gathering
