@@ -254,12 +254,13 @@ pub struct Imported {
 /// ```
 /// use lumbryth::{import, TailRule};
 ///
-/// // Five records, with the beginning of a frame lost, and the end of another.
+/// // The recorder was switched on, and off again, while a reply was under way.
 /// let file = std::fs::read("../../examples/late.btsnoop")?;
 /// let imported = import(&file, None, TailRule::Strict)?;
 /// let bytes = imported.bytes;
-/// assert_eq!((bytes.in_spans, bytes.dropped, bytes.cleared, bytes.left), (0, 0, 0, 0));
-/// assert_eq!(bytes.taken_in(), 0);
+/// assert_eq!((bytes.in_spans, bytes.dropped, bytes.cleared, bytes.left), (81, 18, 0, 6));
+/// assert_eq!(bytes.taken_in(), 105);
+/// assert_eq!(bytes.in_spans, imported.spans.iter().map(|span| span.wire.len()).sum());
 /// # Ok::<(), Box<dyn std::error::Error>>(())
 /// ```
 #[derive(Debug, Clone, Copy, PartialEq, Eq, Hash, Default)]
@@ -279,7 +280,7 @@ pub struct Account {
 }
 
 impl Account {
-    /// How many information bytes were taken in on the DLCI: the sum of the four. It is proved of every import.
+    /// How many information bytes were taken in on the DLCI. That the sum of the four is that, is proved of every import.
     pub fn taken_in(&self) -> usize {
         self.in_spans + self.dropped + self.cleared + self.left
     }
