@@ -228,8 +228,8 @@ fn dlci_objects(seen: &Seen, dlci: &Dlci) -> String {
         ("frames", dlci.all.frames.to_string()),
         ("unfinished", dlci.all.unfinished.to_string()),
         ("wrong_fcs", dlci.wrong_fcs.to_string()),
-        ("asked_by", null_or(asked)),
         bytes::field(dlci.all.bytes),
+        ("asked_by", null_or(asked)),
     ]);
     for (link, share) in &dlci.links {
         text += &object(&[
