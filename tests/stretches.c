@@ -4,7 +4,8 @@
  * for as pcap. A btsnoop file is imported by both calls, which answer the same, also where
  * the list of options does not say the container. Then it is imported with the FCS checked.
  * The bytes in spans are held to the bytes written, and those left to the stretches. Of a
- * caller that lends room for fewer values, the others stay as they were.
+ * caller that lends room for fewer values, the others stay as they were, and so they do where
+ * a refusal carries fewer.
  *
  *     stretches TRACE [pcap]
  */
@@ -48,6 +49,35 @@ static int stores(size_t len, uint64_t container, const uint64_t *values, size_t
         return 0;
     for (i = 0; i < LUMBRYTH_VALUES; i++) {
         if (first[i] != (i < values_len ? values[i] : 77) || first[i] != second[i])
+            return 0;
+    }
+    return 1;
+}
+
+/* Imports by a channel, with so much output. */
+static uint32_t import_on(size_t len, uint64_t container, uint64_t channel, size_t out_len, uint64_t *values)
+{
+    struct lumbryth_options options = {LUMBRYTH_ANY_CHANNEL, 1, LUMBRYTH_BTSNOOP, 0};
+    options.channel = channel;
+    options.container = container;
+    return lumbryth_import_with(file, len, work, sizeof work, out, out_len,
+        (const uint64_t *)&options, LUMBRYTH_OPTIONS, values, LUMBRYTH_VALUES);
+}
+
+/* Whether a refusal stores what it carries and no more: 6 nothing, 7 the length needed. The
+ * example traces have their frames on channel 9, and none on 31. */
+static int carries(size_t len, uint64_t container, uint64_t needed)
+{
+    uint64_t values[LUMBRYTH_VALUES];
+    size_t i;
+    for (i = 0; i < LUMBRYTH_VALUES; i++)
+        values[i] = 77;
+    if (import_on(len, container, 31, sizeof out, values) != LUMBRYTH_NO_STREAM || values[0] != 77)
+        return 0;
+    if (import_on(len, container, 9, (size_t)needed - 1, values) != LUMBRYTH_OUT_SHORT || values[0] != needed)
+        return 0;
+    for (i = 1; i < LUMBRYTH_VALUES; i++) {
+        if (values[i] != 77)
             return 0;
     }
     return 1;
@@ -107,7 +137,7 @@ int main(int argc, char **argv)
     if (refusal != LUMBRYTH_OK)
         return 1;
     memcpy(&answer, values, sizeof answer);
-    if (!fits(&answer))
+    if (!fits(&answer) || !carries(len, container, answer.bytes))
         return 1;
     printf("unfinished %" PRIu64 "\n", answer.unfinished);
     for (i = 0; i < answer.unfinished; i++) {
