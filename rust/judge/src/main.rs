@@ -49,6 +49,8 @@ struct Tally {
     pieces: usize,
     spans: usize,
     unfinished: usize,
+    /// Those of the pieces on DLCIs that have a frame.
+    bytes: usize,
     dlcis: usize,
     cuts: usize,
     faults: usize,
@@ -164,6 +166,7 @@ fn judge_by(
         } else if channel.is_some() {
             tally.spans += frames;
             tally.unfinished += held.len();
+            tally.bytes += imported.bytes.taken_in();
             tally.dlcis += 1;
         }
     }
@@ -366,7 +369,8 @@ fn main() -> ExitCode {
             let _ = fs::remove_dir(&dir);
             println!(
                 "tshark and the library agree on {} traces, {} of them in pcap and three of them the examples: {} records, {} PDUs ({} of them in \
-                 fragments), {} pieces on {} DLCIs, {} spans, {} unfinished; and on {} cuts of them; {} planted faults, each seen",
+                 fragments), {} pieces on {} DLCIs, {} spans, {} unfinished, and where each of {} bytes went; and on {} cuts of them; \
+                 {} planted faults, each seen",
                 tally.traces,
                 tally.pcap,
                 tally.records,
@@ -376,6 +380,7 @@ fn main() -> ExitCode {
                 tally.dlcis,
                 tally.spans,
                 tally.unfinished,
+                tally.bytes,
                 tally.cuts,
                 tally.faults
             );
