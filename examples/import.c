@@ -79,6 +79,14 @@ static void print_spans(const uint8_t *list, size_t len)
     }
 }
 
+/* Prints where every information byte of the DLCI went. */
+static void print_bytes(const struct lumbryth_imported *answer)
+{
+    uint64_t taken_in = answer->in_spans + answer->dropped + answer->cleared + answer->left;
+    printf("bytes taken in %" PRIu64 ": in spans %" PRIu64 ", dropped %" PRIu64 ", cleared %" PRIu64
+        ", left %" PRIu64 "\n", taken_in, answer->in_spans, answer->dropped, answer->cleared, answer->left);
+}
+
 int main(int argc, char **argv)
 {
     uint8_t *file, *work, *out = NULL;
@@ -127,6 +135,7 @@ int main(int argc, char **argv)
     } else {
         printf("DLCI %" PRIu64 ", frames %" PRIu64 ", unfinished %" PRIu64 "\n",
             answer.dlci, answer.frames, answer.unfinished);
+        print_bytes(&answer);
         if (options.check_fcs)
             printf("UIH frames with a wrong FCS, passed over: %" PRIu64 "\n", answer.wrong_fcs);
         if (answer.tail < (uint64_t)len)

@@ -8,11 +8,23 @@ use std::env;
 use std::error::Error;
 use std::fs;
 
-use lumbryth::{cut_with, fixture_name, import_with, Container, Direction, Options, TailRule};
+use lumbryth::{cut_with, fixture_name, import_with, Account, Container, Direction, Options, TailRule};
 
 /// What pcap files begin with: microseconds, then nanoseconds, the lowest byte of a number first or the highest.
 const PCAP: [[u8; 4]; 4] =
     [[0xD4, 0xC3, 0xB2, 0xA1], [0xA1, 0xB2, 0xC3, 0xD4], [0x4D, 0x3C, 0xB2, 0xA1], [0xA1, 0xB2, 0x3C, 0x4D]];
+
+/// Where every information byte of the DLCI went.
+fn account(bytes: &Account) -> String {
+    format!(
+        "bytes taken in {}: in spans {}, dropped {}, cleared {}, left {}",
+        bytes.taken_in(),
+        bytes.in_spans,
+        bytes.dropped,
+        bytes.cleared,
+        bytes.left
+    )
+}
 
 fn main() -> Result<(), Box<dyn Error>> {
     let path = env::args_os().nth(1).ok_or("say which trace to read")?;
@@ -25,6 +37,7 @@ fn main() -> Result<(), Box<dyn Error>> {
     let options = Options::default().with_tail(TailRule::Tolerant).with_container(container).with_check_fcs(check_fcs);
     let imported = import_with(&file, &options)?;
     println!("DLCI {}, frames {}, unfinished {}", imported.dlci, imported.frames, imported.unfinished);
+    println!("{}", account(&imported.bytes));
     if check_fcs {
         println!("UIH frames with a wrong FCS, passed over: {}", imported.wrong_fcs);
     }

@@ -1,15 +1,16 @@
 //! Makes the example traces: `headset.btsnoop`, and `cut.btsnoop`, which is the same
 //! recording cut off inside its last record but one, while a reply is under way;
 //! `headset.pcap` and `cut.pcap`, the same packets with the same times in the other
-//! container; `two-adapters.btsnoop`; and `noisy.btsnoop`.
+//! container; `two-adapters.btsnoop`; `noisy.btsnoop`; and `late.btsnoop`.
 //!
 //!     cargo run --example make_traces -- DIR
 //!
 //! A phone opens RFCOMM to a headset, asks for this and that, and the headset replies. The
 //! recording keeps the rules of an honest one (document 01), but for one frame that was
 //! damaged on its way. In `two-adapters.btsnoop` a desk with two adapters does so with two
-//! headsets at once. In `noisy.btsnoop` the FCS of three UIH frames is wrong. The same bytes
-//! come out each time.
+//! headsets at once. In `noisy.btsnoop` the FCS of three UIH frames is wrong. The recorder of
+//! `late.btsnoop` was switched on while a reply was under way. The same bytes come out each
+//! time.
 
 mod trace;
 
@@ -221,6 +222,24 @@ fn noisy() -> Result<Trace, Refusal> {
     Ok(r.trace)
 }
 
+/// A recorder that is switched on late, and off early. Of its first reply only the second
+/// piece is there, of a notice too, and of its last reply only the first. How the channel was
+/// opened is not in it either.
+fn late() -> Result<Trace, Refusal> {
+    let mut r = Recording { trace: Trace::new(1002), us: START };
+    let reply = pack(MDR, 1, &[0x67, 0x17, 0x01, 0x01, 0x00, 0x00, 0x0E])?;
+    r.data(Rx, &reply[6..]);
+    r.data(Tx, &pack(ACK, 0, &[])?);
+    r.ask(MDR, 0, &[0x22, 0x00], &[0x23, 0x00, 0x3C, 0x00], None)?;
+    let notice = pack(MDR, 1, &[0x25, 0x00, 0x3B, 0x00])?;
+    r.data(Rx, &notice[5..]);
+    r.data(Tx, &pack(ACK, 0, &[])?);
+    r.data(Tx, &pack(MDR, 1, &[0x66, 0x17])?);
+    r.data(Rx, &pack(ACK, 0, &[])?);
+    r.data(Rx, &reply[..6]);
+    Ok(r.trace)
+}
+
 fn main() -> Result<(), Box<dyn Error>> {
     let dir = env::args_os().nth(1).ok_or("say which directory to write the traces to")?;
     let trace = headset()?;
@@ -239,5 +258,8 @@ fn main() -> Result<(), Box<dyn Error>> {
     let trace = noisy()?;
     fs::write(Path::new(&dir).join("noisy.btsnoop"), &trace.file)?;
     println!("a noisy adapter: {} records, {} bytes", trace.starts.len(), trace.file.len());
+    let trace = late()?;
+    fs::write(Path::new(&dir).join("late.btsnoop"), &trace.file)?;
+    println!("a late recorder: {} records, {} bytes", trace.starts.len(), trace.file.len());
     Ok(())
 }

@@ -102,7 +102,8 @@ extern "C" {
 #define LUMBRYTH_NAME_MAX 118        /* the longest name that is given */
 #define LUMBRYTH_PACKET_MAX 65540    /* the longest packet of a btsnoop record; one that says more is damaged */
 #define LUMBRYTH_PCAP_PACKET_MAX 65544 /* the same of a pcap record, which has the direction too, 4 bytes */
-#define LUMBRYTH_VALUES 6            /* the most values that a call stores, but for the gaps */
+#define LUMBRYTH_HELD_MAX 65536      /* the most bytes that wait for an end marker, 3C */
+#define LUMBRYTH_VALUES 10           /* the most values that a call stores, but for the gaps */
 
 /* A channel that stands for: any. So does every other number over 255. */
 #define LUMBRYTH_ANY_CHANNEL 256
@@ -220,7 +221,8 @@ uint32_t lumbryth_capture_order(const uint8_t *names, size_t names_len,
  * marker, 3C; a PDU of which only a part was recorded is not counted), tail offset,
  * bytes written, wrong FCS (how many UIH frames of the DLCI were passed over because their
  * FCS is wrong; always 0 here, as only the calls with options check it, if they are asked
- * to).
+ * to), and four that say where every information byte of the DLCI went: bytes in spans,
+ * bytes dropped, bytes cleared, bytes left (struct lumbryth_imported says what each is).
  * The tail offset is where reading stopped: the file's length, or where the record
  * starts that passes the file's end, from the file's start. If it is less than
  * `file_len`, the file was cut, or is damaged there: no packet has over
@@ -256,8 +258,25 @@ struct lumbryth_options {
 };
 #define LUMBRYTH_OPTIONS (sizeof(struct lumbryth_options) / sizeof(uint64_t))
 
-/* What an import stores in `values`, with room for LUMBRYTH_VALUES. Fields that are added
- * later come at the end. */
+/*
+ * What an import stores in `values`, with room for LUMBRYTH_VALUES. Fields that are added
+ * later come at the end.
+ *
+ * The last four say where every information byte of the DLCI went. Each stretch and
+ * direction has a buffer. The information of a UIH frame goes behind what that holds; then,
+ * again and again, bytes before the first start marker, 3E, are dropped (all, if there is
+ * none), and what stands through the first end marker, 3C, is a span. If over
+ * LUMBRYTH_HELD_MAX bytes are held after that, they are cleared. So
+ *
+ *   in_spans + dropped + cleared + left   is the number of information bytes of the DLCI
+ *   bytes                                 is in_spans + LUMBRYTH_SPAN_HEADER * frames
+ *   left                                  is 0 just if `unfinished` is 0
+ *
+ * The information bytes are those of the UIH frames that are taken: whole ones on channels
+ * that are RFCOMM or may be, with `check_fcs` those with a right FCS. Bytes of a UIH frame
+ * that is passed over for its FCS, of a PDU that is never complete, and of a record that
+ * passes the file's end stand in none of the four.
+ */
 struct lumbryth_imported {
     uint64_t dlci;
     uint64_t frames;
@@ -265,6 +284,10 @@ struct lumbryth_imported {
     uint64_t tail;
     uint64_t bytes;
     uint64_t wrong_fcs;
+    uint64_t in_spans; /* in the spans of the list, markers included, unpacking or not */
+    uint64_t dropped;  /* before a start marker or for want of one, stray end markers too */
+    uint64_t cleared;  /* in buffers that were cleared: 0, or over LUMBRYTH_HELD_MAX */
+    uint64_t left;     /* held at the end without an end marker, of all stretches together */
 };
 
 /*
@@ -281,7 +304,7 @@ struct lumbryth_imported {
  * UIH frame whose FCS is wrong is passed over as if it were none: its information is not
  * taken, no DLCI is seen by it, and what came before it and comes after it joins. The DLCI
  * is chosen by the other frames, so it may be another than without `check_fcs`, or none
- * (6). The last value is how many UIH frames of the DLCI have a wrong FCS, with information
+ * (6). `wrong_fcs` is how many UIH frames of the DLCI have a wrong FCS, with information
  * or without, anywhere in the file; it is 0 without `check_fcs`, and 6 does not carry it. Of
  * other frames, SABM too, the FCS is not checked.
  *

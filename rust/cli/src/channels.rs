@@ -2,6 +2,7 @@
 
 use std::fmt::Write;
 
+use crate::bytes::{self, In};
 use crate::losses;
 use crate::report::{end_fields, end_of, sentence};
 use crate::words::{capital, count, datalink, datalink_fields, named, null_or, object, string, way};
@@ -112,6 +113,7 @@ fn dlci_lines(import: &str, seen: &Seen, dlci: &Dlci, several: bool) -> String {
     for (link, share) in dlci.links.iter().filter(|_| several) {
         let _ = writeln!(text, "DLCI {} on {}: {}.", dlci.dlci, named(*link, several), numbers(share));
     }
+    let _ = writeln!(text, "{}", bytes::line(dlci.dlci, &bytes::words(&dlci.all.bytes, In::Spans)));
     let _ = writeln!(text, "DLCI {}: {}.", dlci.dlci, taking(import, seen, dlci));
     if dlci.wrong_fcs > 0 {
         let frames = count(dlci.wrong_fcs, "UIH frame has", "UIH frames have");
@@ -226,6 +228,7 @@ fn dlci_objects(seen: &Seen, dlci: &Dlci) -> String {
         ("frames", dlci.all.frames.to_string()),
         ("unfinished", dlci.all.unfinished.to_string()),
         ("wrong_fcs", dlci.wrong_fcs.to_string()),
+        bytes::field(dlci.all.bytes),
         ("asked_by", null_or(asked)),
     ]);
     for (link, share) in &dlci.links {
@@ -238,6 +241,7 @@ fn dlci_objects(seen: &Seen, dlci: &Dlci) -> String {
             ("spans", share.spans.to_string()),
             ("frames", share.frames.to_string()),
             ("unfinished", share.unfinished.to_string()),
+            bytes::field(share.bytes),
         ]);
     }
     for refused in &dlci.refused {

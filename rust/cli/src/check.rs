@@ -5,6 +5,7 @@ use std::fs::{self, File};
 use std::io::{self, Read};
 use std::path::Path;
 
+use crate::bytes;
 use crate::losses;
 use crate::set::{self, Set};
 use crate::sha256::sum;
@@ -91,6 +92,9 @@ pub fn list(set: &Set) -> Vec<Fault> {
     if seen.len() != frames || !(1..=frames).all(|counter| seen.get(&Some(counter)) == Some(&1)) {
         faults.push(Fault::list(format!("it does not name each of the counters 1 to {frames} once")));
     }
+    if set.fact("bytes").is_some_and(|words| bytes::read(words).is_none()) {
+        faults.push(Fault::list("where its bytes went cannot be read, or does not add up"));
+    }
     faults
 }
 
@@ -143,20 +147,21 @@ pub fn told(set: &Set) -> String {
     format!("{} frames in the trace, end {end}: {name}\n", fact("frames"))
 }
 
-/// What a list says that the set lacks. Of UIH frames with a wrong FCS a line, if they were passed over; of losses a line for each,
-/// and one if it does not say; none if none was seen.
+/// What a list says that the set lacks. Of UIH frames with a wrong FCS a line, if they were passed over; where the bytes went, a line,
+/// also if it does not say; of losses a line for each, and one if it does not say; none if none was seen.
 pub fn lacks(set: &Set) -> String {
     let dlci = set.fact("dlci").unwrap_or("not told");
     let wrong = set.wrong_fcs().map_or(String::new(), |n| wrong_fcs(dlci, n) + "\n");
+    let bytes = bytes::line(dlci, set.fact("bytes").unwrap_or("the list does not tell")) + "\n";
     let told = set.all("losses");
     if told.is_empty() {
-        return wrong + "Losses: the list does not tell.\n";
+        return wrong + &bytes + "Losses: the list does not tell.\n";
     }
     let losses = told.iter().filter(|loss| **loss != losses::NONE).map(|loss| format!("Losses: {loss}.\n"));
-    wrong + &losses.collect::<String>()
+    wrong + &bytes + &losses.collect::<String>()
 }
 
-/// An object for what the list says of losses and of the FCS, each fixture that is as it should be, and each fault.
+/// An object for what the list says of losses, of the FCS and of the bytes, each fixture that is as it should be, and each fault.
 pub fn objects(set: &Set, faults: &[Fault]) -> String {
     let wrong: BTreeSet<&str> = faults.iter().map(|fault| &*fault.what).collect();
     let right = set.fixtures.keys().filter(|name| !wrong.contains(&***name));
@@ -167,6 +172,9 @@ pub fn objects(set: &Set, faults: &[Fault]) -> String {
         ("check_fcs", (set.fcs() == set::CHECKED).to_string()),
         ("wrong_fcs", null_or(set.wrong_fcs())),
     ]);
+    let mut bytes = vec![("kind", string("bytes"))];
+    bytes.extend(bytes::fields(set.fact("bytes").and_then(bytes::read)));
+    text += &object(&bytes);
     text.extend(right.map(|name| of("ok", "name", name)));
     text.extend(
         faults.iter().map(|fault| of(fault.kind, if fault.of_a_name() { "name" } else { "reason" }, &fault.what)),

@@ -64,6 +64,11 @@ Unfinished are bytes at the end that have no end marker: told by handle, directi
 (received is from the headset), DLCI and how many are held. They make no file. Packets
 that were not complete are not counted there.
 
+A line accounts for every byte that was taken in on the DLCI: how many are in frames (also
+in those that do not unpack), were dropped before a start marker or for want of one, were
+cleared because over 65536 had no end marker, or are left without one at the end. Bytes that
+a packet lacks, or that came with a wrong FCS under --check-fcs, were not taken in.
+
 With --check-fcs, a UIH frame with a wrong FCS is passed over as if it had not come. Those
 on the DLCI that is taken are counted, with information or without. Another DLCI may be
 taken than without --check-fcs, or none; then it is said which is taken without. lumbryth
@@ -88,10 +93,11 @@ usage: lumbryth frames TRACE [options]
 
 Lists the frames of TRACE: command, direction (rx is from the headset), counter, type,
 sequence number, length on the wire, command and type as numbers, time (UTC); or why the
-frame does not unpack. Before them stands what is unfinished, bytes at the end that have
-no end marker: handle, direction (received is from the headset), DLCI and how many are
-held; the losses and hints that import tells; and other DLCIs that have frames, with the
---channel that takes them. A file that ends inside a record is listed up to there.
+frame does not unpack. Before them stands where every byte of the DLCI went, as import
+tells it; what is unfinished, bytes at the end that have no end marker: handle, direction
+(received is from the headset), DLCI and how many are held; the losses and hints that import
+tells; and other DLCIs that have frames, with the --channel that takes them. A file that ends
+inside a record is listed up to there.
 
 If the trace has more than one adapter, what is unfinished, and a loss that is an adapter's,
 is told with the adapter. The frames of all adapters come in one list, in order of
@@ -125,9 +131,10 @@ Lists what TRACE has inside, and what import makes of it, a line for each fact. 
 handle, with packets and PDUs each way (rx is from the headset). Under it its channels: CID,
 direction, what it is, PSM if a request tells it, PDUs. Then each DLCI, in the order in
 which import looks at them: its RFCOMM channel, frames (spans that unpack), spans (bytes
-from 3E through 3C), pieces, and how many are unfinished; how import takes it; how many UIH
-frames on it have a wrong FCS, if any, which import --check-fcs passes over; and why spans do
-not unpack. If import takes none, the last line says why.
+from 3E through 3C), pieces, and how many are unfinished; where every byte of its pieces
+went, as import tells it; how import takes it; how many UIH frames on it have a wrong FCS, if
+any, which import --check-fcs passes over; and why spans do not unpack. If import takes none,
+the last line says why.
 
 If the trace has more than one adapter, each handle is told with its adapter, since two
 adapters may use the same handle; and what each DLCI has is also told for each adapter and
@@ -154,12 +161,12 @@ usage: lumbryth check DIR [TRACE] [options]
 Checks a set of fixtures that import wrote to DIR, by its list, fixtures.sha256: names each
 fixture that is missing, changed or unreadable, and each that is extra. With TRACE, imports that again
 as the set was asked for, and names in what it differs. Files that are no fixtures are
-passed over. Losses that the list tells are told again, and if import was asked to check the
-FCS, how many UIH frames it passed over.
+passed over. Where the bytes went and the losses that the list tells are told again, and if
+import was asked to check the FCS, how many UIH frames it passed over.
 
-  --json           an object a line: losses; fcs; each fixture, ok, missing, changed,
-                   unreadable or extra; and what is wrong with the list, or differs from
-                   the trace
+  --json           an object a line: losses; fcs; bytes; each fixture, ok, missing,
+                   changed, unreadable or extra; and what is wrong with the list, or
+                   differs from the trace
   --               what follows is no option
 
 Exit status: 0 if nothing is wrong; 1 if something is, or cannot be read; 2 if the command

@@ -4,6 +4,7 @@
 #![deny(unsafe_code)]
 
 mod args;
+mod bytes;
 mod channels;
 mod check;
 mod help;

@@ -4,6 +4,7 @@ use std::fmt::Write;
 use std::path::Path;
 
 use crate::args::Look;
+use crate::bytes::{self, In};
 use crate::hints::{self, Hint, Kind};
 use crate::losses;
 use crate::time::utc;
@@ -115,6 +116,9 @@ pub fn findings(trace: Trace, look: &Look, imported: &Imported, open: &[Stretch]
              which does not tell the adapters apart."
         );
     }
+    let went = bytes::words(&imported.bytes, In::Frames);
+    let _ = writeln!(text, "{}", bytes::line(imported.dlci, &went));
+    bytes::reasons(imported.dlci, &imported.bytes).iter().for_each(|sentence| text += &format!("{sentence}\n"));
     let unfinished = unfinished(open, adapters > 1);
     if unfinished.is_empty() {
         let _ = writeln!(text, "Unfinished on DLCI {}: nothing is held without an end marker.", imported.dlci);
@@ -214,6 +218,7 @@ pub fn frame_objects(trace: Trace, look: &Look, imported: &Imported, open: &[Str
     fields.push(("unfinished", imported.unfinished.to_string()));
     fields.push(("check_fcs", look.check_fcs.to_string()));
     fields.push(("wrong_fcs", null_or(look.check_fcs.then_some(imported.wrong_fcs))));
+    fields.push(bytes::field(imported.bytes));
     fields.push(("adapters", adapters(trace).len().to_string()));
     fields.extend(end_fields(trace));
     fields.push(("losses", losses::fields(trace, gaps)));

@@ -6,6 +6,7 @@
 use std::collections::{BTreeMap, BTreeSet};
 
 use crate::args::{is_name, Look};
+use crate::bytes::{self, In};
 use crate::losses;
 use crate::sha256::sum;
 use crate::words::{datalink, shown};
@@ -85,6 +86,7 @@ impl Set {
             fixtures.iter().map(|fixture| (fixture.name.clone(), sum(&fixture.wire))).collect();
         let name = look.trace.file_name().unwrap_or(look.trace.as_os_str());
         let mut facts = vec![
+            ("bytes", bytes::words(&imported.bytes, In::Frames)),
             ("channel", look.channel.map_or("any".to_string(), |channel| channel.to_string())),
             ("container", container(trace)),
             ("dlci", imported.dlci.to_string()),
@@ -203,13 +205,13 @@ impl Set {
         self.fact("wrong fcs")?.parse().ok()
     }
 
-    /// Facts that only this set has, and those that only the other has. The name of the trace is free, and so are losses if one of
-    /// the two does not tell them, and that the FCS is not checked if one does not say it.
+    /// Facts that only this set has, and those that only the other has. The name of the trace is free, and so are losses and bytes if
+    /// one of the two does not tell them, and that the FCS is not checked if one does not say it.
     pub fn differences(&self, other: &Set) -> (Vec<String>, Vec<String>) {
         let untold = |name: &str| self.fact(name).is_none() || other.fact(name).is_none();
         let free = |name: &str, value: &str| match name {
             "trace name" => true,
-            "losses" => untold(name),
+            "bytes" | "losses" => untold(name),
             "fcs" => value == NOT_CHECKED && untold(name),
             _ => false,
         };

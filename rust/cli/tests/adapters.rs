@@ -93,12 +93,14 @@ fn the_example_in_words() {
         DLCI 18, channel 9: 10 frames, 10 spans, 11 pieces, 1 unfinished.\n\
         DLCI 18 on adapter 0, handle 6: 4 frames, 4 spans, 4 pieces, 0 unfinished.\n\
         DLCI 18 on adapter 1, handle 6: 6 frames, 6 spans, 7 pieces, 1 unfinished.\n\
+        Bytes on DLCI 18: 116 taken in, 108 in spans, 8 left without an end marker.\n\
         DLCI 18: import takes it, with --channel 9 or without.\n";
     assert_eq!(said("channels", &trace), channels);
 
     let found = format!(
         "10 frames, all of which unpack: DLCI 18, channel 9.\n\
         {LIST_SENTENCE}\n\
+        Bytes on DLCI 18: 116 taken in, 108 in frames, 8 left without an end marker.\n\
         Unfinished on adapter 1, handle 6, received, DLCI 18: 8 bytes are held without an end marker.\n\
         The file ends at a record's end, so whether more was recorded cannot be seen.\n\
         What is proved of a cut is for a channel that is asked for, here --channel 9.\n\
@@ -140,7 +142,7 @@ fn the_example_in_objects() {
     let losses = r#""end":"record","losses":{"open":{"count":1,"first":752,"adapter":0}}}"#;
     let text = objects("frames", &trace);
     let lines: Vec<&str> = text.lines().collect();
-    let import = r#"{"kind":"import","dlci":18,"channel":9,"frames":10,"unfinished":1,"check_fcs":false,"wrong_fcs":null,"adapters":2,"#;
+    let import = r#"{"kind":"import","dlci":18,"channel":9,"frames":10,"unfinished":1,"check_fcs":false,"wrong_fcs":null,"bytes":{"taken_in":116,"in_spans":108,"dropped":0,"cleared":0,"left":8},"adapters":2,"#;
     assert_eq!(lines[0], format!("{import}{losses}"));
     assert_eq!(lines[1], r#"{"kind":"unfinished","adapter":1,"handle":6,"direction":"rx","dlci":18,"held":8}"#);
     assert_eq!(lines.len(), 12);
@@ -160,9 +162,9 @@ fn the_example_in_objects() {
     ];
     assert_eq!(lines[6..8], told);
     let told = [
-        r#"{"kind":"dlci","dlci":18,"channel":9,"pieces":11,"spans":10,"frames":10,"unfinished":1,"wrong_fcs":0,"asked_by":9}"#,
-        r#"{"kind":"share","dlci":18,"adapter":0,"handle":6,"pieces":4,"spans":4,"frames":4,"unfinished":0}"#,
-        r#"{"kind":"share","dlci":18,"adapter":1,"handle":6,"pieces":7,"spans":6,"frames":6,"unfinished":1}"#,
+        r#"{"kind":"dlci","dlci":18,"channel":9,"pieces":11,"spans":10,"frames":10,"unfinished":1,"wrong_fcs":0,"bytes":{"taken_in":116,"in_spans":108,"dropped":0,"cleared":0,"left":8},"asked_by":9}"#,
+        r#"{"kind":"share","dlci":18,"adapter":0,"handle":6,"pieces":4,"spans":4,"frames":4,"unfinished":0,"bytes":{"taken_in":43,"in_spans":43,"dropped":0,"cleared":0,"left":0}}"#,
+        r#"{"kind":"share","dlci":18,"adapter":1,"handle":6,"pieces":7,"spans":6,"frames":6,"unfinished":1,"bytes":{"taken_in":73,"in_spans":65,"dropped":0,"cleared":0,"left":8}}"#,
     ];
     assert_eq!(lines[11..], told);
 }

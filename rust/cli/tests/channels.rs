@@ -68,6 +68,7 @@ fn shipped_traces() {
         CID 0x0001 rx, signals, 4 PDUs, handle 6.\n\
         CID 0x0041 tx, admitted, PSM 0x0003, 19 PDUs, handle 6.\n\
         DLCI 18, channel 9: 30 frames, 31 spans, 32 pieces, 0 unfinished.\n\
+        Bytes on DLCI 18: 493 taken in, all in spans.\n\
         DLCI 18: import takes it, with --channel 9 or without.\n\
         DLCI 18: 1 span does not unpack, refusal 17, the frame's checksum is 70 where its bytes give B0.\n";
     assert_eq!(text("headset.btsnoop"), headset);
@@ -81,6 +82,7 @@ fn shipped_traces() {
         CID 0x0001 rx, signals, 4 PDUs, handle 6.\n\
         CID 0x0041 tx, admitted, PSM 0x0003, 18 PDUs, handle 6.\n\
         DLCI 18, channel 9: 28 frames, 29 spans, 30 pieces, 1 unfinished.\n\
+        Bytes on DLCI 18: 478 taken in, 470 in spans, 8 left without an end marker.\n\
         DLCI 18: import --tolerant takes it, with --channel 9 or without.\n\
         DLCI 18: 1 span does not unpack, refusal 17, the frame's checksum is 70 where its bytes give B0.\n";
     assert_eq!(text("cut.btsnoop"), cut);
@@ -121,16 +123,21 @@ fn a_second_channel_and_dlcis() {
             "CID 0x0070 rx, named, PSM 0x1001, 1 PDU, handle 6: passed over, for no request for it has PSM 0x0003, RFCOMM.",
             "CID 0x0071 tx, named, PSM 0x1001, 0 PDUs, handle 6: passed over, for no request for it has PSM 0x0003, RFCOMM.",
             "DLCI 18, channel 9: 1 frame, 1 span, 1 piece, 0 unfinished.",
+            "Bytes on DLCI 18: 11 taken in, all in spans.",
             "DLCI 18: import takes it, with --channel 9 or without.",
             "DLCI 40, channel 20: 2 frames, 4 spans, 5 pieces, 1 unfinished.",
+            "Bytes on DLCI 40: 46 taken in, 44 in spans, 2 left without an end marker.",
             "DLCI 40: import --channel 20 takes it.",
             "DLCI 40: 2 spans do not unpack, refusal 17, the first: the frame's checksum is 30 where its bytes give 70.",
             "DLCI 19, channel 9: 1 frame, 1 span, 1 piece, 0 unfinished.",
+            "Bytes on DLCI 19: 11 taken in, all in spans.",
             "DLCI 19: no channel asks for it, for import --channel 9 takes DLCI 18, which comes first.",
             "DLCI 62, channel 31: 0 frames, 1 span, 1 piece, 0 unfinished.",
+            "Bytes on DLCI 62: 11 taken in, all in spans.",
             "DLCI 62: import does not take it, for no span unpacks.",
             "DLCI 62: 1 span does not unpack, refusal 17, the frame's checksum is 30 where its bytes give 70.",
             "DLCI 63, channel 31: 0 frames, 0 spans, 1 piece, 0 unfinished.",
+            "Bytes on DLCI 63: 3 taken in, 3 dropped before a start marker or for want of one.",
             "DLCI 63: import does not take it, for it has no span.",
         ],
     );
@@ -198,6 +205,7 @@ fn two_handles() {
         "CID 0x0001 tx, signals, 1 PDU, handle 6.",
         "CID 0x0041 rx, admitted, PSM 0x0003, 1 PDU, handle 6.",
         "DLCI 18, channel 9: 3 frames, 3 spans, 3 pieces, 0 unfinished.",
+        "Bytes on DLCI 18: 33 taken in, all in spans.",
         "DLCI 18: import takes it, with --channel 9 or without.",
     ];
     shows(&file, "2 handles, 4 channels, 1 DLCI: datalink 1002.", &lines);
@@ -225,6 +233,7 @@ fn a_cid_for_another_psm() {
         "CID 0x0041 tx, named, PSM 0x0019, 1 PDU, handle 6: passed over, for no request for it has PSM 0x0003, RFCOMM.",
         "CID 0x0050 tx, admitted, PSM 0x0003 then 0x1001, 1 PDU, handle 6.",
         "DLCI 18, channel 9: 2 frames, 2 spans, 2 pieces, 0 unfinished.",
+        "Bytes on DLCI 18: 22 taken in, all in spans.",
         "DLCI 18: import takes it, with --channel 9 or without.",
     ];
     shows(&file, "1 handle, 5 channels, 1 DLCI: datalink 1002.", &lines);
@@ -241,6 +250,7 @@ fn guessed_and_passed_over() {
         "CID 0x003f rx, passed over, 1 PDU, handle 6: nothing names it, and its CID is under 0x0040.",
         "CID 0xffff tx, guessed, 1 PDU, handle 6.",
         "DLCI 18, channel 9: 2 frames, 2 spans, 2 pieces, 0 unfinished.",
+        "Bytes on DLCI 18: 22 taken in, all in spans.",
         "DLCI 18: import takes it, with --channel 9 or without.",
     ];
     shows(&guessed, "1 handle, 3 channels, 1 DLCI: datalink 1002.", &lines);
@@ -264,6 +274,7 @@ fn guessed_and_passed_over() {
         "CID 0x0001 tx, signals, 2 PDUs, handle 6.",
         "CID 0x0001 rx, signals, 1 PDU, handle 6.",
         "DLCI 20, channel 10: 1 frame, 1 span, 1 piece, 0 unfinished.",
+        "Bytes on DLCI 20: 11 taken in, all in spans.",
         "DLCI 20: import takes it, with --channel 10 or without.",
     ];
     shows(&later, "1 handle, 5 channels, 1 DLCI: datalink 1002.", &lines);
@@ -475,10 +486,10 @@ fn an_object_a_line() {
     let told = r#"{"kind":"channel","adapter":0,"handle":6,"direction":"rx","cid":112,"psms":[4097],"standing":"named","tried":false,"pdus":1,"reason":"no request for it has PSM 0x0003, RFCOMM"}"#;
     assert_eq!(lines[6], told);
     let told = [
-        r#"{"kind":"dlci","dlci":40,"channel":20,"pieces":5,"spans":4,"frames":2,"unfinished":1,"wrong_fcs":0,"asked_by":20}"#,
-        r#"{"kind":"share","dlci":40,"adapter":0,"handle":6,"pieces":5,"spans":4,"frames":2,"unfinished":1}"#,
+        r#"{"kind":"dlci","dlci":40,"channel":20,"pieces":5,"spans":4,"frames":2,"unfinished":1,"wrong_fcs":0,"bytes":{"taken_in":46,"in_spans":44,"dropped":0,"cleared":0,"left":2},"asked_by":20}"#,
+        r#"{"kind":"share","dlci":40,"adapter":0,"handle":6,"pieces":5,"spans":4,"frames":2,"unfinished":1,"bytes":{"taken_in":46,"in_spans":44,"dropped":0,"cleared":0,"left":2}}"#,
         r#"{"kind":"refused","dlci":40,"refusal":17,"spans":2,"reason":"the frame's checksum is 30 where its bytes give 70"}"#,
-        r#"{"kind":"dlci","dlci":19,"channel":9,"pieces":1,"spans":1,"frames":1,"unfinished":0,"wrong_fcs":0,"asked_by":null}"#,
+        r#"{"kind":"dlci","dlci":19,"channel":9,"pieces":1,"spans":1,"frames":1,"unfinished":0,"wrong_fcs":0,"bytes":{"taken_in":11,"in_spans":11,"dropped":0,"cleared":0,"left":0},"asked_by":null}"#,
     ];
     assert_eq!(lines[10..14], told);
 }
@@ -511,11 +522,16 @@ fn agrees_by(file: &[u8], check_fcs: bool) -> Seen {
                 let refused: usize = dlci.refused.iter().map(|refused| refused.spans).sum();
                 assert_eq!(dlci.all.spans, dlci.all.frames + refused);
                 assert_eq!(imported.wrong_fcs, if check_fcs { dlci.wrong_fcs } else { 0 }, "channel {channel:?}");
-                // What is unfinished, by adapter and handle.
+                assert_eq!(imported.bytes, dlci.all.bytes, "channel {channel:?}");
+                // What is unfinished, by adapter and handle, and how many bytes are held there.
                 let mut proved = BTreeMap::new();
-                open.iter().for_each(|stretch| *proved.entry((stretch.adapter, stretch.handle)).or_insert(0) += 1);
+                for stretch in open {
+                    let (stretches, held) = proved.entry((stretch.adapter, stretch.handle)).or_insert((0, 0));
+                    (*stretches, *held) = (*stretches + 1, *held + stretch.held);
+                }
                 let held = dlci.links.iter().filter(|(_, share)| share.unfinished > 0);
-                let held = held.map(|(link, share)| ((link.adapter, link.handle), share.unfinished));
+                let held =
+                    held.map(|(link, share)| ((link.adapter, link.handle), (share.unfinished, share.bytes.left)));
                 assert_eq!(held.collect::<BTreeMap<_, _>>(), proved, "channel {channel:?}");
             }
             (imported, dlci) => panic!("channel {channel:?}: import {imported:?}, look {dlci:?}"),
@@ -539,7 +555,7 @@ fn shares_a_handle(seen: &Seen) -> bool {
 fn the_look_agrees_with_the_import() {
     let mut rng = made::Rng(1);
     let mut hit = BTreeSet::new();
-    let mut counts = [0; 13];
+    let mut counts = [0; 14];
     for _ in 0..6_000 {
         let file = made::trace(&mut rng);
         let seen = agrees(&file);
@@ -556,6 +572,7 @@ fn the_look_agrees_with_the_import() {
             taken.iter().any(|dlci| shared(dlci)),
             taken.iter().any(|dlci| dlci.all.unfinished > 1),
             taken.iter().any(|dlci| dlci.all.spans > dlci.all.frames),
+            taken.iter().any(|dlci| dlci.all.bytes.dropped > 0),
             !taken.is_empty() && seen.handles.len() > 1,
             !taken.is_empty() && seen.skipped > 0,
             // Several adapters, with frames on more than one of them; and two that use one handle.
@@ -607,8 +624,8 @@ fn the_look_agrees_in_pcap() {
 #[test]
 fn damaged_files_agree() {
     let mut rng = made::Rng(2);
-    let files =
-        ["headset.btsnoop", "two-adapters.btsnoop", "noisy.btsnoop"].map(|name| fs::read(example(name)).unwrap());
+    let files = ["headset.btsnoop", "two-adapters.btsnoop", "noisy.btsnoop", "late.btsnoop"]
+        .map(|name| fs::read(example(name)).unwrap());
     let pcap = FORMS.map(|form| twin(&files[0], form));
     for (n, whole) in files.into_iter().chain(pcap).enumerate() {
         let (mut read, mut refused) = (0, 0);
@@ -655,10 +672,13 @@ fn long_buffers_agree() {
             left -= n;
         }
         let seen = agrees(&trace_of_pdus(&pdus));
-        assert_eq!((seen.dlcis[0].all.spans, seen.dlcis[0].all.unfinished), (1, held));
-        // What is not dropped ends with the next 3C, of whatever it is.
+        let all = seen.dlcis[0].all;
+        assert_eq!((all.spans, all.unfinished), (1, held));
+        assert_eq!((all.bytes.dropped, all.bytes.cleared, all.bytes.left), (0, 65_537 * more, 65_536 * held));
+        // What is not cleared ends with the next 3C, of whatever it is; else that is dropped.
         pdus.push((6, Rx, pdu(0x45, &uih(18, false, None, &[&[0x3C], &wire[..]].concat()))));
-        let seen = agrees(&trace_of_pdus(&pdus));
-        assert_eq!((seen.dlcis[0].all.spans, seen.dlcis[0].all.frames), (2 + held, 2));
+        let all = agrees(&trace_of_pdus(&pdus)).dlcis[0].all;
+        assert_eq!((all.spans, all.frames), (2 + held, 2));
+        assert_eq!((all.bytes.dropped, all.bytes.cleared, all.bytes.left), (more, 65_537 * more, 0));
     }
 }

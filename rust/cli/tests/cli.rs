@@ -78,6 +78,7 @@ fn import_writes_the_fixtures() {
     let output = words(&[&"import", &trace, &"--out", &dir]);
     assert_eq!((status(&output), err(&output)), (0, String::new()));
     let found = "31 frames, 1 of which does not unpack: DLCI 18, channel 9.\n\
+        Bytes on DLCI 18: 493 taken in, all in frames.\n\
         Unfinished on DLCI 18: nothing is held without an end marker.\n\
         The file ends at a record's end, so whether more was recorded cannot be seen.\n\
         What is proved of a cut is for a channel that is asked for, here --channel 9.\n";
@@ -141,7 +142,7 @@ fn the_channel_is_asked_for() {
     let trace = example("headset.btsnoop");
     let output = words(&[&"frames", &trace, &"--channel", &"9"]);
     assert_eq!(status(&output), 0);
-    assert_eq!(out(&output).lines().count(), 34);
+    assert_eq!(out(&output).lines().count(), 35);
     let output = words(&[&"frames", &trace, &"--channel=8"]);
     let told = "refused (6): nothing on channel 8 unpacks as a frame; the file ends at a record's end, \
         so whether more was recorded cannot be seen: ";
@@ -154,11 +155,11 @@ fn frames_are_listed() {
     let text = out(&output);
     let lines: Vec<&str> = text.lines().collect();
     assert_eq!(
-        lines[4],
+        lines[5],
         "CONNECT_GET_PROTOCOL_INFO tx 1, DATA_MDR, seq 00, 11 bytes, command 00, type 0c, 2024-05-14 09:30:00.133"
     );
     assert_eq!(
-        lines[20],
+        lines[21],
         "does not unpack rx 17, refusal 17, the frame's checksum is 70 where its bytes give B0, 13 bytes, 2024-05-14 09:30:00.261"
     );
 }
@@ -246,6 +247,7 @@ fn a_cut_file() {
     assert_eq!(status(&output), 0);
     let lines = [
         "29 frames, 1 of which does not unpack: DLCI 18, channel 9.",
+        "Bytes on DLCI 18: 478 taken in, 470 in frames, 8 left without an end marker.",
         "Unfinished on handle 6, received, DLCI 18: 8 bytes are held without an end marker.",
         "The file ends inside the record that starts at byte 2453: 30 bytes of it are there and 13 are missing.",
         "Kept: 29 frames, complete before that.",
@@ -382,7 +384,7 @@ fn objects_a_line() {
     let text = out(&output);
     let lines: Vec<&str> = text.lines().collect();
     assert_eq!(lines.len(), 31);
-    let first = r#"{"kind":"import","dlci":18,"channel":9,"frames":29,"unfinished":1,"check_fcs":false,"wrong_fcs":null,"adapters":1,"end":"cut","offset":2453,"present":30,"missing":13,"losses":{}}"#;
+    let first = r#"{"kind":"import","dlci":18,"channel":9,"frames":29,"unfinished":1,"check_fcs":false,"wrong_fcs":null,"bytes":{"taken_in":478,"in_spans":470,"dropped":0,"cleared":0,"left":8},"adapters":1,"end":"cut","offset":2453,"present":30,"missing":13,"losses":{}}"#;
     assert_eq!(lines[0], first);
     assert_eq!(lines[1], r#"{"kind":"unfinished","adapter":0,"handle":6,"direction":"rx","dlci":18,"held":8}"#);
     let frame = r#"{"kind":"frame","counter":9,"direction":"tx","ms":1715679000195,"wire":"3e0c000000000222003"#;

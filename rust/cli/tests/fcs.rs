@@ -71,30 +71,32 @@ fn the_example_in_words() {
     let told = [
         "10 frames, all of which unpack: DLCI 18, channel 9.",
         "3 UIH frames on DLCI 18 have a wrong FCS and were passed over.",
+        "Bytes on DLCI 18: 110 taken in, all in frames.",
         "Unfinished on DLCI 18: nothing is held without an end marker.",
         "The file ends at a record's end, so whether more was recorded cannot be seen.",
         "What is proved of a cut is for a channel that is asked for, here --channel 9.",
     ];
     let frames = lines(&[&"frames", &file, &"--check-fcs"]);
-    assert_eq!(frames[..5], told);
-    assert_eq!(frames.len(), 15);
-    assert!(frames[11].starts_with("NCASM_RET_PARAM rx 7, "), "{}", frames[11]);
+    assert_eq!(frames[..6], told);
+    assert_eq!(frames.len(), 16);
+    assert!(frames[12].starts_with("NCASM_RET_PARAM rx 7, "), "{}", frames[12]);
     let place = Place::new();
     let dir = place.join("out");
     let written = lines(&[&"import", &file, &"--check-fcs", &"--out", &dir]);
-    assert_eq!(written[..5], told);
-    assert_eq!(written[5..], [format!("10 fixtures written: {}", dir.display())]);
+    assert_eq!(written[..6], told);
+    assert_eq!(written[6..], [format!("10 fixtures written: {}", dir.display())]);
     holds(&dir, &fixtures_by(&noisy(), true));
     let dry = words(&[&"import", &"--dry-run", &"--check-fcs", &file]);
     assert_eq!(err(&dry).lines().collect::<Vec<_>>(), told);
     assert_eq!(out(&dry).lines().count(), 10);
     // With a channel the same is said.
-    assert_eq!(lines(&[&"frames", &file, &"--check-fcs", &"--channel=9"])[..4], told[..4]);
+    assert_eq!(lines(&[&"frames", &file, &"--check-fcs", &"--channel=9"])[..5], told[..5]);
     // Without the switch nothing is said of it: two frames more, one of which does not unpack, and one that is there again.
     let frames = lines(&[&"frames", &file]);
     assert_eq!(frames[0], "11 frames, 1 of which does not unpack: DLCI 18, channel 9.");
     assert!(!frames.iter().any(|line| line.contains("FCS")), "{frames:?}");
-    assert!(frames[11].starts_with("does not unpack rx 7, refusal 17, "), "{}", frames[11]);
+    assert_eq!(frames[1], "Bytes on DLCI 18: 129 taken in, all in frames.");
+    assert!(frames[12].starts_with("does not unpack rx 7, refusal 17, "), "{}", frames[12]);
     // Where none is wrong, that is said.
     let frames = lines(&[&"frames", &example("headset.btsnoop"), &"--check-fcs"]);
     assert_eq!(frames[1], "No UIH frame on DLCI 18 has a wrong FCS.");
@@ -111,18 +113,20 @@ fn the_example_in_channels() {
     let lines: Vec<&str> = text.lines().skip(8).collect();
     let told = [
         "DLCI 18, channel 9: 10 frames, 11 spans, 13 pieces, 0 unfinished.",
+        "Bytes on DLCI 18: 129 taken in, all in spans.",
         "DLCI 18: import takes it, with --channel 9 or without.",
         "DLCI 18: 3 UIH frames have a wrong FCS, and import --check-fcs passes them over.",
         "DLCI 18: 1 span does not unpack, refusal 17, the frame's checksum is A2 where its bytes give 6A.",
         "DLCI 22, channel 11: 0 frames, 0 spans, 1 piece, 0 unfinished.",
+        "Bytes on DLCI 22: 3 taken in, 3 dropped before a start marker or for want of one.",
         "DLCI 22: import does not take it, for it has no span.",
     ];
     assert_eq!(lines, told);
     let objects = out(&words(&[&"channels", &"--json", &example("noisy.btsnoop")]));
     let dlcis: Vec<&str> = objects.lines().filter(|line| line.contains(r#""kind":"dlci""#)).collect();
     let told = [
-        r#"{"kind":"dlci","dlci":18,"channel":9,"pieces":13,"spans":11,"frames":10,"unfinished":0,"wrong_fcs":3,"asked_by":9}"#,
-        r#"{"kind":"dlci","dlci":22,"channel":11,"pieces":1,"spans":0,"frames":0,"unfinished":0,"wrong_fcs":0,"asked_by":null}"#,
+        r#"{"kind":"dlci","dlci":18,"channel":9,"pieces":13,"spans":11,"frames":10,"unfinished":0,"wrong_fcs":3,"bytes":{"taken_in":129,"in_spans":129,"dropped":0,"cleared":0,"left":0},"asked_by":9}"#,
+        r#"{"kind":"dlci","dlci":22,"channel":11,"pieces":1,"spans":0,"frames":0,"unfinished":0,"wrong_fcs":0,"bytes":{"taken_in":3,"in_spans":0,"dropped":3,"cleared":0,"left":0},"asked_by":null}"#,
     ];
     assert_eq!(dlcis, told);
     // Of one, and of a file that is cut.
@@ -136,9 +140,9 @@ fn the_example_in_channels() {
 #[test]
 fn the_example_in_objects() {
     let first = |args: &[&str]| out(&asked(args, &example("noisy.btsnoop"))).lines().next().unwrap().to_string();
-    let told = r#"{"kind":"import","dlci":18,"channel":9,"frames":10,"unfinished":0,"check_fcs":true,"wrong_fcs":3,"adapters":1,"end":"record","losses":{}}"#;
+    let told = r#"{"kind":"import","dlci":18,"channel":9,"frames":10,"unfinished":0,"check_fcs":true,"wrong_fcs":3,"bytes":{"taken_in":110,"in_spans":110,"dropped":0,"cleared":0,"left":0},"adapters":1,"end":"record","losses":{}}"#;
     assert_eq!(first(&["frames", "--json", "--check-fcs"]), told);
-    let told = r#"{"kind":"import","dlci":18,"channel":9,"frames":11,"unfinished":0,"check_fcs":false,"wrong_fcs":null,"adapters":1,"end":"record","losses":{}}"#;
+    let told = r#"{"kind":"import","dlci":18,"channel":9,"frames":11,"unfinished":0,"check_fcs":false,"wrong_fcs":null,"bytes":{"taken_in":129,"in_spans":129,"dropped":0,"cleared":0,"left":0},"adapters":1,"end":"record","losses":{}}"#;
     assert_eq!(first(&["frames", "--json"]), told);
 }
 
@@ -155,7 +159,8 @@ fn the_list_keeps_the_fcs() {
     assert!(list(&off).contains("\n# fcs: not checked\n# fixtures: 10\n"), "{}", list(&off));
     assert!(!list(&off).contains("wrong fcs"), "{}", list(&off));
     let told = "3 UIH frames on DLCI 18 have a wrong FCS and were passed over.\n";
-    for (dir, more) in [(&on, told), (&off, "")] {
+    let bytes = |n: usize| format!("Bytes on DLCI 18: {n} taken in, all in frames.\n");
+    for (dir, more) in [(&on, format!("{told}{}", bytes(110))), (&off, bytes(129))] {
         for with_trace in [false, true] {
             let output = if with_trace { words(&[&"check", dir, &trace]) } else { words(&[&"check", dir]) };
             assert_eq!((status(&output), err(&output)), (0, String::new()));
@@ -180,7 +185,7 @@ fn the_list_keeps_the_fcs() {
     fs::remove_file(on.join(&listing(&on)[3])).unwrap();
     let output = words(&[&"check", &on]);
     assert_eq!(status(&output), 1);
-    assert!(out(&output).starts_with(&format!("{told}missing: ")), "{}", out(&output));
+    assert!(out(&output).starts_with(&format!("{told}{}missing: ", bytes(110))), "{}", out(&output));
 }
 
 /// What a list says of the FCS has to be so. One that says nothing is of an import that did not check it.
@@ -286,6 +291,7 @@ fn another_dlci() {
     let lines = [
         "1 frame, which unpacks: DLCI 40, channel 20.",
         "No UIH frame on DLCI 40 has a wrong FCS.",
+        "Bytes on DLCI 40: 9 taken in, all in frames.",
         "Unfinished on DLCI 40: nothing is held without an end marker.",
         "Without --check-fcs, DLCI 18, channel 9, is taken, which has 1 frame that unpacks.",
         "DLCI 19, channel 9, has 1 frame that unpacks too: --channel 9.",
@@ -295,6 +301,7 @@ fn another_dlci() {
     let lines = [
         "1 frame, which unpacks: DLCI 19, channel 9.",
         "1 UIH frame on DLCI 19 has a wrong FCS and was passed over.",
+        "Bytes on DLCI 19: 9 taken in, all in frames.",
         "Unfinished on DLCI 19: nothing is held without an end marker.",
         "Without --check-fcs, DLCI 18, channel 9, is taken, which has 1 frame that unpacks.",
         "DLCI 40, channel 20, has 1 frame that unpacks too: --channel 20.",
@@ -303,6 +310,7 @@ fn another_dlci() {
     let off = told(&[]);
     let lines = [
         "1 frame, which unpacks: DLCI 18, channel 9.",
+        "Bytes on DLCI 18: 9 taken in, all in frames.",
         "Unfinished on DLCI 18: nothing is held without an end marker.",
         "DLCI 19, channel 9, has 2 frames that unpack too, and no channel asks for it: --channel 9 takes DLCI 18, which comes first.",
         "DLCI 40, channel 20, has 1 frame that unpacks too: --channel 20.",

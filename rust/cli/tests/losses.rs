@@ -411,7 +411,8 @@ fn the_list_keeps_losses() {
     let facts = format!("\n# frames: 29\n# losses: {dropped}\n# losses: {stray}\n# not a fixture: ");
     assert!(text.contains(&facts), "{text}");
     // Checking tells what the list says, with and without the trace.
-    let lines = format!("Losses: {dropped}.\nLosses: {stray}.\n28 fixtures, all as the list ");
+    let bytes = "Bytes on DLCI 18: 322 taken in, all in frames.\n";
+    let lines = format!("\n{bytes}Losses: {dropped}.\nLosses: {stray}.\n28 fixtures, all as the list ");
     for output in [words(&[&"check", &dir]), words(&[&"check", &dir, &trace])] {
         assert_eq!((status(&output), err(&output)), (0, String::new()));
         assert!(out(&output).contains(&lines), "{}", out(&output));
@@ -423,7 +424,8 @@ fn the_list_keeps_losses() {
     fs::remove_file(dir.join(&listing(&dir)[3])).unwrap();
     let output = words(&[&"check", &dir]);
     assert_eq!(status(&output), 1);
-    assert!(out(&output).starts_with(&format!("Losses: {dropped}.\nLosses: {stray}.\nmissing: ")), "{}", out(&output));
+    let lines = format!("{bytes}Losses: {dropped}.\nLosses: {stray}.\nmissing: ");
+    assert!(out(&output).starts_with(&lines), "{}", out(&output));
 }
 
 /// A list that says nothing of losses is taken as it is; one that says something else than the trace is not.

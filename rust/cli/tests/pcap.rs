@@ -183,14 +183,14 @@ fn each_form_gives_the_same_fixtures() {
         ];
         assert_eq!(only, lines);
         assert_eq!(here.difference(&other).count(), 6);
-        assert!(here.contains("# losses: none seen"));
+        assert!(here.contains("# losses: none seen") && here.contains("# bytes: 493 taken in, all in frames"));
         assert!(here.contains(&format!("# trace sha256: {}", common::sum(&trace))));
         // The set is checked by its own trace; another, with the same frames, is another.
         assert_eq!(status(&words(&[&"check", &dir, &trace])), 0);
         let output = words(&[&"check", &dir, &example("headset.btsnoop")]);
         assert_eq!(status(&output), 1);
         let told = out(&output);
-        assert!(told.starts_with("trace: it is not the one that the set was made from\n"), "{told}");
+        assert!(told.contains("\ntrace: it is not the one that the set was made from\n"), "{told}");
         for line in
             ["only the list has container: pcap, link type 201", "only the trace has container: btsnoop, datalink 1002"]
         {

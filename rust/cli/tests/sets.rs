@@ -13,11 +13,14 @@ use std::time::{Duration, Instant};
 
 use common::*;
 
-/// The program ended with status 1, these lines on standard output, and these words last.
+/// What the list of the example says of bytes.
+const BYTES: &str = "Bytes on DLCI 18: 493 taken in, all in frames.";
+
+/// The program ended with status 1, these lines on standard output after that of the bytes, and these words last.
 #[track_caller]
 fn finds(output: &Output, lines: &[&str], told: &str) {
     assert_eq!(status(output), 1, "{}", err(output));
-    assert_eq!(out(output).lines().collect::<Vec<_>>(), lines);
+    assert_eq!(out(output).lines().collect::<Vec<_>>(), [&[BYTES], lines].concat());
     let words = format!("lumbryth: the set is {told}: ");
     assert!(err(output).starts_with(&words), "{}", err(output));
 }
@@ -42,6 +45,7 @@ fn the_list_says_where_a_set_came_from() {
     let lines: Vec<&str> = text.lines().collect();
     let facts = [
         "# lumbryth fixture set 1",
+        "# bytes: 493 taken in, all in frames",
         "# channel: any",
         "# container: btsnoop, datalink 1002",
         "# dlci: 18",
@@ -83,6 +87,7 @@ fn the_list_says_where_a_set_came_from() {
     assert_eq!(status(&output), 0);
     let text = fs::read_to_string(dir.join(LIST)).unwrap();
     for line in [
+        "# bytes: 478 taken in, 470 in frames, 8 left without an end marker",
         "# channel: 9",
         "# end: cut inside the record that starts at byte 2453",
         "# exclude: AUDIO_GET_PARAM\n# exclude: POWER_GET_STATUS",
@@ -120,6 +125,7 @@ fn a_set_is_checked() {
     let (dir, trace) = (made(&place, "out"), example("headset.btsnoop"));
     let names = listing(&dir);
     let told = "31 frames in the trace, end at a record's end, more may have been recorded: headset.btsnoop\n";
+    let told = format!("{told}{BYTES}\n");
     let output = words(&[&"check", &dir]);
     assert_eq!((status(&output), err(&output)), (0, String::new()));
     assert_eq!(out(&output), format!("{told}30 fixtures, all as the list has them: {}\n", dir.display()));
@@ -156,10 +162,13 @@ fn a_set_is_checked() {
     let json = words(&[&"check", &"--json", &dir]);
     assert_eq!(status(&json), 1);
     let text = out(&json);
-    assert_eq!(text.lines().count(), 33);
-    let first =
-        "{\"kind\":\"losses\",\"told\":\"none seen\"}\n{\"kind\":\"fcs\",\"check_fcs\":false,\"wrong_fcs\":null}\n";
-    assert!(text.starts_with(first), "{text}");
+    assert_eq!(text.lines().count(), 34);
+    let first = [
+        r#"{"kind":"losses","told":"none seen"}"#,
+        r#"{"kind":"fcs","check_fcs":false,"wrong_fcs":null}"#,
+        r#"{"kind":"bytes","taken_in":493,"in_spans":493,"dropped":0,"cleared":0,"left":0}"#,
+    ];
+    assert_eq!(text.lines().take(3).collect::<Vec<_>>(), first);
     assert_eq!(text.lines().filter(|line| line.starts_with("{\"kind\":\"ok\",\"name\":\"mdr-packet-")).count(), 26);
     assert!(text.contains(&format!("{{\"kind\":\"missing\",\"name\":\"{}\"}}\n", names[5])));
     assert!(text.ends_with("{\"kind\":\"extra\",\"name\":\"more-rx.\\u001b.bin\"}\n"), "{text}");
@@ -195,7 +204,8 @@ fn a_set_is_held_against_a_trace() {
     let (dir, cut) = (made(&place, "out"), example("cut.btsnoop"));
     let output = words(&[&"check", &dir, &cut]);
     assert_eq!(status(&output), 1);
-    assert!(out(&output).starts_with("trace: it is not the one that the set was made from\ntrace: refused (5): "));
+    let told = format!("{BYTES}\ntrace: it is not the one that the set was made from\ntrace: refused (5): ");
+    assert!(out(&output).starts_with(&told), "{}", out(&output));
     // The set of a cut, against the whole: what is more is named.
     let less = place.join("cut");
     assert_eq!(status(&words(&[&"import", &cut, &"--out", &less, &"--tolerant"])), 0);

@@ -54,9 +54,9 @@ pub fn fcs(head: [u8; 2]) -> u8 {
     (!rest).reverse_bits()
 }
 
-/// The spans that the pieces of a DLCI give, from 3E through 3C, and how many are under way at
-/// the end.
-pub fn spans(pieces: &[Piece], dlci: u8) -> (Vec<Span>, usize) {
+/// The spans that the pieces of a DLCI give, from 3E through 3C, and how many bytes there are of
+/// each that is under way at the end.
+pub fn spans(pieces: &[Piece], dlci: u8) -> (Vec<Span>, Vec<usize>) {
     let mut spans = Vec::new();
     let mut buffers: BTreeMap<(Link, u16, Direction), Vec<u8>> = BTreeMap::new();
     for piece in pieces.iter().filter(|piece| piece.dlci == dlci) {
@@ -71,5 +71,5 @@ pub fn spans(pieces: &[Piece], dlci: u8) -> (Vec<Span>, usize) {
             }
         }
     }
-    (spans, buffers.values().filter(|buffer| !buffer.is_empty()).count())
+    (spans, buffers.values().map(Vec::len).filter(|held| *held > 0).collect())
 }

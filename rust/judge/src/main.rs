@@ -4,8 +4,9 @@
 //!
 //! For each trace tshark says which PDUs it put together, and which information it found on which DLCI. The PDUs are held to
 //! those of a plain reader here; the information, scanned for frames, to what the library imports for each DLCI: every span's
-//! bytes, direction and time, in order, and how many are under way at the end. Cuts of the trace are held to what tshark
-//! found in the records that are left. Then faults are planted in what our side reads, and each of them has to show.
+//! bytes, direction and time, in order, how many are under way at the end, and where every byte of the information went. Cuts of the
+//! trace are held to what tshark found in the records that are left. Then faults are planted in what our side reads, and each of them
+//! has to show.
 //!
 //! Each import is judged with the FCS not checked and with it checked. tshark shows an FCS and does not say whether it is right; that
 //! is computed here. Checked, the information of frames with a wrong one is taken out of what tshark found, and the library's count of
@@ -31,7 +32,7 @@ use std::{env, fs, process};
 
 use generate::Generated;
 use judged::{spans, Piece, Seen};
-use lumbryth::{import_with, records_with, unpack, Container, Options, Refusal, TailRule};
+use lumbryth::{import_with, records_with, unpack, Container, Imported, Options, Refusal, Span, TailRule};
 use rng::Rng;
 use trace::pcap::{Form, FORMS};
 
@@ -48,6 +49,8 @@ struct Tally {
     pieces: usize,
     spans: usize,
     unfinished: usize,
+    /// Those of the pieces on DLCIs that have a frame.
+    bytes: usize,
     dlcis: usize,
     cuts: usize,
     faults: usize,
@@ -98,6 +101,21 @@ fn carries(pieces: &[Piece], dlci: u8) -> bool {
     spans(pieces, dlci).0.iter().any(|span| unpack(&span.wire).is_ok())
 }
 
+/// Holds where every byte went, by the library, to the information that tshark found on the DLCI: so many bytes in spans, held at the
+/// end, and in all. None are cleared, for the frames are short; the rest is dropped.
+fn judge_bytes(imported: &Imported, there: &[Span], held: &[usize], pieces: &[Piece]) -> Result<(), String> {
+    let dlci = imported.dlci;
+    let information = pieces.iter().filter(|piece| piece.dlci == dlci).map(|piece| piece.information.len());
+    let in_spans: usize = there.iter().map(|span| span.wire.len()).sum();
+    let bytes = &imported.bytes;
+    let here = (bytes.in_spans, bytes.cleared, bytes.left, bytes.taken_in());
+    let there = (in_spans, 0, held.iter().sum(), information.sum());
+    if here != there {
+        return Err(format!("DLCI {dlci}, bytes in spans, cleared, left, in all: {here:?} here, {there:?} there"));
+    }
+    Ok(())
+}
+
 /// Holds what the library imports for each DLCI, and without a channel, to what tshark found on it.
 fn judge_by(
     check_fcs: bool,
@@ -127,7 +145,7 @@ fn judge_by(
             continue;
         };
         let imported = imported.map_err(|refusal| format!("DLCI {dlci}: refused ({}): {refusal}", refusal.number()))?;
-        let (there, under_way) = spans(pieces, dlci);
+        let (there, held) = spans(pieces, dlci);
         for (i, (here, there)) in imported.spans.iter().zip(&there).enumerate() {
             if here != there {
                 return Err(format!("DLCI {dlci}, span {}\nhere:  {here:?}\nthere: {there:?}", i + 1));
@@ -137,16 +155,18 @@ fn judge_by(
         let frames = imported.frames;
         let here =
             (imported.dlci, frames, imported.spans.len(), imported.unfinished, imported.tail, imported.wrong_fcs);
-        let there = (dlci, there.len(), there.len(), under_way, tail, wrong);
-        if here != there {
-            return Err(format!("DLCI, frames, spans, unfinished, tail, wrong FCS: {here:?} here, {there:?} there"));
+        let told = (dlci, there.len(), there.len(), held.len(), tail, wrong);
+        if here != told {
+            return Err(format!("DLCI, frames, spans, unfinished, tail, wrong FCS: {here:?} here, {told:?} there"));
         }
+        judge_bytes(&imported, &there, &held, pieces)?;
         if channel.is_some() && check_fcs {
             tally.checked += frames;
             tally.wrong += wrong;
         } else if channel.is_some() {
             tally.spans += frames;
-            tally.unfinished += under_way;
+            tally.unfinished += held.len();
+            tally.bytes += imported.bytes.taken_in();
             tally.dlcis += 1;
         }
     }
@@ -349,7 +369,8 @@ fn main() -> ExitCode {
             let _ = fs::remove_dir(&dir);
             println!(
                 "tshark and the library agree on {} traces, {} of them in pcap and three of them the examples: {} records, {} PDUs ({} of them in \
-                 fragments), {} pieces on {} DLCIs, {} spans, {} unfinished; and on {} cuts of them; {} planted faults, each seen",
+                 fragments), {} pieces on {} DLCIs, {} spans, {} unfinished, and where each of {} bytes went; and on {} cuts of them; \
+                 {} planted faults, each seen",
                 tally.traces,
                 tally.pcap,
                 tally.records,
@@ -359,6 +380,7 @@ fn main() -> ExitCode {
                 tally.dlcis,
                 tally.spans,
                 tally.unfinished,
+                tally.bytes,
                 tally.cuts,
                 tally.faults
             );

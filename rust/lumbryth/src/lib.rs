@@ -75,10 +75,13 @@ pub const LIST_MAX: usize = 16_777_216;
 /// [`Container::packet_max`] tells it for each container.
 pub const PACKET_MAX: u32 = 65_540;
 
+/// The most bytes of a stretch and direction that wait for an end marker, 3C: if more are held after a UIH frame, they are cleared.
+pub const HELD_MAX: usize = 65_536;
+
 /// A channel number that stands for any.
 const ANY_CHANNEL: u32 = 256;
 /// The most values that a call stores, but for that of the gaps.
-const VALUES: usize = 6;
+const VALUES: usize = 10;
 /// The values of the gaps: two for each sign.
 const GAPS: usize = 14;
 
@@ -238,6 +241,49 @@ pub struct Imported {
     /// How many UIH frames of the DLCI have a wrong FCS, with information or without, and were passed over; 0 if the FCS is not
     /// checked ([`Options::check_fcs`]).
     pub wrong_fcs: usize,
+    /// Where every information byte of the DLCI went.
+    pub bytes: Account,
+}
+
+/// Where every information byte of a DLCI went: those of the UIH frames that an import takes in, with the FCS checked of those with
+/// a right one. Each byte counts in one of the four, so that their sum is [`Account::taken_in`].
+///
+/// Bytes of a UIH frame that is passed over for its FCS, of a PDU that is never complete, and of a record that passes the end of the
+/// file count in none.
+///
+/// ```
+/// use lumbryth::{import, TailRule};
+///
+/// // The recorder was switched on, and off again, while a reply was under way.
+/// let file = std::fs::read("../../examples/late.btsnoop")?;
+/// let imported = import(&file, None, TailRule::Strict)?;
+/// let bytes = imported.bytes;
+/// assert_eq!((bytes.in_spans, bytes.dropped, bytes.cleared, bytes.left), (81, 18, 0, 6));
+/// assert_eq!(bytes.taken_in(), 105);
+/// assert_eq!(bytes.in_spans, imported.spans.iter().map(|span| span.wire.len()).sum());
+/// # Ok::<(), Box<dyn std::error::Error>>(())
+/// ```
+#[derive(Debug, Clone, Copy, PartialEq, Eq, Hash, Default)]
+#[non_exhaustive]
+pub struct Account {
+    /// In the spans listed, markers included, whether they unpack or not.
+    pub in_spans: usize,
+    /// Dropped before a start marker, 3E, or for want of one: also an end marker, 3C, that nothing begins, and what follows bytes
+    /// that were cleared, up to the next start marker.
+    pub dropped: usize,
+    /// Cleared because over [`HELD_MAX`] bytes were held without an end marker after a UIH frame; then all of them are, from their
+    /// start marker on.
+    pub cleared: usize,
+    /// Left without an end marker when the reading stopped, in all stretches and directions together: 0 just if
+    /// [`Imported::unfinished`] is 0.
+    pub left: usize,
+}
+
+impl Account {
+    /// How many information bytes were taken in on the DLCI. That the sum of the four is that, is proved of every import.
+    pub fn taken_in(&self) -> usize {
+        self.in_spans + self.dropped + self.cleared + self.left
+    }
 }
 
 /// A stretch and direction that holds bytes without an end marker at the end of a trace.
@@ -622,6 +668,12 @@ fn imported(mut list: Vec<u8>, values: &[u64; VALUES]) -> Imported {
         tail: values[3] as usize,
         spans: items::spans(&list),
         wrong_fcs: values[5] as usize,
+        bytes: Account {
+            in_spans: values[6] as usize,
+            dropped: values[7] as usize,
+            cleared: values[8] as usize,
+            left: values[9] as usize,
+        },
     }
 }
 

@@ -5,7 +5,7 @@ use std::collections::HashMap;
 use crate::packets::Link;
 use crate::pdus::Pdu;
 use crate::signals::{asks_session, Key};
-use lumbryth::{unpack, Refusal};
+use lumbryth::{unpack, Account, Refusal};
 
 /// The most bytes that wait for their end marker.
 const HELD_MAX: usize = 65_536;
@@ -20,15 +20,33 @@ pub struct Share {
     pub frames: usize,
     /// How many stretches and directions hold bytes without an end marker at the end.
     pub unfinished: usize,
+    /// Where each byte of the pieces went.
+    pub bytes: Account,
+}
+
+/// What two accounts come to.
+fn together(mut one: Account, other: Account) -> Account {
+    one.in_spans += other.in_spans;
+    one.dropped += other.dropped;
+    one.cleared += other.cleared;
+    one.left += other.left;
+    one
 }
 
 impl Share {
+    /// So many bytes of a stretch and direction have no end marker.
+    fn leave(&mut self, held: usize) {
+        self.unfinished += usize::from(held > 0);
+        self.bytes.left += held;
+    }
+
     fn and(self, other: Share) -> Share {
         Share {
             pieces: self.pieces + other.pieces,
             spans: self.spans + other.spans,
             frames: self.frames + other.frames,
             unfinished: self.unfinished + other.unfinished,
+            bytes: together(self.bytes, other.bytes),
         }
     }
 }
@@ -173,16 +191,18 @@ impl Lines {
         share.pieces += 1;
         let buffer = self.buffers.entry((pdu.link, (pdu.direction, pdu.cid), dlci)).or_default();
         if buffer.opened != opened {
-            share.unfinished += usize::from(!buffer.held.is_empty());
+            share.leave(buffer.held.len());
             *buffer = Buffer { opened, held: Vec::new() };
         }
-        buffer.take(information, |wire| line.span(link, wire));
+        let went = buffer.take(information, |wire| line.span(link, wire));
+        let share = &mut line.links[link].1;
+        share.bytes = together(share.bytes, went);
     }
 
     pub fn dlcis(mut self) -> Vec<Dlci> {
-        for ((link, _, dlci), _) in self.buffers.iter().filter(|(_, buffer)| !buffer.held.is_empty()) {
+        for ((link, _, dlci), buffer) in &self.buffers {
             let line = self.dlcis.iter_mut().find(|line| line.dlci == *dlci);
-            line.into_iter().for_each(|line| line.links[self.places[&(*dlci, *link)]].1.unfinished += 1);
+            line.into_iter().for_each(|line| line.links[self.places[&(*dlci, *link)]].1.leave(buffer.held.len()));
         }
         for line in &mut self.dlcis {
             line.all = line.links.iter().fold(Share::default(), |all, (_, share)| all.and(*share));
@@ -194,21 +214,27 @@ impl Lines {
 }
 
 impl Buffer {
-    /// Takes the bytes of a piece, and gives each span that they complete.
-    fn take(&mut self, bytes: &[u8], mut span: impl FnMut(&[u8])) {
+    /// Takes the bytes of a piece, and gives each span that they complete. Tells how many bytes were dropped, went into spans and were
+    /// cleared by it.
+    fn take(&mut self, bytes: &[u8], mut span: impl FnMut(&[u8])) -> Account {
+        let mut went = Account::default();
         for &byte in bytes {
             if self.held.is_empty() && byte != 0x3E {
+                went.dropped += 1;
                 continue;
             }
             self.held.push(byte);
             if byte == 0x3C {
                 span(&self.held);
+                went.in_spans += self.held.len();
                 self.held.clear();
             }
         }
         if self.held.len() > HELD_MAX {
+            went.cleared += self.held.len();
             self.held.clear();
         }
+        went
     }
 }
 
