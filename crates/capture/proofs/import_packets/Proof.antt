@@ -10,7 +10,7 @@ use Rattle.capture.proofs.import_packets.Lts as lts
 use Rattle.capture.proofs.answer_of.Reads as answer-of-reads
 use Rattle.channels.proofs.read_channels.Reads as read-channels-reads
 use Rattle.l2cap.proofs.reassemble.Reads as reassemble-reads
-use Rattle.rfcomm.proofs.read_pieces.Reads as read-pieces-reads
+use Rattle.gathering.proofs.read_pieces.Reads as read-pieces-reads
 use Rattle.streams.proofs.list_spans.Reads as list-spans-reads
 
 -- src/lib.rt:106:9
