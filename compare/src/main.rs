@@ -1,5 +1,6 @@
 //! Holds the proved library against the Rust it was ported from.
 
+mod account;
 mod adapters;
 mod answer;
 mod bench;
@@ -174,12 +175,13 @@ fn verdict(checked: Checked) -> bool {
 /// Runs a group, and says by which way the imports that it was held to were found.
 fn compared((name, group): &(&str, Group), subject: &dyn Subject, options: &Options) -> bool {
     let good = verdict(group(subject, options));
-    let [direct, renamed, model, rewritten] = expected::asked();
+    let [direct, renamed, model, rewritten, dropped, cleared, left] = expected::asked();
     if direct + renamed + model > 0 {
         println!(
             "{name}: held to the Rust {direct} times by the file as it is, {renamed} times with a handle of its own for \
              each adapter's index and handle; to the model {model} times, with more of these than handles; {rewritten} of \
-             these times by the file without the frames that have a wrong FCS"
+             these times by the file without the frames that have a wrong FCS; bytes were dropped {dropped} times, cleared \
+             {cleared} times and left {left} times"
         );
     }
     good

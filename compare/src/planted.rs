@@ -1090,7 +1090,7 @@ fn faults_of_sixth() -> Vec<(&'static str, &'static str, Planted)> {
         (
             "import",
             "the sixth value is not stored",
-            numbers(|_, f, w, c, t| changed(f, w, c, t, |a| a.values.truncate(5))),
+            numbers(|_, f, w, c, t| changed(f, w, c, t, |a| missummed::leave_out(&mut a.values))),
         ),
         (
             "import",
@@ -1113,7 +1113,7 @@ fn faults_of_sixth() -> Vec<(&'static str, &'static str, Planted)> {
         (
             HAND,
             "import_with: the count is not stored",
-            calls(|r, f, w, o| of_pcap(r, f, w, o, 0, |a, _| a.values.truncate(5))),
+            calls(|r, f, w, o| of_pcap(r, f, w, o, 0, |a, _| missummed::leave_out(&mut a.values))),
         ),
         (
             HAND,
@@ -1141,8 +1141,8 @@ fn faults_of_sixth() -> Vec<(&'static str, &'static str, Planted)> {
             Planted {
                 store_with: |answer, out, values| {
                     let number = model::store(answer, out, values);
-                    if let (0, Some(last), 5) = (number, answer.values.last(), values.len()) {
-                        values[4] = *last;
+                    if let (0, Some(count), 5) = (number, answer.values.get(5), values.len()) {
+                        values[4] = *count;
                     }
                     number
                 },
@@ -1167,7 +1167,7 @@ fn faults_of_sixth() -> Vec<(&'static str, &'static str, Planted)> {
             calls(|r, f, w, o| {
                 let (answer, off) = (model::import_with(f, w, o, r), model::import_with(f, w, &o[..o.len().min(3)], r));
                 match answer.number == 6 && off.number == 0 {
-                    true => Answer::done(&[off.values[0], 0, 0, off.values[3], 0, 1], Vec::new()),
+                    true => Answer::imported([off.values[0], 0, 0, off.values[3], 1], [0; 4], Vec::new()),
                     false => answer,
                 }
             }),

@@ -94,8 +94,8 @@ fn told(dlci: u8, frames: usize, wrong: u64, tail: usize) -> Answer {
     if frames == 0 || dlci == 0 {
         return Answer::refused(6, &[]);
     }
-    let list = items::span_list(&vec![(0, Rx, ack(0)); frames]);
-    Answer::done(&[dlci.into(), frames as u64, 0, tail as u64, list.len() as u64, wrong], list)
+    let (list, frames) = (items::span_list(&vec![(0, Rx, ack(0)); frames]), frames as u64);
+    Answer::imported([dlci.into(), frames, 0, tail as u64, wrong], [9 * frames, 0, 0, 0], list)
 }
 
 /// Every address and control, with these FCS bytes: alone, and behind a frame of the same DLCI.
