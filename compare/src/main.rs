@@ -4,6 +4,7 @@ mod account;
 mod adapters;
 mod answer;
 mod bench;
+mod bytes;
 mod codec;
 mod containers;
 mod deep;
@@ -17,6 +18,7 @@ mod import;
 mod items;
 mod lacking;
 mod misfiled;
+mod misplaced;
 mod misprint;
 mod misread;
 mod missummed;
@@ -133,7 +135,7 @@ fn cases(counts: &[u64]) -> String {
 
 pub type Group = fn(&dyn Subject, &Options) -> Checked;
 
-const GROUPS: [(&str, Group); 10] = [
+const GROUPS: [(&str, Group); 11] = [
     ("codec", codec::run),
     ("names", names::run),
     ("plan", plan::run),
@@ -143,6 +145,7 @@ const GROUPS: [(&str, Group); 10] = [
     ("gaps", signs::run),
     ("pcap", containers::run),
     ("fcs", sums::run),
+    ("bytes", bytes::run),
     ("vectors", vectors::run),
 ];
 

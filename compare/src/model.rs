@@ -259,8 +259,8 @@ pub struct Fates {
     pub spans: Vec<Vec<u8>>,
     pub dropped: Vec<Dropped>,
     pub cleared: Vec<Cleared>,
-    /// What is held at the end, nonempty, with its direction.
-    pub left: Vec<(Way, usize)>,
+    /// What is held at the end, where something is.
+    pub left: Vec<((Stretch, Way), usize)>,
     /// Information bytes of the frames with a wrong FCS that are counted.
     pub wrong: usize,
 }
@@ -298,8 +298,9 @@ impl Fates {
         self.spans.iter().map(|wire| wire.len() as u64).sum()
     }
 
+    /// Bytes dropped in those rows that count.
     pub fn dropped(&self, counts: fn(&Dropped) -> bool) -> u64 {
-        self.dropped.iter().filter(|run| counts(run)).map(|run| run.bytes as u64).sum()
+        self.dropped.iter().filter(|row| counts(row)).map(|row| row.bytes as u64).sum()
     }
 
     pub fn cleared(&self) -> u64 {
@@ -661,7 +662,7 @@ pub struct Packet<'a> {
     way: Way,
     link: u32,
     pub start: bool,
-    data: &'a [u8],
+    pub data: &'a [u8],
 }
 
 /// The packets of a file with a good header, and where its whole records end.
@@ -943,33 +944,33 @@ fn fates(pieces: &[&Piece], account: Account) -> Fates {
     let mut fates = Fates::default();
     for piece in pieces {
         let (held, cleared) = all.entry((account.key)(piece)).or_default();
-        let mut run = Dropped { cleared: *cleared, ..Dropped::default() };
+        let mut row = Dropped { cleared: *cleared, ..Dropped::default() };
         for &byte in &piece.information {
             if byte == 0x3E && (held.is_empty() || !account.from_first) {
-                run.bytes += held.len();
-                fates.dropped.push(Dropped { started: true, ..std::mem::take(&mut run) });
+                row.bytes += held.len();
+                fates.dropped.push(Dropped { started: true, ..std::mem::take(&mut row) });
                 (*held, *cleared) = (vec![byte], false);
             } else if held.is_empty() {
-                run.bytes += 1;
-                run.ends += usize::from(byte == 0x3C);
+                row.bytes += 1;
+                row.ends += usize::from(byte == 0x3C);
             } else {
                 held.push(byte);
             }
             if byte == 0x3C && !held.is_empty() {
                 fates.spans.push(std::mem::take(held));
-                run = Dropped { behind: true, ..Dropped::default() };
+                row = Dropped { behind: true, ..Dropped::default() };
             }
             if !account.at_ends && held.len() > account.longest {
                 fates.cleared.push(Cleared { bytes: std::mem::take(held).len(), piece: piece.information.len() });
             }
         }
-        fates.dropped.push(run);
+        fates.dropped.push(row);
         if held.len() > account.longest {
             fates.cleared.push(Cleared { bytes: std::mem::take(held).len(), piece: piece.information.len() });
             *cleared = true;
         }
     }
-    let left = all.iter().map(|((_, way), (held, _))| (*way, held.len()));
+    let left = all.into_iter().map(|(key, (held, _))| (key, held.len()));
     fates.left = left.filter(|(_, held)| *held > 0).collect();
     fates
 }

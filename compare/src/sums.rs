@@ -17,27 +17,27 @@ use oracle::capture::Direction::{self, Rx, Tx};
 use oracle::capture::BTSNOOP_EPOCH_DELTA_US as EPOCH;
 
 /// The calls that can check the FCS.
-struct Switch<'a> {
+pub struct Switch<'a> {
     btsnoop: ByContainer<'a>,
     pcap: ByContainer<'a>,
     turn: usize,
 }
 
 impl<'a> Switch<'a> {
-    fn new(subject: &'a dyn Subject) -> Switch<'a> {
+    pub fn new(subject: &'a dyn Subject) -> Switch<'a> {
         let [btsnoop, pcap] =
             [Container::Btsnoop, Container::Pcap].map(|container| ByContainer::new(subject, container));
         Switch { btsnoop, pcap, turn: 0 }
     }
 
     /// How many calls were to be answered with each number.
-    fn answers(&self) -> [u64; NUMBERS] {
+    pub fn answers(&self) -> [u64; NUMBERS] {
         let [one, other] = [self.btsnoop.answers(), self.pcap.answers()];
         std::array::from_fn(|number| one[number] + other[number])
     }
 
     /// A file of one container.
-    fn one(&mut self, container: Container, file: &[u8], channel: u32) -> Checked {
+    pub fn one(&mut self, container: Container, file: &[u8], channel: u32) -> Checked {
         let calls = match container {
             Container::Btsnoop => &mut self.btsnoop,
             Container::Pcap => &mut self.pcap,
