@@ -1,12 +1,9 @@
-//! Where the information bytes of the DLCI chosen went, by the source: its import is run once more, with its scanners
-//! heard (`heard`), and every piece that they are given counts. What each number is held to:
+//! Where the information bytes of the DLCI chosen went, by the source: its import is made once more, with its scanners heard.
+//! What they are given is what is taken in.
 //!
-//! | in spans | the lengths of the spans that the source's scanners give |
-//! | left | what they hold at the end |
-//! | dropped and cleared, together | what they hold less than before and do not give |
-//! | which of the two | what a scanner gives up all of is cleared from the start on that the source's own scanner finds in it, and dropped before; all else is dropped |
-//!
-//! A walk over the bytes, which knows the markers and the limit, has to find the same four, each for each scanner.
+//! In spans is what they give, and left what they hold at the end. Dropped and cleared together are what they held and neither
+//! give nor hold. Apart: a scanner that is asked for a span and holds nothing after has cleared what stands from a start on, and
+//! the source's own scanner says where that is; all else is dropped. A walk over the bytes has to find the same four.
 
 use heard::mdr::frame::{self as scanners, Stream};
 use oracle::capture::Imported;
@@ -17,11 +14,8 @@ use crate::answer::Bytes;
 /// Where the bytes went of what import finds in a file. The import that is heard has to find the same.
 pub fn of(file: &[u8], channel: Option<u8>, found: &Imported) -> Bytes {
     let heard = heard::capture::import(file, channel).expect("what was imported is imported again");
+    assert!(is_same(&heard, found), "scanners that are heard do what they did");
     let streams = scanners::heard();
-    assert_eq!((heard.dlci, heard.unfinished), (found.dlci, found.unfinished), "the scanners are heard, and no more");
-    let pairs = heard.frames.iter().zip(&found.frames);
-    let same = pairs.filter(|(one, other)| (one.0, one.1.as_str(), &one.2) == (other.0, other.1.as_str(), &other.2));
-    assert_eq!((heard.frames.len(), same.count()), (found.frames.len(), found.frames.len()), "the same spans");
     let mut all = [0; 4];
     for stream in &streams {
         let bytes = by_scanner(stream);
@@ -29,8 +23,14 @@ pub fn of(file: &[u8], channel: Option<u8>, found: &Imported) -> Bytes {
         all.iter_mut().zip(bytes).for_each(|(all, bytes)| *all += bytes);
     }
     let taken: usize = streams.iter().flatten().map(|piece| piece.bytes.len()).sum();
-    assert_eq!(all.iter().sum::<u64>(), taken as u64, "every byte that was taken in went somewhere");
+    assert_eq!(all.iter().sum::<u64>(), taken as u64, "every byte that is taken in goes somewhere");
     all
+}
+
+fn is_same(heard: &heard::capture::Imported, found: &Imported) -> bool {
+    let ours = heard.frames.iter().map(|(ms, direction, wire)| (ms, direction.as_str(), wire));
+    let others = found.frames.iter().map(|(ms, direction, wire)| (ms, direction.as_str(), wire));
+    (heard.dlci, heard.unfinished) == (found.dlci, found.unfinished) && ours.eq(others)
 }
 
 /// By what a scanner gave, and held before and after.

@@ -119,6 +119,10 @@ fn take(trace: &mut Trace, step: &Step) {
     trace.on(step.pair.0).acl(step.direction, stamp, 0, &acl_packet(step.pair.1, 2, &pdu));
 }
 
+fn send(trace: &mut Trace, text: &str) {
+    steps_of(text).iter().for_each(|step| take(trace, step));
+}
+
 /// What is known of a made trace: its PDUs, and where the bytes went.
 type Known = (&'static str, Bytes);
 
@@ -331,7 +335,7 @@ fn steps(calls: &mut Calls, n: usize) -> Checked {
     ];
     let alphabet = words.map(|words| pdus(words).remove(0));
     sequences(n, &alphabet, &Trace::new(1002), &|trace, step| take(trace, step), &mut |trace| {
-        steps_of("cid F 00").iter().for_each(|step| take(trace, step));
+        send(trace, "cid F 00");
         calls.file(&trace.file, NO_CHANNEL)
     })
 }
@@ -405,21 +409,36 @@ impl Maker<'_> {
     }
 }
 
-/// A trace that is made byte by byte, and where the bytes went. Now and then a session or a link begins, and what was held
-/// before is left.
-fn at_random(rng: &mut Rng, container: Container, long: bool) -> (Trace, Bytes) {
-    let mut trace = Trace::any(rng, container);
-    let ways = ["", "tx", "cid", "tx handle"];
+/// What a trace made at random has besides its pieces: nothing that counts, and with a wrong FCS nothing that does with the
+/// switch on.
+const OTHERS: [&str; 4] = ["dlci20 00 3E", "dlci19 3E 00 3C 3C", "untried F 00", "open F"];
+const BAD: [&str; 5] = ["bad 00 3C", "bad 3E 00", "bad F", "tx bad 3C 3E", "bad 32767x00"];
+
+/// What a trace made at random is like.
+#[derive(Clone, Copy)]
+struct Kind {
+    container: Container,
+    /// With buffers about the limit.
+    long: bool,
+    /// With wrong frames between the pieces.
+    noisy: bool,
+}
+
+/// A trace that is made byte by byte, and where the bytes went, if it is noisy with the switch on. Now and then a session or
+/// a link begins, and what was held before is left.
+fn at_random(rng: &mut Rng, kind: Kind) -> (Trace, Bytes) {
+    let mut trace = Trace::any(rng, kind.container);
+    let ways = ["", "tx", "cid", "tx handle", "adapter"];
+    let most = if trace.datalink == 2001 { 5 } else { 4 };
     let stream = |words: &&str| Stream { step: pdus(words).remove(0), held: 0 };
-    let mut streams: Vec<Stream> = ways[..rng.within(1, 4)].iter().map(stream).collect();
-    let first = rng.pick(&["F", "F", "dlci20 3E 00 3C 3C 3E | F", "dlci19 00 | F"]);
-    steps_of(first).iter().for_each(|step| take(&mut trace, step));
-    let pieces = rng.within(1, if long { 14 } else { 20 });
+    let mut streams: Vec<Stream> = ways[..rng.within(1, most)].iter().map(stream).collect();
+    send(&mut trace, rng.pick(&["F", "F", "dlci20 3E 00 3C 3C 3E | F", "dlci19 00 | F"]));
+    let pieces = rng.within(1, if kind.long { 14 } else { 20 });
     let mut maker = Maker { rng, bytes: [9, 0, 0, 0] };
     for _ in 0..pieces {
         let at = maker.rng.below(streams.len());
         let Stream { step, held } = &mut streams[at];
-        let information = maker.piece(held, long);
+        let information = maker.piece(held, kind.long);
         let credit = if maker.rng.percent(20) { Some(0x3C) } else { None };
         let payload = trace::uih(18, &information, credit, maker.rng.percent(20));
         take(&mut trace, &Step { payload, ..step.clone() });
@@ -431,9 +450,11 @@ fn at_random(rng: &mut Rng, container: Container, long: bool) -> (Trace, Bytes) 
                 maker.bytes[3] += std::mem::take(&mut other.held) as u64;
             }
         }
-        if maker.rng.percent(10) {
-            let words = maker.rng.pick(&["dlci20 00 3E", "dlci19 3E 00 3C 3C", "untried F 00", "open F"]);
-            steps_of(words).iter().for_each(|step| take(&mut trace, step));
+        let others = [(true, &OTHERS[..]), (kind.noisy, &BAD)];
+        for (_, others) in others.into_iter().filter(|(has, _)| *has) {
+            if maker.rng.percent(10) {
+                send(&mut trace, maker.rng.pick(others));
+            }
         }
     }
     let mut bytes = maker.bytes;
@@ -445,10 +466,11 @@ fn at_random(rng: &mut Rng, container: Container, long: bool) -> (Trace, Bytes) 
 fn random(calls: &mut Calls, rng: &mut Rng, size: u64, long: u64) -> Checked {
     for i in 0..size {
         for container in [Container::Btsnoop, Container::Pcap] {
-            let (trace, bytes) = at_random(rng, container, i % long == 0);
-            let both = expected::import(container, &trace.file, NO_CHANNEL, false);
-            let found = both.each_ref().map(|answer| answer.bytes());
-            assert_eq!(found, [Some(bytes); 2], "the numbers are those of the making: {:02X?}", trace.file);
+            let kind = Kind { container, long: i % long == 0, noisy: i % 3 == 0 };
+            let (trace, bytes) = at_random(rng, kind);
+            let [off, on] = expected::import(container, &trace.file, NO_CHANNEL, false).map(|answer| answer.bytes());
+            let made = on == Some(bytes) && (kind.noisy || off == on);
+            assert!(made, "the numbers are those of the making, {bytes:?}: {:02X?}", trace.file);
             calls.switch.one(container, &trace.file, NO_CHANNEL)?;
             if container == Container::Btsnoop {
                 calls.btsnoop(&trace.file, NO_CHANNEL)?;
@@ -496,7 +518,7 @@ fn law(subject: &dyn Subject, rng: &mut Rng, size: u64) -> Checked {
         for container in [Container::Btsnoop, Container::Pcap] {
             let (trace, channel) = trace::structured_in(rng, container, 60);
             let damaged = trace::damaged(rng, &trace);
-            let (random, _) = at_random(rng, container, i % 100 == 0);
+            let (random, _) = at_random(rng, Kind { container, long: i % 100 == 0, noisy: i % 3 == 0 });
             for (file, channel) in [(&trace.file, channel), (&damaged, channel), (&random.file, NO_CHANNEL)] {
                 law_of(subject, container, file, channel, false)?;
                 law_of(subject, container, file, channel, true)?;
@@ -505,7 +527,7 @@ fn law(subject: &dyn Subject, rng: &mut Rng, size: u64) -> Checked {
     }
     for (words, channel, _) in made() {
         let mut trace = Trace::new(2001);
-        steps_of(&words).iter().for_each(|step| take(&mut trace, step));
+        send(&mut trace, &words);
         let pcap = pcap::of_btsnoop(&trace.file, FORMS[words.len() % 4]);
         for checks in [false, true] {
             law_of(subject, Container::Btsnoop, &trace.file, channel, checks)?;
@@ -528,7 +550,7 @@ pub fn run(subject: &dyn Subject, options: &Options) -> Checked {
     log.counts("every short string, in all pieces", &calls.answers());
     steps(&mut calls, if options.quiet { 2 } else { 4 })?;
     log.counts("every few steps", &calls.answers());
-    random(&mut calls, &mut rng, size / 5, 50)?;
+    random(&mut calls, &mut rng, size / 5, 20)?;
     log.counts("traces made byte by byte", &calls.answers());
     log.total(&calls.answers());
     law(subject, &mut rng, size / 10)?;

@@ -356,7 +356,7 @@ impl<'a> Import<'a> {
             (!found.iter().all(fits)).then(|| format!("bytes held on DLCI {}", expected.values[0]))
         };
         let held: u64 = found.iter().map(|stretch| u64::from(stretch.held)).sum();
-        let left = expected.values[9];
+        let left = expected.bytes().map_or(0, |bytes| bytes[3]);
         let wrong = wrong.or((held != left).then(|| format!("{left} bytes held in all")));
         wrong.map_or(Ok(()), |open| Err(self.differs(file, channel, lent, by, open, format!("{found:?}"))))
     }

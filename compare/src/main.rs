@@ -55,10 +55,10 @@ usage: compare GROUP [--seed N] [--size N] [--against proved|model]
        compare sample GROUP FILE
        compare stats import|pcap|honest|bench [--seed N] [--size N]
 
-GROUP is codec, names, plan, order, import, tolerant, gaps, pcap, fcs or vectors.
+GROUP is codec, names, plan, order, import, tolerant, gaps, pcap, fcs, bytes or vectors.
 --size is the number of random cases; what is exhaustive stays whole. `all` runs every
 group that this build links. There is no sample of gaps, pcap and fcs, and neither
-sample nor bench of vectors.
+sample nor bench of bytes and vectors.
 PROGRAM is the built traceprint.
 
 `bench` times the rows of a group, `bench growth` how the times of import grow,

@@ -54,6 +54,7 @@ const APART: &[&str] = &[BY_HAND, STEPS, RANDOM, mistaken::RANDOM, misfiled::RAN
 const WRONG: &[&str] = &[
     BY_HAND,
     STEPS,
+    RANDOM,
     LAW,
     missummed::BY_HAND,
     missummed::STEPS,
