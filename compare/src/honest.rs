@@ -189,7 +189,7 @@ fn data_pdus(
         let brought = closed.map(|i| frames[i].clone()).collect();
         let information = &stream[at..at + n];
         at += n;
-        let behind = at - closings.iter().copied().filter(|&end| end <= at).next_back().unwrap_or(0);
+        let behind = at - closings.iter().copied().rfind(|&end| end <= at).unwrap_or(0);
         let credit = if rng.percent(20) { Some(rng.byte()) } else { None };
         let wide = n > 127 || rng.percent(20);
         let frame = match sums {
