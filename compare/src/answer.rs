@@ -17,6 +17,17 @@ impl Answer {
         Answer { number: 0, values: values.to_vec(), written }
     }
 
+    /// The answer of an import, by DLCI, frames, unfinished, tail offset and frames with a wrong FCS.
+    pub fn imported([dlci, frames, unfinished, tail, wrong]: [u64; 5], bytes: Bytes, list: Vec<u8>) -> Answer {
+        let values = [dlci, frames, unfinished, tail, list.len() as u64, wrong];
+        Answer::done(&[&values[..], &bytes].concat(), list)
+    }
+
+    /// Where the bytes went, of the answer of an import.
+    pub fn bytes(&self) -> Option<Bytes> {
+        self.values.get(BYTES..VALUES)?.try_into().ok()
+    }
+
     pub fn refused(number: u32, values: &[u64]) -> Answer {
         Answer { number, values: values.to_vec(), written: Vec::new() }
     }
@@ -134,8 +145,15 @@ pub fn chosen(options: &[u64]) -> Asked {
     Asked { channel, tolerant: on(1), checks: on(3) }
 }
 
-/// How many values an import answers: DLCI, frames, unfinished, tail offset, bytes written, frames with a wrong FCS.
-pub const VALUES: usize = 6;
+/// How many values an import answers: DLCI, frames, unfinished, tail offset, bytes written, frames with a wrong FCS, and
+/// where the information bytes of the DLCI went.
+pub const VALUES: usize = 10;
+
+/// Bytes in spans, bytes dropped, bytes cleared, and bytes left in buffers.
+pub type Bytes = [u64; 4];
+
+/// The place of the first of them among the values.
+pub const BYTES: usize = 6;
 
 /// A stretch and direction with bytes held, as the library lays it out.
 #[repr(C)]

@@ -225,8 +225,8 @@ fn frames(frames: &[(bool, u64)], tail: usize) -> Answer {
         return Answer::refused(6, &[]);
     }
     let spans: Vec<items::Span> = frames.iter().map(|&(rx, ms)| (ms, if rx { Rx } else { Tx }, ack(0))).collect();
-    let list = items::span_list(&spans);
-    Answer::done(&[18, frames.len() as u64, 0, tail as u64, list.len() as u64, 0], list)
+    let many = frames.len() as u64;
+    Answer::imported([18, many, 0, tail as u64, 0], [9 * many, 0, 0, 0], items::span_list(&spans))
 }
 
 /// A fixed file and its answers by the strict rule and the tolerant.

@@ -7,6 +7,7 @@ use std::cell::Cell;
 use std::collections::{BTreeMap, BTreeSet};
 use std::path::Path;
 
+use crate::account;
 use crate::answer::{Answer, Container, NO_CHANNEL};
 use crate::fcs;
 use crate::items;
@@ -185,8 +186,9 @@ fn import_judged(file: &[u8], whole: usize, channel: u32) -> Answer {
     match capture::import(&known, channel) {
         Ok(imported) => {
             let list = items::span_list(&imported.frames);
-            let values = [imported.dlci.into(), imported.frames.len(), imported.unfinished, file.len(), list.len(), 0];
-            Answer::done(&values.map(|v: usize| v as u64), list)
+            let bytes = account::of(&known, channel, &imported);
+            let values = [imported.dlci.into(), imported.frames.len(), imported.unfinished, file.len(), 0];
+            told(Answer::imported(values.map(|v: usize| v as u64), bytes, list))
         }
         Err(ImportError::NotBtsnoop) => Answer::refused(3, &[]),
         Err(ImportError::Datalink(n)) => Answer::refused(4, &[n.into()]),
@@ -195,14 +197,26 @@ fn import_judged(file: &[u8], whole: usize, channel: u32) -> Answer {
     }
 }
 
+/// The oracle's answer, once its numbers are as the laws have them: the list has 14 bytes more for each frame than the
+/// spans, bytes are left just if a buffer is unfinished, at most 65,536 for each, and what is cleared is over that.
+fn told(answer: Answer) -> Answer {
+    let (values, [in_spans, dropped, cleared, left]) = (&answer.values, answer.bytes().expect("an import"));
+    assert_eq!(values[4], in_spans + 14 * values[1], "the list has the spans");
+    assert!((values[2]..=65_536 * values[2]).contains(&left), "{left} bytes are left in {} buffers", values[2]);
+    assert!(cleared == 0 || cleared > 65_536, "{cleared} bytes are cleared");
+    (4..).zip([dropped, cleared, left]).filter(|(_, bytes)| *bytes > 0).for_each(|(way, _)| count(way));
+    answer
+}
+
 thread_local! {
-    static ASKED: Cell<[u64; 4]> = const { Cell::new([0; 4]) };
+    static ASKED: Cell<[u64; 7]> = const { Cell::new([0; 7]) };
 }
 
 /// How many imports the oracle was asked for with the file as it is, how many with handles given anew, and how many
-/// the model was asked for; and in how many of all these the file had lost its wrong frames. Since this was last called.
-pub fn asked() -> [u64; 4] {
-    ASKED.replace([0; 4])
+/// the model was asked for; in how many of all these the file had lost its wrong frames; and in how many that the oracle
+/// answered bytes were dropped, cleared and left. Since this was last called.
+pub fn asked() -> [u64; 7] {
+    ASKED.replace([0; 7])
 }
 
 fn count(way: usize) {

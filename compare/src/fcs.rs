@@ -72,6 +72,25 @@ pub fn wrong(container: Container, file: &[u8]) -> Vec<Wrong> {
     pdus.iter().filter_map(|pdu| pdu.wrong(&channels)).collect()
 }
 
+/// The information of a UIH frame: its DLCI and how many bytes it has, whether its FCS is right, and whether its PDU is tried.
+pub struct Information {
+    pub dlci: u8,
+    pub bytes: usize,
+    pub right: bool,
+    pub tried: bool,
+}
+
+/// The information of the UIH frames of a file, of whole PDUs in whole records.
+pub fn information(container: Container, file: &[u8]) -> Vec<Information> {
+    let pdus = pdus(&packets(container, file));
+    let channels = Channels::of(&pdus);
+    let read = |pdu: &Pdu| {
+        let (dlci, bytes, right) = pdu.frame()?;
+        Some(Information { dlci, bytes, right, tried: pdu.is_tried(&channels) })
+    };
+    pdus.iter().filter_map(read).collect()
+}
+
 /// Link and direction.
 type Side = (u32, bool);
 
@@ -216,8 +235,8 @@ impl Pdu {
         channels.admitted.contains(&key) || self.cid >= 0x40 && !channels.named.contains(&key)
     }
 
-    /// The wrong frame that it is, if it is one: UIH with all its bytes, and another FCS than is right.
-    fn wrong(&self, channels: &Channels) -> Option<Wrong> {
+    /// The UIH frame that it is, if it has all its bytes: DLCI, how many bytes of information, and whether the FCS is right.
+    fn frame(&self) -> Option<(u8, usize, bool)> {
         let [address, control @ (0xEF | 0xFF), short, rest @ ..] = &self.payload[..] else { return None };
         let (length, rest) = match (short % 2, rest) {
             (1, rest) => (usize::from(short / 2), rest),
@@ -226,7 +245,13 @@ impl Pdu {
         };
         let credit = usize::from(*control == 0xFF);
         let fcs = *rest.get(credit + length)?;
-        let frame = Wrong { dlci: address / 4, counts: self.is_tried(channels), control: self.second? };
-        (fcs != right(*address, *control)).then_some(frame)
+        Some((address / 4, length, fcs == right(*address, *control)))
+    }
+
+    /// The wrong frame that it is, if it is one.
+    fn wrong(&self, channels: &Channels) -> Option<Wrong> {
+        let (dlci, _, right) = self.frame()?;
+        let control = self.second?;
+        (!right).then(|| Wrong { dlci, counts: self.is_tried(channels), control })
     }
 }

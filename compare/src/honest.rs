@@ -1,7 +1,7 @@
 //! Honest recordings, as documents 01 and 02 have them, with what is left at each cut known
 //! from the making: nothing here reads a file back.
 
-use std::collections::VecDeque;
+use std::collections::{BTreeMap, VecDeque};
 
 use crate::answer::{Answer, Container};
 use crate::codec;
@@ -22,8 +22,8 @@ struct Brought {
     direction: Direction,
     /// The frames whose closing 3C it brings.
     frames: Vec<Vec<u8>>,
-    /// Whether the direction is then in the middle of a frame.
-    midway: bool,
+    /// How many bytes of the direction then stand behind the last closing 3C.
+    behind: usize,
 }
 
 /// What the FCS bytes of a recording are.
@@ -74,24 +74,24 @@ impl Honest {
         known.then(|| self.wrong.iter().filter(|end| **end <= n).count() as u64)
     }
 
-    /// What tolerant import answers for the first `n` bytes, if no frame with a wrong FCS is counted.
+    /// What tolerant import answers for the first `n` bytes, if no frame with a wrong FCS is counted. Every byte is in a
+    /// frame that is left, or stands behind the last of its direction.
     pub fn left(&self, n: usize) -> Answer {
         let tail = self.ends.iter().copied().take_while(|&end| end <= n).last().unwrap_or(self.head);
         let mut frames = Vec::new();
-        let mut midway: Vec<(usize, Direction)> = Vec::new();
+        let mut midway: BTreeMap<(usize, usize), usize> = BTreeMap::new();
         for pdu in self.brought.iter().filter(|pdu| pdu.end <= n) {
             frames.extend(pdu.frames.iter().map(|wire| (pdu.ms, pdu.direction, wire.clone())));
-            midway.retain(|key| *key != (pdu.link, pdu.direction));
-            if pdu.midway {
-                midway.push((pdu.link, pdu.direction));
-            }
+            midway.insert((pdu.link, way(pdu.direction)), pdu.behind);
         }
+        midway.retain(|_, behind| *behind > 0);
         if frames.is_empty() {
             return Answer::refused(6, &[]);
         }
-        let list = items::span_list(&frames);
-        let values = [self.dlci as usize, frames.len(), midway.len(), tail, list.len(), 0].map(|v| v as u64);
-        Answer::done(&values, list)
+        let wires: usize = frames.iter().map(|(_, _, wire)| wire.len()).sum();
+        let values = [self.dlci.into(), frames.len(), midway.len(), tail, 0].map(|v: usize| v as u64);
+        let bytes = [wires as u64, 0, 0, midway.values().sum::<usize>() as u64];
+        Answer::imported(values, bytes, items::span_list(&frames))
     }
 }
 
@@ -99,7 +99,7 @@ impl Honest {
 /// response that the other direction waits for, and whether it is on the DLCI and has a wrong FCS.
 struct Sending {
     bytes: Vec<u8>,
-    data: Option<(Vec<Vec<u8>>, bool)>,
+    data: Option<(Vec<Vec<u8>>, usize)>,
     answers: bool,
     wrong: bool,
 }
@@ -189,7 +189,7 @@ fn data_pdus(
         let brought = closed.map(|i| frames[i].clone()).collect();
         let information = &stream[at..at + n];
         at += n;
-        let midway = !closings.contains(&at);
+        let behind = at - closings.iter().copied().rfind(|&end| end <= at).unwrap_or(0);
         let credit = if rng.percent(20) { Some(rng.byte()) } else { None };
         let wide = n > 127 || rng.percent(20);
         let frame = match sums {
@@ -197,7 +197,7 @@ fn data_pdus(
             Sums::Right | Sums::Noisy => trace::framed(dlci << 2 | rng.pick(&[1, 3]), information, credit, wide),
         };
         let bytes = trace::l2cap(cid, &frame);
-        pdus.push_back(Sending { bytes, data: Some((brought, midway)), answers: false, wrong: false });
+        pdus.push_back(Sending { bytes, data: Some((brought, behind)), answers: false, wrong: false });
     }
     pdus
 }
@@ -409,10 +409,10 @@ impl<'a> Maker<'a> {
         if sending.wrong {
             self.wrong.push(self.trace.file.len());
         }
-        if let Some((frames, midway)) = sending.data {
+        if let Some((frames, behind)) = sending.data {
             let ms = self.trace.ms(stamp);
             let end = self.trace.file.len();
-            self.brought.push(Brought { end, ms, link: index, direction, frames, midway });
+            self.brought.push(Brought { end, ms, link: index, direction, frames, behind });
         }
     }
 
@@ -598,10 +598,12 @@ pub fn too_long(rng: &mut Rng, container: Container) -> Honest {
     let wire = packed(0x0C, 0, &vec![0x3E; 32_765]);
     assert!(wire.len() > 65_537);
     let parts = [&wire[..32_767], &wire[32_767..65_534], &wire[65_534..65_537], &wire[65_537..]];
+    let mut behind = 0;
     let pdus = parts.iter().enumerate().map(|(i, part)| {
         let closed = i + 1 == parts.len();
+        behind += part.len();
         let bytes = trace::l2cap(0x41, &trace::uih(18, part, None, true));
-        let data = Some((if closed { vec![wire.clone()] } else { Vec::new() }, !closed));
+        let data = Some(if closed { (vec![wire.clone()], 0) } else { (Vec::new(), behind) });
         Sending { bytes, data, answers: false, wrong: false }
     });
     let sending = [pdus.collect(), VecDeque::new()];

@@ -340,7 +340,7 @@ impl<'a> Import<'a> {
 
     /// The first `unfinished` places hold the open stretches, in the order of their first
     /// pieces, and no other place is touched. Of a long file with few of them only the DLCI
-    /// and the bounds of what is held are seen.
+    /// and the bounds of what is held are seen, and that it is what is left in all.
     fn listed(&self, file: &[u8], channel: u32, expected: &Answer, lent: usize, by: By) -> Checked {
         let unfinished = expected.values[2] as usize;
         self.unfilled(file, channel, lent, by, unfinished)?;
@@ -355,6 +355,9 @@ impl<'a> Import<'a> {
             let fits = |s: &Stretch| u64::from(s.dlci) == expected.values[0] && (1..=65_536).contains(&s.held);
             (!found.iter().all(fits)).then(|| format!("bytes held on DLCI {}", expected.values[0]))
         };
+        let held: u64 = found.iter().map(|stretch| u64::from(stretch.held)).sum();
+        let left = expected.bytes().map_or(0, |bytes| bytes[3]);
+        let wrong = wrong.or((held != left).then(|| format!("{left} bytes held in all")));
         wrong.map_or(Ok(()), |open| Err(self.differs(file, channel, lent, by, open, format!("{found:?}"))))
     }
 

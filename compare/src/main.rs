@@ -1,8 +1,10 @@
 //! Holds the proved library against the Rust it was ported from.
 
+mod account;
 mod adapters;
 mod answer;
 mod bench;
+mod bytes;
 mod codec;
 mod containers;
 mod deep;
@@ -16,6 +18,7 @@ mod import;
 mod items;
 mod lacking;
 mod misfiled;
+mod misplaced;
 mod misprint;
 mod misread;
 mod missummed;
@@ -52,10 +55,10 @@ usage: compare GROUP [--seed N] [--size N] [--against proved|model]
        compare sample GROUP FILE
        compare stats import|pcap|honest|bench [--seed N] [--size N]
 
-GROUP is codec, names, plan, order, import, tolerant, gaps, pcap, fcs or vectors.
+GROUP is codec, names, plan, order, import, tolerant, gaps, pcap, fcs, bytes or vectors.
 --size is the number of random cases; what is exhaustive stays whole. `all` runs every
 group that this build links. There is no sample of gaps, pcap and fcs, and neither
-sample nor bench of vectors.
+sample nor bench of bytes and vectors.
 PROGRAM is the built traceprint.
 
 `bench` times the rows of a group, `bench growth` how the times of import grow,
@@ -132,7 +135,7 @@ fn cases(counts: &[u64]) -> String {
 
 pub type Group = fn(&dyn Subject, &Options) -> Checked;
 
-const GROUPS: [(&str, Group); 10] = [
+const GROUPS: [(&str, Group); 11] = [
     ("codec", codec::run),
     ("names", names::run),
     ("plan", plan::run),
@@ -142,6 +145,7 @@ const GROUPS: [(&str, Group); 10] = [
     ("gaps", signs::run),
     ("pcap", containers::run),
     ("fcs", sums::run),
+    ("bytes", bytes::run),
     ("vectors", vectors::run),
 ];
 
@@ -174,12 +178,13 @@ fn verdict(checked: Checked) -> bool {
 /// Runs a group, and says by which way the imports that it was held to were found.
 fn compared((name, group): &(&str, Group), subject: &dyn Subject, options: &Options) -> bool {
     let good = verdict(group(subject, options));
-    let [direct, renamed, model, rewritten] = expected::asked();
+    let [direct, renamed, model, rewritten, dropped, cleared, left] = expected::asked();
     if direct + renamed + model > 0 {
         println!(
             "{name}: held to the Rust {direct} times by the file as it is, {renamed} times with a handle of its own for \
              each adapter's index and handle; to the model {model} times, with more of these than handles; {rewritten} of \
-             these times by the file without the frames that have a wrong FCS"
+             these times by the file without the frames that have a wrong FCS; bytes were dropped {dropped} times, cleared \
+             {cleared} times and left {left} times"
         );
     }
     good

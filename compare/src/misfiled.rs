@@ -21,6 +21,12 @@ pub const OTHERS: &str = "pcap, btsnoop files";
 /// Which options a call goes by, instead of those that it gets.
 pub type Asks = fn(&[u8], &[u64]) -> Vec<u64>;
 
+/// Changes the answer for a file.
+pub type Change = fn(&mut Answer, &[u8]);
+
+/// Stores an answer in the output and the values that are lent.
+pub type Store = fn(&Answer, &mut [u8], &mut [u64]) -> u32;
+
 /// The calls that take a container, with some of them replaced.
 #[derive(Clone, Copy)]
 pub struct Misfiled {
@@ -41,8 +47,10 @@ pub struct Misfiled {
     pub signs: gaps::Reading,
     /// Whether the stretches are those that are open with the FCS not checked.
     pub unchecked: bool,
+    /// Stores the answer of import.
+    pub store: Store,
     /// Changes the answers, each before it is stored.
-    pub change_stretches: fn(&mut Answer, &[u8]),
+    pub change_stretches: Change,
     pub change_records: fn(&mut Answer, &[u8]),
     /// Of the call that takes no options.
     pub change_alone: fn(&mut Answer, &[u8]),
@@ -70,6 +78,7 @@ pub const NONE: Misfiled = Misfiled {
     starts: |places, starts| places.iter_mut().zip(starts).for_each(|(place, start)| *place = *start),
     signs: gaps::RIGHT,
     unchecked: false,
+    store: model::store,
     change_stretches: |_, _| (),
     change_records: |_, _| (),
     change_alone: |_, _| (),
@@ -95,7 +104,7 @@ impl Misfiled {
             false => model::import_with(file, work.len(), &options, reading),
         };
         (self.change_stretches)(&mut answer, file);
-        let number = model::store(&answer, out, values);
+        let number = (self.store)(&answer, out, values);
         let checks = chosen(&options).checks && !self.unchecked;
         let open = || model::open(container(&options), file, answer.values[0], checks, reading);
         (self.fill)(number, places, &if number == 0 { open() } else { Vec::new() });

@@ -146,8 +146,16 @@ fn of_counts() -> Vec<Importer> {
             "counted on DLCI 0 too",
             counts(|wrong, dlci| [0, dlci].contains(&wrong.dlci) && wrong.tried && !wrong.asks),
         ),
-        (MADE, "counted only with information", counts(|wrong, dlci| (BY_02.counts)(wrong, dlci) && wrong.informs)),
-        (ALL, "counted only without information", counts(|wrong, dlci| (BY_02.counts)(wrong, dlci) && !wrong.informs)),
+        (
+            MADE,
+            "counted only with information",
+            counts(|wrong, dlci| (BY_02.counts)(wrong, dlci) && wrong.information > 0),
+        ),
+        (
+            ALL,
+            "counted only without information",
+            counts(|wrong, dlci| (BY_02.counts)(wrong, dlci) && wrong.information == 0),
+        ),
         (
             &[BY_HAND, STEPS, RANDOM, mistaken::HONEST, misfiled::HONEST],
             "counted though not tried",
@@ -269,7 +277,7 @@ fn of_options() -> Vec<Fault> {
 fn of_stretches() -> Vec<Fault> {
     let change = |change_stretches| Misfiled { change_stretches, ..misfiled::NONE };
     let all = [
-        ("the count is not stored", change(|answer, _| answer.values.truncate(5))),
+        ("the count is not stored", change(|answer, _| leave_out(&mut answer.values))),
         ("count and bytes written are exchanged", change(|answer, _| exchange(&mut answer.values, 4, 5))),
         ("the count is stored first", change(|answer, _| first(&mut answer.values))),
         ("a count is carried by 6", change(|answer, _| answer.values.extend((answer.number == 6).then_some(0)))),
@@ -293,8 +301,15 @@ pub fn exchange(values: &mut [u64], one: usize, other: usize) {
 
 /// The sixth value before the others.
 pub fn first(values: &mut [u64]) {
-    if values.len() == 6 {
-        values.rotate_right(1);
+    if values.len() > 5 {
+        values[..6].rotate_right(1);
+    }
+}
+
+/// The sixth value left out.
+pub fn leave_out(values: &mut Vec<u64>) {
+    if values.len() > 5 {
+        values.remove(5);
     }
 }
 

@@ -5,7 +5,7 @@
 
 use std::collections::BTreeMap;
 
-use crate::answer::{self, chosen, container, Answer, Asked, Container, Subject, NO_CHANNEL};
+use crate::answer::{self, chosen, container, Answer, Asked, Bytes, Container, Subject, NO_CHANNEL};
 use crate::expected::{LONGEST_FILE, LONGEST_PAYLOAD};
 use crate::gaps;
 use crate::pcap;
@@ -165,6 +165,8 @@ pub struct Reading {
     pub pcap: pcap::Reading,
     /// How the FCS is checked.
     pub sums: Sums,
+    /// How it is told where every byte went.
+    pub account: Account,
 }
 
 /// How 02 is read where it has the FCS checked. Only `BY_02` is the model.
@@ -200,8 +202,8 @@ pub struct Sums {
 pub struct Wrong {
     pub dlci: u8,
     pub control: u8,
-    /// Whether it has information.
-    pub informs: bool,
+    /// How many bytes of information it has.
+    pub information: usize,
     /// Whether its PDU is tried, and whether it is done with before as a PSM 3 request.
     pub tried: bool,
     pub asks: bool,
@@ -234,6 +236,85 @@ pub const BY_02: Sums = Sums {
     counts: |wrong, dlci| wrong.dlci == dlci && wrong.tried && !wrong.asks,
     told: |counted, _| counted,
 };
+
+/// How 02 is read where it says where every byte went. Only `BY_BYTE` is the model.
+#[derive(Clone, Copy)]
+pub struct Account {
+    /// Whether a piece is taken in, by its DLCI, the DLCI chosen and the first that is tried.
+    pub own: fn(u8, u8, u8) -> bool,
+    /// What its bytes are held with.
+    pub key: fn(&Piece) -> (Stretch, Way),
+    /// The longest that stays held, and that only the end of a piece is where it is looked at.
+    pub longest: usize,
+    pub at_ends: bool,
+    /// A 3E with something held does not start anew.
+    pub from_first: bool,
+    /// The four numbers, by what became of the bytes.
+    pub told: fn(&Fates) -> Bytes,
+}
+
+/// What became of the bytes of pieces.
+#[derive(Default)]
+pub struct Fates {
+    pub spans: Vec<Vec<u8>>,
+    pub dropped: Vec<Dropped>,
+    pub cleared: Vec<Cleared>,
+    /// What is held at the end, where something is.
+    pub left: Vec<((Stretch, Way), usize)>,
+    /// Information bytes of the frames with a wrong FCS that are counted.
+    pub wrong: usize,
+}
+
+/// Bytes of a piece that were dropped in a row.
+#[derive(Default)]
+pub struct Dropped {
+    pub bytes: usize,
+    /// How many of them are 3C.
+    pub ends: usize,
+    /// Whether a span ends before them in their piece, and whether a 3E comes behind them in it.
+    pub behind: bool,
+    pub started: bool,
+    /// Whether what was held last before their piece was cleared.
+    pub cleared: bool,
+}
+
+/// What was cleared at the end of a piece, and how long the piece was.
+pub struct Cleared {
+    pub bytes: usize,
+    pub piece: usize,
+}
+
+pub const BY_BYTE: Account = Account {
+    own: |dlci, chosen, _| dlci == chosen,
+    key: |piece| (piece.stretch, piece.way),
+    longest: 65_536,
+    at_ends: true,
+    from_first: true,
+    told: Fates::told,
+};
+
+impl Fates {
+    pub fn in_spans(&self) -> u64 {
+        self.spans.iter().map(|wire| wire.len() as u64).sum()
+    }
+
+    /// Bytes dropped in those rows that count.
+    pub fn dropped(&self, counts: fn(&Dropped) -> bool) -> u64 {
+        self.dropped.iter().filter(|row| counts(row)).map(|row| row.bytes as u64).sum()
+    }
+
+    pub fn cleared(&self) -> u64 {
+        self.cleared.iter().map(|cleared| cleared.bytes as u64).sum()
+    }
+
+    pub fn left(&self) -> u64 {
+        self.left.iter().map(|(_, held)| *held as u64).sum()
+    }
+
+    pub fn told(&self) -> Bytes {
+        [self.in_spans(), self.dropped(|_| true), self.cleared(), self.left()]
+    }
+}
 
 /// What of a link is looked at, wherever import keys on it.
 #[derive(Clone, Copy)]
@@ -276,6 +357,7 @@ pub const RIGHT: Reading = Reading {
     keys: BY_LINK,
     pcap: pcap::RIGHT,
     sums: BY_02,
+    account: BY_BYTE,
 };
 
 // MDR frames.
@@ -504,7 +586,7 @@ pub fn capture_order(names: &[u8]) -> Answer {
 // Import.
 
 /// True is Rx.
-type Way = bool;
+pub type Way = bool;
 type Triple = (u32, Way, u16);
 
 pub struct Pdu {
@@ -517,7 +599,7 @@ pub struct Pdu {
 }
 
 /// Adapter's index and handle in one number, CID, session, and link of the DLCI.
-type Stretch = (u32, u16, u32, u32);
+pub type Stretch = (u32, u16, u32, u32);
 
 pub struct Piece {
     pub dlci: u8,
@@ -580,7 +662,7 @@ pub struct Packet<'a> {
     way: Way,
     link: u32,
     pub start: bool,
-    data: &'a [u8],
+    pub data: &'a [u8],
 }
 
 /// The packets of a file with a good header, and where its whole records end.
@@ -720,15 +802,15 @@ fn uih(frame: &[u8]) -> Option<(u8, &[u8], usize)> {
 
 /// The wrong frame that a payload is, if it is one: all but how its PDU stands.
 fn wrong(frame: &[u8], sums: Sums) -> Option<Wrong> {
-    let found = |dlci: u8, informs: bool| {
+    let found = |dlci: u8, information: usize| {
         let control = frame[1];
-        Some(Wrong { dlci, control, informs, tried: false, asks: false, before: 0 })
+        Some(Wrong { dlci, control, information, tried: false, asks: false, before: 0 })
     };
     match uih(frame) {
         Some((dlci, information, end)) if (sums.byte)(frame, end) != (sums.right)(frame) => {
-            found(dlci, !information.is_empty())
+            found(dlci, information.len())
         }
-        None if !sums.whole && frame.len() >= 2 && matches!(frame[1], 0xEF | 0xFF) => found(frame[0] / 4, false),
+        None if !sums.whole && frame.len() >= 2 && matches!(frame[1], 0xEF | 0xFF) => found(frame[0] / 4, 0),
         _ => None,
     }
 }
@@ -852,6 +934,45 @@ fn buffers(pieces: &[&Piece], reading: Reading) -> (Spans, BTreeMap<(Stretch, Wa
     }
     buffers.retain(|_, buffer| !buffer.is_empty());
     (spans, buffers)
+}
+
+/// What becomes of each byte of these pieces. With nothing held a 3E is held, and any other byte dropped. With something
+/// held a 3C makes a span of it all, and any other byte is held too. What is too long at a piece's end is cleared.
+fn fates(pieces: &[&Piece], account: Account) -> Fates {
+    // What is held, and whether the last of it was cleared.
+    let mut all: BTreeMap<(Stretch, Way), (Vec<u8>, bool)> = BTreeMap::new();
+    let mut fates = Fates::default();
+    for piece in pieces {
+        let (held, cleared) = all.entry((account.key)(piece)).or_default();
+        let mut row = Dropped { cleared: *cleared, ..Dropped::default() };
+        for &byte in &piece.information {
+            if byte == 0x3E && (held.is_empty() || !account.from_first) {
+                row.bytes += held.len();
+                fates.dropped.push(Dropped { started: true, ..std::mem::take(&mut row) });
+                (*held, *cleared) = (vec![byte], false);
+            } else if held.is_empty() {
+                row.bytes += 1;
+                row.ends += usize::from(byte == 0x3C);
+            } else {
+                held.push(byte);
+            }
+            if byte == 0x3C && !held.is_empty() {
+                fates.spans.push(std::mem::take(held));
+                row = Dropped { behind: true, ..Dropped::default() };
+            }
+            if !account.at_ends && held.len() > account.longest {
+                fates.cleared.push(Cleared { bytes: std::mem::take(held).len(), piece: piece.information.len() });
+            }
+        }
+        fates.dropped.push(row);
+        if held.len() > account.longest {
+            fates.cleared.push(Cleared { bytes: std::mem::take(held).len(), piece: piece.information.len() });
+            *cleared = true;
+        }
+    }
+    let left = all.into_iter().map(|(key, (held, _))| (key, held.len()));
+    fates.left = left.filter(|(_, held)| *held > 0).collect();
+    fates
 }
 
 /// The stretches of a DLCI that are open at the end of a file with a good header, in the
@@ -978,10 +1099,8 @@ pub fn import_from(container: Container, file: &[u8], work: usize, asked: Asked,
         let off = import_from(container, file, work, Asked { checks: false, ..asked }, reading);
         dlcis.retain(|dlci| off.values.first() == Some(&u64::from(*dlci)));
     }
-    for dlci in dlcis {
-        if asked.channel != NO_CHANNEL && asked.channel != u32::from(dlci / 2) {
-            continue;
-        }
+    dlcis.retain(|dlci| asked.channel == NO_CHANNEL || asked.channel == u32::from(dlci / 2));
+    for &dlci in &dlcis {
         let own: Vec<&Piece> = pieces.iter().filter(|p| p.dlci == dlci).collect();
         let (spans, unfinished) = spans(&own, reading);
         if spans.iter().all(|(_, _, wire)| body(wire).is_err()) {
@@ -992,10 +1111,13 @@ pub fn import_from(container: Container, file: &[u8], work: usize, asked: Asked,
             let span: Vec<u8> = (0..8).map(|i| (ms >> (8 * i)) as u8).chain(wire.iter().copied()).collect();
             item(&mut list, if *way { 1 } else { 2 }, &span);
         }
-        let counted = wrong.iter().filter(|wrong| (reading.sums.counts)(wrong, dlci)).count();
-        let counted = (reading.sums.told)(counted as u64, own.len() as u64) as usize;
-        let values = [dlci as usize, spans.len(), unfinished, tail, list.len(), counted].map(|v| v as u64);
-        return Answer::done(&values, list);
+        let counted: Vec<&Wrong> = wrong.iter().filter(|wrong| (reading.sums.counts)(wrong, dlci)).collect();
+        let taken: Vec<&Piece> = pieces.iter().filter(|p| (reading.account.own)(p.dlci, dlci, dlcis[0])).collect();
+        let mut fates = fates(&taken, reading.account);
+        fates.wrong = counted.iter().map(|wrong| wrong.information).sum();
+        let counted = (reading.sums.told)(counted.len() as u64, own.len() as u64);
+        let values = [u64::from(dlci), spans.len() as u64, unfinished as u64, tail as u64, counted];
+        return Answer::imported(values, (reading.account.told)(&fates), list);
     }
     Answer::refused(6, &[])
 }

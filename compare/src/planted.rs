@@ -1,14 +1,15 @@
 //! Wrong answers planted on purpose: each must be reported, or the comparison could
 //! not fail.
 
-use crate::answer::{chosen, Answer, Asked, Container, Stretch, Subject, NO_CHANNEL};
+use crate::answer::{chosen, Answer, Asked, Container, Stretch, Subject, BYTES, NO_CHANNEL};
 use crate::expected::LONGEST_FILE;
-use crate::misfiled::{self, Misfiled};
+use crate::misfiled::{self, Change, Misfiled, Store};
+use crate::misplaced;
 use crate::misread::{self, Misread};
 use crate::missummed;
 use crate::mistaken::{self, RANDOM};
 use crate::model::{self, Reading, RIGHT};
-use crate::{containers, import, signs, sums, tolerant, Group, Options};
+use crate::{bytes, containers, import, signs, sums, tolerant, Group, Options};
 
 /// The model with some of its calls replaced.
 #[derive(Clone, Copy)]
@@ -22,8 +23,10 @@ struct Planted {
     /// How import reads.
     reading: Reading,
     import: fn(Reading, &[u8], usize, u32, bool) -> Answer,
+    /// Changes the answers of import by number, of import with stretches by number, and of import by a list of options.
+    changes: [Change; 3],
     /// Stores an answer in what is lent.
-    store: fn(&Answer, &mut [u8], &mut [u64]) -> u32,
+    store: Store,
     /// Changes work, whatever the answer.
     spoils: bool,
     /// Import with so many places for stretches.
@@ -32,7 +35,7 @@ struct Planted {
     fill: fn(u32, &mut [Stretch], &[Stretch]),
     /// Import by a list of options, with so much work, and how its answer is stored.
     import_with: fn(Reading, &[u8], usize, &[u64]) -> Answer,
-    store_with: fn(&Answer, &mut [u8], &mut [u64]) -> u32,
+    store_with: Store,
     /// Changes work in the call with options, whatever the answer.
     spoils_with: bool,
     gaps: Misread,
@@ -53,6 +56,7 @@ const NONE: Planted = Planted {
     capture_order: model::capture_order,
     reading: RIGHT,
     import: |reading, file, work, channel, tolerant| read(file, work, channel, tolerant, reading),
+    changes: [|_, _| (); 3],
     store: model::store,
     spoils: false,
     import_in: |planted, file, work, places, channel, tolerant| match places_want(file.len()) {
@@ -132,7 +136,8 @@ impl Subject for Planted {
         if self.spoils && !work.is_empty() {
             work[work.len() / 2] ^= 0xFF;
         }
-        let answer = (self.import)(self.reading, file, work.len(), channel, tolerant != 0);
+        let mut answer = (self.import)(self.reading, file, work.len(), channel, tolerant != 0);
+        (self.changes[0])(&mut answer, file);
         (self.store)(&answer, out, values)
     }
 
@@ -146,7 +151,8 @@ impl Subject for Planted {
         tolerant: u32,
         values: &mut [u64],
     ) -> u32 {
-        let answer = (self.import_in)(self, file, work.len(), stretches.len(), channel, tolerant != 0);
+        let mut answer = (self.import_in)(self, file, work.len(), stretches.len(), channel, tolerant != 0);
+        (self.changes[1])(&mut answer, file);
         let number = (self.store)(&answer, out, values);
         let open = || model::open(Container::Btsnoop, file, answer.values[0], false, self.reading);
         (self.fill)(number, stretches, &if number == 0 { open() } else { Vec::new() });
@@ -158,7 +164,9 @@ impl Subject for Planted {
             work[work.len() / 2] ^= 0xFF;
         }
         let options = &(self.misfiled.options)(file, options)[..];
-        (self.store_with)(&(self.import_with)(self.reading, file, work.len(), options), out, values)
+        let mut answer = (self.import_with)(self.reading, file, work.len(), options);
+        (self.changes[2])(&mut answer, file);
+        (self.store_with)(&answer, out, values)
     }
 
     fn import_stretches_with(
@@ -209,7 +217,7 @@ const FRAGMENTS: &str = "import, every three fragments of two PDUs";
 const CID_1: &str = "import, every four PDUs on CID 1";
 const STRICT: &str = "tolerant, switched to strict";
 const LARGE: &str = "import, long files";
-const PARTS: [(&str, Group); 32] = [
+const PARTS: [(&str, Group); 37] = [
     (RANDOM, import::run_random),
     (FIXED, import::run_fixed),
     (FRAGMENTS, import::run_excess),
@@ -242,6 +250,11 @@ const PARTS: [(&str, Group); 32] = [
     (missummed::STEPS, sums::run_steps),
     (missummed::SHORT, sums::run_short),
     (missummed::RANDOM, sums::run_random),
+    (misplaced::BY_HAND, bytes::run_by_hand),
+    (misplaced::STRINGS, bytes::run_strings),
+    (misplaced::STEPS, bytes::run_steps),
+    (misplaced::RANDOM, bytes::run_random),
+    (misplaced::LAW, bytes::run_law),
 ];
 
 const EXCESS: Planted = Planted { reading: Reading { excess_dropped: false, ..RIGHT }, ..NONE };
@@ -1090,7 +1103,7 @@ fn faults_of_sixth() -> Vec<(&'static str, &'static str, Planted)> {
         (
             "import",
             "the sixth value is not stored",
-            numbers(|_, f, w, c, t| changed(f, w, c, t, |a| a.values.truncate(5))),
+            numbers(|_, f, w, c, t| changed(f, w, c, t, |a| missummed::leave_out(&mut a.values))),
         ),
         (
             "import",
@@ -1113,7 +1126,7 @@ fn faults_of_sixth() -> Vec<(&'static str, &'static str, Planted)> {
         (
             HAND,
             "import_with: the count is not stored",
-            calls(|r, f, w, o| of_pcap(r, f, w, o, 0, |a, _| a.values.truncate(5))),
+            calls(|r, f, w, o| of_pcap(r, f, w, o, 0, |a, _| missummed::leave_out(&mut a.values))),
         ),
         (
             HAND,
@@ -1141,8 +1154,8 @@ fn faults_of_sixth() -> Vec<(&'static str, &'static str, Planted)> {
             Planted {
                 store_with: |answer, out, values| {
                     let number = model::store(answer, out, values);
-                    if let (0, Some(last), 5) = (number, answer.values.last(), values.len()) {
-                        values[4] = *last;
+                    if let (0, Some(count), 5) = (number, answer.values.get(5), values.len()) {
+                        values[4] = *count;
                     }
                     number
                 },
@@ -1167,12 +1180,60 @@ fn faults_of_sixth() -> Vec<(&'static str, &'static str, Planted)> {
             calls(|r, f, w, o| {
                 let (answer, off) = (model::import_with(f, w, o, r), model::import_with(f, w, &o[..o.len().min(3)], r));
                 match answer.number == 6 && off.number == 0 {
-                    true => Answer::done(&[off.values[0], 0, 0, off.values[3], 0, 1], Vec::new()),
+                    true => Answer::imported([off.values[0], 0, 0, off.values[3], 1], [0; 4], Vec::new()),
                     false => answer,
                 }
             }),
         ),
     ]
+}
+
+/// Faults of the numbers that say where the bytes went, in each of the calls that import.
+fn faults_of_bytes() -> Vec<(&'static str, String, Planted)> {
+    let mut faults = Vec::new();
+    for (part, label, change) in misplaced::changes() {
+        let stretches = Misfiled { change_stretches: change, ..misfiled::NONE };
+        let changes = |place: usize| {
+            let mut changes = NONE.changes;
+            changes[place] = change;
+            Planted { changes, ..NONE }
+        };
+        faults.extend([
+            (part, format!("import: {label}"), changes(0)),
+            (part, format!("import_stretches: {label}"), changes(1)),
+            (part, format!("import_with: {label}"), changes(2)),
+            (part, format!("import_stretches_with: {label}"), Planted { misfiled: stretches, ..NONE }),
+        ]);
+    }
+    for (part, label, store) in misplaced::stores() {
+        let stretches = Misfiled { store, ..misfiled::NONE };
+        faults.extend([
+            (part, format!("import, with stretches or not: {label}"), Planted { store, ..NONE }),
+            (part, format!("import_with: {label}"), Planted { store_with: store, ..NONE }),
+            (part, format!("import_stretches_with: {label}"), Planted { misfiled: stretches, ..NONE }),
+        ]);
+    }
+    let unchecked: fn(Reading, &[u8], usize, &[u64]) -> Answer = |reading, file, work, options| {
+        let mut answer = model::import_with(file, work, options, reading);
+        let off = model::import_with(file, work, &options[..options.len().min(3)], reading);
+        if let (0, Some(bytes)) = (answer.number, off.bytes()) {
+            answer.values[BYTES..].copy_from_slice(&bytes);
+        }
+        answer
+    };
+    let fill = misplaced::a_byte_less;
+    let stretches = Misfiled { fill, ..misfiled::NONE };
+    let label = "bytes: a long stretch holds a byte less";
+    faults.extend([
+        (misplaced::BY_HAND, format!("import_stretches: {label}"), Planted { fill, ..NONE }),
+        (misplaced::BY_HAND, format!("import_stretches_with: {label}"), Planted { misfiled: stretches, ..NONE }),
+    ]);
+    let label = "import_with: bytes: as with the switch off";
+    faults.extend(
+        [misplaced::BY_HAND, misplaced::STEPS, missummed::RANDOM]
+            .map(|part| (part, label.into(), Planted { import_with: unchecked, ..NONE })),
+    );
+    faults
 }
 
 /// The answer of the call with options, changed if it has this number.
@@ -1231,6 +1292,9 @@ fn all() -> Vec<(&'static str, String, Planted)> {
     all.extend(importers.map(|(group, label, reading)| (group, label, Planted { reading, ..NONE })));
     let missummed = missummed::faults().into_iter();
     all.extend(missummed.map(|(group, label, misfiled)| (group, label, Planted { misfiled, ..NONE })));
+    let importers = misplaced::importers().into_iter();
+    all.extend(importers.map(|(group, label, reading)| (group, label, Planted { reading, ..NONE })));
+    all.extend(faults_of_bytes());
     all
 }
 

@@ -24,6 +24,8 @@ pub fn has(group: &str) -> bool {
         ("pcap", cfg!(feature = "pcap")),
         // The switch is one of the options.
         ("fcs", cfg!(feature = "pcap")),
+        // What imports.
+        ("bytes", cfg!(all(feature = "import", feature = "pcap"))),
         // What the cases call.
         ("vectors", cfg!(all(feature = "import", feature = "tolerant"))),
     ];

@@ -24,6 +24,8 @@ struct Stats {
     spans: BTreeMap<usize, u64>,
     broken: u64,
     unfinished: BTreeMap<u64, u64>,
+    /// Files with bytes in spans, dropped, cleared and left.
+    went: [u64; 4],
     admitted: u64,
     named: u64,
     later: u64,
@@ -144,6 +146,8 @@ impl Stats {
         *self.spans.entry(class(spans.len())).or_default() += 1;
         self.broken += u64::from(broken > 0);
         *self.unfinished.entry(answer.values[2].min(4)).or_default() += 1;
+        let bytes = answer.bytes().unwrap_or_default();
+        self.went.iter_mut().zip(bytes).for_each(|(files, bytes)| *files += u64::from(bytes > 0));
         self.later += u64::from(pieces[0].dlci != own[0].dlci);
     }
 
@@ -163,6 +167,8 @@ impl Stats {
         println!("  DLCIs with pieces: {:?}", self.dlcis);
         println!("  of those answered, buffers of the DLCI: {:?}", self.stretches);
         println!("  spans (from): {:?}; with one that does not unpack {}", self.spans, self.broken);
+        let [_, dropped, cleared, left] = self.went;
+        println!("  with bytes dropped {dropped}, cleared {cleared}, left {left}");
         let Switched { numbers, wrong, counted, untried, other, fewer, lost } = &self.on;
         println!("  FCS checked: {numbers:?}; frames with a wrong one (from): {wrong:?}; counted (from): {counted:?}");
         println!(

@@ -17,27 +17,27 @@ use oracle::capture::Direction::{self, Rx, Tx};
 use oracle::capture::BTSNOOP_EPOCH_DELTA_US as EPOCH;
 
 /// The calls that can check the FCS.
-struct Switch<'a> {
+pub struct Switch<'a> {
     btsnoop: ByContainer<'a>,
     pcap: ByContainer<'a>,
     turn: usize,
 }
 
 impl<'a> Switch<'a> {
-    fn new(subject: &'a dyn Subject) -> Switch<'a> {
+    pub fn new(subject: &'a dyn Subject) -> Switch<'a> {
         let [btsnoop, pcap] =
             [Container::Btsnoop, Container::Pcap].map(|container| ByContainer::new(subject, container));
         Switch { btsnoop, pcap, turn: 0 }
     }
 
     /// How many calls were to be answered with each number.
-    fn answers(&self) -> [u64; NUMBERS] {
+    pub fn answers(&self) -> [u64; NUMBERS] {
         let [one, other] = [self.btsnoop.answers(), self.pcap.answers()];
         std::array::from_fn(|number| one[number] + other[number])
     }
 
     /// A file of one container.
-    fn one(&mut self, container: Container, file: &[u8], channel: u32) -> Checked {
+    pub fn one(&mut self, container: Container, file: &[u8], channel: u32) -> Checked {
         let calls = match container {
             Container::Btsnoop => &mut self.btsnoop,
             Container::Pcap => &mut self.pcap,
@@ -94,8 +94,8 @@ fn told(dlci: u8, frames: usize, wrong: u64, tail: usize) -> Answer {
     if frames == 0 || dlci == 0 {
         return Answer::refused(6, &[]);
     }
-    let list = items::span_list(&vec![(0, Rx, ack(0)); frames]);
-    Answer::done(&[dlci.into(), frames as u64, 0, tail as u64, list.len() as u64, wrong], list)
+    let (list, frames) = (items::span_list(&vec![(0, Rx, ack(0)); frames]), frames as u64);
+    Answer::imported([dlci.into(), frames, 0, tail as u64, wrong], [9 * frames, 0, 0, 0], list)
 }
 
 /// Every address and control, with these FCS bytes: alone, and behind a frame of the same DLCI.

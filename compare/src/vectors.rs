@@ -4,7 +4,7 @@
 use std::collections::BTreeMap;
 use std::path::PathBuf;
 
-use crate::answer::{Answer, Asked, Checked, Container, Difference, Subject, NO_CHANNEL};
+use crate::answer::{Answer, Asked, Checked, Container, Difference, Subject, NO_CHANNEL, VALUES};
 use crate::expected;
 use crate::import::{Import, Rule};
 use crate::model::{self, RIGHT};
@@ -117,8 +117,9 @@ fn bytes(hex: &str) -> Vec<u8> {
 }
 
 /// The answer of import that a line tells. After `ok` come DLCI, frames, unfinished and the tail offset; then the list, or
-/// the bytes written, `wrong` with the frames that have a wrong FCS, words with numbers that import does not answer, and
-/// `list=` with the list. A line without `wrong` does not ask for the FCS to be checked.
+/// the bytes written, `wrong` with the frames that have a wrong FCS, `bytes` with where the bytes went, words with numbers
+/// that import does not answer, and `list=` with the list. A line without `wrong` does not ask for the FCS to be checked,
+/// and does not tell where the bytes went.
 fn answer(line: &Line) -> Answer {
     let words: Vec<&str> = line.answer.split(' ').collect();
     let values = |words: &[&str]| -> Vec<u64> { words.iter().map(|n| n.parse().expect("a number")).collect() };
@@ -127,11 +128,11 @@ fn answer(line: &Line) -> Answer {
         return Answer::refused(numbers[0] as u32, &numbers[1..]);
     }
     let last = words[words.len() - 1];
-    match (last.strip_prefix("list="), words.iter().position(|word| *word == "wrong")) {
-        (Some(list), Some(wrong)) => {
-            Answer::done(&[values(&words[1..6]), values(&words[wrong + 1..wrong + 2])].concat(), bytes(list))
+    match (last.strip_prefix("list="), words.get(6), words.get(8)) {
+        (Some(list), Some(&"wrong"), Some(&"bytes")) => {
+            Answer::done(&values(&[&words[1..6], &words[7..8], &words[9..13]].concat()), bytes(list))
         }
-        (None, None) if !line.checks() => {
+        (None, None, _) if !line.checks() => {
             let list = bytes(last);
             let written = list.len() as u64;
             Answer::done(&[&values(&words[1..5])[..], &[written, 0]].concat(), list)
@@ -148,9 +149,24 @@ struct Tally {
     /// How many have the FCS checked, and of those that are answered how many count a wrong one.
     checked: u64,
     wrong: u64,
+    /// How many tell where the bytes went, and of those how many have some dropped, cleared and left.
+    bytes: u64,
+    lost: [u64; 3],
     /// How many told the number of records.
     records: u64,
     passed: BTreeMap<String, u64>,
+}
+
+impl Tally {
+    fn add(&mut self, line: &Line, told: &Answer) {
+        self.pcap += u64::from(line.container() == Container::Pcap);
+        self.checked += u64::from(line.checks());
+        self.wrong += u64::from(told.values.get(5).is_some_and(|wrong| *wrong > 0));
+        if let Some([_, lost @ ..]) = told.bytes() {
+            self.bytes += 1;
+            self.lost.iter_mut().zip(lost).for_each(|(cases, bytes)| *cases += u64::from(bytes > 0));
+        }
+    }
 }
 
 /// The calls held to the cases.
@@ -170,14 +186,12 @@ impl Vectors<'_> {
             return Ok(());
         }
         *self.tally.run.entry(line.file).or_default() += 1;
-        let expected = answer(line);
+        let told = answer(line);
         let file = bytes(line.get("file").expect("a file"));
         let channel = line.number_of("channel").map_or(NO_CHANNEL, |channel| channel as u32);
         let lent = (line.number_of("work_len"), line.number_of("out_len"));
-        readings(line, &file, channel, &expected, lent)?;
-        self.tally.pcap += u64::from(line.container() == Container::Pcap);
-        self.tally.checked += u64::from(line.checks());
-        self.tally.wrong += u64::from(expected.values.get(5).is_some_and(|wrong| *wrong > 0));
+        let expected = readings(line, &file, channel, &told, lent)?;
+        self.tally.add(line, &told);
         for import in self.imports.iter_mut().filter(|import| (import.container(), import.tolerant()) == asked) {
             import.checking(line.checks());
             let checked = match lent {
@@ -219,26 +233,31 @@ impl Vectors<'_> {
     }
 }
 
-/// The Rust and the model agree with the line, where nothing is lent that it names.
+/// The Rust and the model agree with the line, where nothing is lent that it names, and with each other. The line's answer;
+/// what it does not tell is the model's.
 fn readings(
     line: &Line,
     file: &[u8],
     channel: u32,
-    expected: &Answer,
+    told: &Answer,
     (work, out): (Option<usize>, Option<usize>),
-) -> Checked {
+) -> Result<Answer, Box<Difference>> {
     let (container, tolerant, checks) = (line.container(), line.tolerant(), line.checks());
-    let [off, on] = expected::import(container, file, channel, tolerant);
-    let rust = if checks { on } else { off };
     let asked = Asked { channel, tolerant, checks };
     let model = model::import_from(container, file, work.unwrap_or(usize::MAX), asked, RIGHT);
+    let mut expected = told.clone();
+    if told.number == 0 && model.values.len() == VALUES {
+        expected.values.extend(&model.values[told.values.len()..]);
+    }
+    let [off, on] = expected::import(container, file, channel, tolerant);
+    let rust = if checks { on } else { off };
     for (what, found) in [("the Rust", rust), ("the model", model)] {
         let found = found.within(out.unwrap_or(usize::MAX));
-        if *found != *expected && (work.is_none() || what == "the model") {
+        if *found != expected && (work.is_none() || what == "the model") {
             return Err(line.differs(what, format!("{expected:?}"), format!("{found:?}")));
         }
     }
-    Ok(())
+    Ok(expected)
 }
 
 /// Where the files are.
@@ -285,7 +304,7 @@ pub fn run(subject: &dyn Subject, options: &Options) -> Checked {
             name = UNNAMED;
         }
     }
-    let Tally { run, pcap, checked, wrong, records, passed } = vectors.tally;
+    let Tally { run, pcap, checked, wrong, bytes, lost, records, passed } = vectors.tally;
     if run.is_empty() {
         return Err(unusable("cases to run", "none".into()));
     }
@@ -297,6 +316,11 @@ pub fn run(subject: &dyn Subject, options: &Options) -> Checked {
             "vectors: {total} cases run, {pcap} of them of pcap, {checked} with the FCS checked, {wrong} with a wrong one \
              counted: {}",
             shown(run.iter().map(|(file, n)| format!("{file} {n}")).collect())
+        );
+        let [dropped, cleared, left] = lost;
+        println!(
+            "vectors: where the bytes went as {bytes} cases tell it, {dropped} with some dropped, {cleared} with some \
+             cleared, {left} with some left"
         );
         let total: u64 = passed.values().sum();
         let reasons = passed.iter().map(|(why, n)| format!("{why} {n}")).collect();
