@@ -143,7 +143,14 @@ fn judge_frame<'a>(file: &'a [u8], w: &'a [u8], row: usize, fcs: bool) -> Verdic
 }
 
 // What the PDU of a row is, by the channels of the whole file. q is a quarter of the file's length.
-pub fn judge<'a>(file: &'a [u8], w: &'a [u8], row: usize, q: usize, rows: usize, fcs: bool) -> Verdict
+pub fn judge<'a>(
+    file: &'a [u8],
+    w: &'a [u8],
+    row: usize,
+    q: usize,
+    rows: usize,
+    fcs: bool,
+) -> Verdict
     requires { ⌜ JudgePre (now file) (now w) row q rows ⌝ }
     ensures { λ r. ⌜ VerdictIs fcs (now (file .entry)) (now (w .entry)) row (3 * q) rows r ⌝ }
 {
