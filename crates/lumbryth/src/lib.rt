@@ -99,7 +99,8 @@ pub extern "C" fn lumbryth_capture_order(names: &[u8], out: &mut [u8], values: &
 // Imports a trace: writes the list of the spans of one DLCI to the front of out. The options are a list of numbers: a channel,
 // over 255 for any; 0 for the strict rule, any other for the tolerant one; 0 for btsnoop, any other for pcap; 0 for FCS unchecked,
 // any other for checked. A list that ends earlier asks for any channel, strictly, of btsnoop, unchecked. Values: DLCI, frames,
-// unfinished, tail offset, bytes written, frames with a wrong FCS on the DLCI, 0 where it is not checked.
+// unfinished, tail offset, bytes written, frames with a wrong FCS on the DLCI, 0 where it is not checked, and where its bytes
+// went: in spans, dropped, cleared, left.
 #[no_mangle]
 pub extern "C" fn lumbryth_import_with(
     file: &[u8],
