@@ -6,7 +6,7 @@ ghost use Rattle.acl.specs.Reading.{AclPre, AclIs, H4Is};
 use words::{Field, field16, narrow, wide16};
 
 // The fields of an ACL packet.
-#[derive(Drop)]
+#[derive(Clone, Copy)]
 pub struct Fragment {
     // 2 * link + direction
     pub key: u32,
@@ -17,7 +17,7 @@ pub struct Fragment {
     pub len: u32,
 }
 
-#[derive(Drop)]
+#[derive(Clone, Copy)]
 pub enum Acl {
     Packet(Fragment),
     Skipped,

@@ -1,4 +1,6 @@
 // Some bytes at once: their sum, how many lie between two values, whether none or all do, storing them elsewhere.
+#![tactic(auto)]
+
 ghost use Rattle.std.specs.Prelude.{◌≡◌, ◌+◌, ◌≤◌, not, length};
 ghost use Rattle.laws.specs.Stores.{Writes};
 ghost use Rattle.mdr.specs.Sum.{checksum_of};
@@ -22,7 +24,7 @@ pub fn one_within(b: u8, lo: u8, hi: u8) -> u8
 }
 
 // The sum of some bytes, wrapping in eight bits, and how many of them lie between two values.
-#[derive(Drop)]
+#[derive(Clone, Copy)]
 pub struct Totals {
     pub sum: u8,
     pub hits: usize,

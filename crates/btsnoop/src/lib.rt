@@ -11,7 +11,7 @@ use acl::{Acl, read_fragment, read_h4};
 use words::{get_be32, get_be64, same, wide32};
 
 // What the header says: a datalink that is read here, refusal 3, or refusal 4 with the number.
-#[derive(Drop)]
+#[derive(Clone, Copy)]
 pub enum Header {
     Datalink(u32),
     NotBtsnoop,

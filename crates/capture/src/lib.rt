@@ -18,7 +18,7 @@ use trace::{Container, Refusal};
 use words::wide32;
 
 // What a caller chooses, beside the file and the buffers.
-#[derive(Drop)]
+#[derive(Clone, Copy)]
 pub struct Options {
     pub container: Container,
     pub channel: Channel,
@@ -29,7 +29,7 @@ pub struct Options {
 
 // What import answers of the DLCI chosen: its frames, unfinished, the tail offset, bytes written, its UIH frames with a wrong FCS, and
 // where the bytes of its pieces went.
-#[derive(Drop)]
+#[derive(Clone, Copy)]
 pub struct Summary {
     pub dlci: u8,
     pub frames: usize,
@@ -44,7 +44,7 @@ pub struct Summary {
 }
 
 // What import answers.
-#[derive(Drop)]
+#[derive(Clone, Copy)]
 pub enum Imported {
     Spans(Summary),
     // 1 to 5, and pcap's 21 and 22
@@ -54,7 +54,7 @@ pub enum Imported {
 }
 
 // An answer, and how many pieces stand in work's table.
-#[derive(Drop)]
+#[derive(Clone, Copy)]
 pub struct Found {
     pub answer: Imported,
     pub pieces: usize,

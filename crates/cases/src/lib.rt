@@ -46,7 +46,7 @@ fn is_same(s: &[u8], c: Call, a: Answer, work: &mut [u8], out: &mut [u8]) -> boo
 }
 
 // Whether a case's call answers what the case says, and the place after the case.
-#[derive(Drop)]
+#[derive(Clone, Copy)]
 pub struct Replayed {
     pub same: bool,
     pub end: usize,

@@ -20,7 +20,7 @@ use tree::{Tree, clear, seat, seek_near};
 use words::{Field, field16, get32, put32, wide16, wide32};
 
 // A channel: data with this CID in this direction of a link.
-#[derive(Drop)]
+#[derive(Clone, Copy)]
 pub struct Triple {
     pub link: u32,
     pub direction: Direction,
@@ -29,7 +29,7 @@ pub struct Triple {
 
 // What a command says: the channel that it names, with a request's PSM, or with the source that a response answers and
 // whether it is a success.
-#[derive(Drop)]
+#[derive(Clone, Copy)]
 pub enum Signal {
     Request(Triple, u16),
     Response(Triple, u16, bool),
@@ -177,7 +177,7 @@ fn key_of(link: u32, direction: Direction, cid: u16) -> u64
 
 // What the table says of a channel: it is named, with its grade, 2 if a PSM 3 request admitted it, 1 if a response did,
 // else 0; or nothing names it.
-#[derive(Drop)]
+#[derive(Clone, Copy)]
 enum Standing {
     Named(u32),
     Unnamed,
@@ -270,7 +270,7 @@ fn note(w: &mut [u8], x: Tree, rows: usize, said: Signal) -> usize
 // ---- the signals of PDUs
 
 // What a command says, and the place after it.
-#[derive(Drop)]
+#[derive(Clone, Copy)]
 struct Step {
     said: Signal,
     next: usize,

@@ -8,7 +8,7 @@ use mdr::DataType;
 
 // What a look at a frame tells: its type byte, its sequence number, its payload's length, and the payload's first byte,
 // 0 if it has none.
-#[derive(Drop)]
+#[derive(Clone, Copy)]
 pub struct Frame {
     pub kind: u8,
     pub seq: u8,
@@ -75,7 +75,7 @@ fn find_in(first: usize, count: usize, b: u8) -> usize
 }
 
 // The table that a type selects.
-#[derive(Drop)]
+#[derive(Clone, Copy)]
 enum Table {
     One,
     Two,

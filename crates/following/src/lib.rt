@@ -13,14 +13,14 @@ use trace::{Format, Step, file_head, read_at};
 use words::get32;
 
 // Continuations with nothing open, and starts that give up a partial PDU.
-#[derive(Drop)]
+#[derive(Clone, Copy)]
 pub struct Partial {
     pub stray: Gap,
     pub given_up: Gap,
 }
 
 // How many packets are read, the tables of reassembly, and the signs so far.
-#[derive(Drop)]
+#[derive(Clone, Copy)]
 struct Pass {
     count: usize,
     tables: Tables,

@@ -18,7 +18,7 @@ use telling::{shown_refusal, store, tell};
 use trace::{Container, Format, Refusal};
 
 // What records show, what packets show, and what is open at the end.
-#[derive(Drop)]
+#[derive(Clone, Copy)]
 pub struct Signs {
     pub recorded: Recorded,
     pub partial: Partial,
@@ -26,7 +26,7 @@ pub struct Signs {
 }
 
 // The signs of a trace, or a refusal.
-#[derive(Drop)]
+#[derive(Clone, Copy)]
 pub enum Gaps {
     Found(Signs),
     Refused(Refusal),

@@ -26,7 +26,7 @@ fn index_of(base: usize) -> Tree
 }
 
 // How often a key was counted, and its row, or near if it has none.
-#[derive(Drop)]
+#[derive(Clone, Copy)]
 struct Count {
     value: u32,
     row: usize,
@@ -63,14 +63,14 @@ fn count_up(w: &mut [u8], base: usize, rows: usize, key: u64, near: usize) -> Se
 }
 
 // The rows of counts that were found last: of a link's sessions, and of its links on a DLCI. Pieces come in runs.
-#[derive(Drop)]
+#[derive(Clone, Copy)]
 pub struct Near {
     pub sessions: usize,
     pub links: usize,
 }
 
 // Rows of counts, and pieces.
-#[derive(Drop)]
+#[derive(Clone, Copy)]
 pub struct Taken {
     pub counts: usize,
     pub pieces: usize,
@@ -86,7 +86,7 @@ fn count_key(link: u32, dlci: u32) -> u64
 }
 
 // A piece, and the rows of its counts.
-#[derive(Drop)]
+#[derive(Clone, Copy)]
 struct Placed {
     part: Part,
     near: Near,
@@ -209,7 +209,7 @@ fn take_pdu(
 }
 
 // What all PDUs bring: so many pieces, and for each DLCI so many frames with a wrong FCS.
-#[derive(Drop)]
+#[derive(Clone, Copy)]
 pub struct Gathered {
     pub pieces: usize,
     pub wrong: [u32; 64],

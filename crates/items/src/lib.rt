@@ -6,14 +6,14 @@ ghost use Rattle.items.specs.Reading.{read_from};
 ghost use Rattle.items.specs.Walks.{test_of, step_at, pass_at, check_of, direction_of, Walks, SpanIs, NextIs, NameIs};
 
 // Which way a span went: from the headset (Rx) or to it (Tx).
-#[derive(Drop)]
+#[derive(Clone, Copy)]
 pub enum Direction {
     Rx,
     Tx,
 }
 
 // Which list it is: it says the kinds and bodies that the list may have.
-#[derive(Drop)]
+#[derive(Clone, Copy)]
 pub enum Listing {
     Spans,
     Names,
@@ -21,7 +21,7 @@ pub enum Listing {
 
 // What stands at a place of a list: an item, with its kind and the start and the end of its body; one that passes the
 // end; or the list's end.
-#[derive(Drop)]
+#[derive(Clone, Copy)]
 pub enum Step {
     Whole(u16, usize, usize),
     Passes,
@@ -29,14 +29,14 @@ pub enum Step {
 }
 
 // What a check answers: the number of items, or the offset at which the list is ill-formed.
-#[derive(Drop)]
+#[derive(Clone, Copy)]
 pub enum Checked {
     Well(usize),
     Ill(usize),
 }
 
 // A span in a list that was checked: its wire bytes stand from start to end, and the next item at end.
-#[derive(Drop)]
+#[derive(Clone, Copy)]
 pub struct SpanPart {
     pub direction: Direction,
     pub ms: u64,
@@ -45,7 +45,7 @@ pub struct SpanPart {
 }
 
 // A name in a list that was checked: it stands from start to end, and the next item at end.
-#[derive(Drop)]
+#[derive(Clone, Copy)]
 pub struct NamePart {
     pub start: usize,
     pub end: usize,
@@ -172,7 +172,7 @@ pub fn span_at(list: &[u8], at: usize) -> SpanPart
 }
 
 // What stands at a place of a list of spans that is not checked: a span, or an item at which the list is ill-formed.
-#[derive(Drop)]
+#[derive(Clone, Copy)]
 pub enum Next {
     Span(SpanPart),
     Ill,

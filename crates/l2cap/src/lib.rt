@@ -11,14 +11,14 @@ use fragments::{gather, half, len_of, link_packets, place_of};
 use words::{get32, get64, narrow, part, put32, put64, wide32};
 
 // What is open under a key: nothing, or the PDU that a packet began, and its bytes so far.
-#[derive(Drop)]
+#[derive(Clone, Copy)]
 pub enum Open {
     Closed,
     From(usize, usize),
 }
 
 // The rows of open PDUs, the PDUs made, and the end of the joined payloads.
-#[derive(Drop)]
+#[derive(Clone, Copy)]
 pub struct Tables {
     pub live: usize,
     pub made: usize,

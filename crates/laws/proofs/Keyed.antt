@@ -26,7 +26,7 @@ module _ {X Y : Type 0} (M : Machine X Y) where
   after_at m (x ∷ xs) k =
       rw (after_at (step M m x) xs k)
       (split_k (M.key x) k
-      (λ e. rw (← e, eq_eq_k (M.key x) (M.key x) refl))
+      (λ e. rw (e, eq_eq_k k k refl))
       (λ e. rw (ne_eq_k (M.key x) k, ne_eq_k k (M.key x) (λ q. e (sym q)))))
 
 -- ---- some keys alone

@@ -15,7 +15,7 @@ use signs::{Gap, lacks_packet, note};
 use trace::{Format, Step, file_head, read_at};
 
 // The packets met so far, and those of them that began what is open at the end.
-#[derive(Drop)]
+#[derive(Clone, Copy)]
 struct Met {
     packets: usize,
     left: Gap,

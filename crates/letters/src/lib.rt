@@ -87,7 +87,7 @@ fn all_pairs() -> [u16; 246]
 
 // ---- the parts of a name
 
-#[derive(Drop)]
+#[derive(Clone, Copy)]
 struct Place {
     start: usize,
     end: usize,
@@ -115,7 +115,7 @@ fn part_len(lens: &[u8], p: usize) -> usize
     words::wide(lens[p])
 }
 
-#[derive(Drop)]
+#[derive(Clone, Copy)]
 struct Halves {
     stem: usize,
     ending: usize,

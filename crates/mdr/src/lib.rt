@@ -1,9 +1,11 @@
 // The MDR wire frame: the type byte, and what packing, unpacking and a look at a wire answer. Packing and unpacking are crates above.
+#![tactic(auto)]
+
 ghost use Rattle.std.specs.Prelude.{◌≡◌};
 ghost use Rattle.mdr.specs.Types.{type_of, byte_of};
 
 // The frame's type. A value that is not listed is carried, so that a report can name it.
-#[derive(Drop)]
+#[derive(Clone, Copy)]
 pub enum DataType {
     Data,
     Ack,
@@ -72,7 +74,7 @@ pub fn to_wire(t: DataType) -> u8
 }
 
 // What unpacking answers: type, sequence number and payload length, or a refusal.
-#[derive(Drop)]
+#[derive(Clone, Copy)]
 pub enum Unpacked {
     Frame(u8, u8, usize),
     TooShort,
@@ -87,14 +89,14 @@ pub enum Unpacked {
 }
 
 // What a look at a wire answers: type, sequence number, payload length and the payload's first byte, or a refusal.
-#[derive(Drop)]
+#[derive(Clone, Copy)]
 pub enum Inspected {
     Sound(u8, u8, usize, u8),
     Unsound(Unpacked),
 }
 
 // What packing answers: the wire's length, or a refusal.
-#[derive(Drop)]
+#[derive(Clone, Copy)]
 pub enum Packed {
     Wrote(usize),
     TooLong,

@@ -30,7 +30,7 @@ fn note(w: &mut [u8], p: Plan, i: usize, r: u32, e: u32)
 
 // What is counted: the spans, how many buffers are not empty, the bytes of the pieces taken in, those cleared over the limit, and
 // those left in buffers.
-#[derive(Drop)]
+#[derive(Clone, Copy)]
 pub struct Sums {
     pub tally: Tally,
     pub unfinished: usize,

@@ -15,7 +15,7 @@ use letters::{name_len, put_name};
 use mdr::{Inspected, Unpacked};
 
 // What a look at a wire sees.
-#[derive(Drop)]
+#[derive(Clone, Copy)]
 pub enum Look {
     Seen(Frame),
     Unseen,
@@ -195,7 +195,7 @@ pub fn frame_name_len(ms: u64, counter: u32, f: Frame) -> usize
 // ---- naming
 
 // What naming answers: the name's length, or a refusal, as unpacking refuses.
-#[derive(Drop)]
+#[derive(Clone, Copy)]
 pub enum Named {
     Name(usize),
     TooShort,

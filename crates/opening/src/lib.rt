@@ -7,14 +7,14 @@ use packets::{Packets, read_packets};
 use trace::{Container, Format, Header, Refusal, read_header};
 
 // Where a record passes the end: refuse, or read what comes before it.
-#[derive(Drop)]
+#[derive(Clone, Copy)]
 pub enum Tail {
     Strict,
     Tolerant,
 }
 
 // How a trace opens: what its header says, how many packets it has and where its whole records end; or a refusal.
-#[derive(Drop)]
+#[derive(Clone, Copy)]
 pub enum Opened {
     Read(Format, Packets),
     Refused(Refusal),

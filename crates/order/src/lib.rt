@@ -15,7 +15,7 @@ use words::{copy_to, get32, put32};
 
 // What ordering answers: the length of the list written; the offset at which the list of names is ill-formed; the length
 // that the output would need.
-#[derive(Drop)]
+#[derive(Clone, Copy)]
 pub enum Ordered {
     Wrote(usize),
     IllFormed(usize),
@@ -157,7 +157,7 @@ fn runs(names: &[u8], up: bool) -> bool
 // ---- the call
 
 // How the names of a list stand: in order, wholly the other way round, or neither, with their number.
-#[derive(Drop)]
+#[derive(Clone, Copy)]
 enum Way {
     Up,
     Down,
@@ -165,7 +165,7 @@ enum Way {
 }
 
 // What a list is: names, or ill-formed at an offset.
-#[derive(Drop)]
+#[derive(Clone, Copy)]
 enum Read {
     Names(Way),
     Ill(usize),

@@ -65,7 +65,7 @@ fn add_packet(
 }
 
 // What reading a file finds: how many packets, and where the first record starts that passes the end.
-#[derive(Drop)]
+#[derive(Clone, Copy)]
 pub struct Packets {
     pub count: usize,
     pub tail: usize,

@@ -98,7 +98,7 @@ fn pair_block(part: &[u8], out: &mut [u8], at: usize) -> usize
 }
 
 // How many bytes were escaped, and the place after what was written.
-#[derive(Drop)]
+#[derive(Clone, Copy)]
 struct Ran {
     used: usize,
     at: usize,

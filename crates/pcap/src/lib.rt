@@ -10,14 +10,14 @@ use acl::{Acl, read_h4};
 use words::{get_be32, get_le32, same, wide32};
 
 // How the numbers of a file are written, by its magic: the highest byte first, fractions of a second in nanoseconds.
-#[derive(Drop)]
+#[derive(Clone, Copy)]
 pub struct Encoding {
     pub big: bool,
     pub nano: bool,
 }
 
 // What the header says: how numbers are written, refusal 21, or refusal 22 with the link type.
-#[derive(Drop)]
+#[derive(Clone, Copy)]
 pub enum Header {
     Read(Encoding),
     NotPcap,

@@ -13,7 +13,7 @@ use stretches::list_open;
 use trace::Refusal;
 
 // An answer's number, and how many stretches stand at the start of work.
-#[derive(Drop)]
+#[derive(Clone, Copy)]
 pub struct Told {
     pub number: u32,
     pub listed: usize,
@@ -56,7 +56,7 @@ pub fn places_by(
 }
 
 // An answer, and how many stretches stand at the start of work.
-#[derive(Drop)]
+#[derive(Clone, Copy)]
 pub struct Placed {
     pub answer: Imported,
     pub listed: usize,

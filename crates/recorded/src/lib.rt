@@ -13,7 +13,7 @@ use trace::{Format, Step, file_head, read_at};
 use words::get_be32;
 
 // The signs: records stored short, the recorder's drops, ACL packets skipped because data is not there, records of zeros.
-#[derive(Drop)]
+#[derive(Clone, Copy)]
 pub struct Recorded {
     pub short: Gap,
     pub dropped: Gap,
@@ -22,7 +22,7 @@ pub struct Recorded {
 }
 
 // The signs up to a place, and the recorder's count in the last record before it.
-#[derive(Drop)]
+#[derive(Clone, Copy)]
 struct Seen {
     signs: Recorded,
     last: u32,

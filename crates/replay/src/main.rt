@@ -8,7 +8,7 @@ use libc::STDOUT_FILENO;
 use samples::part;
 use search::find_byte;
 
-#[derive(Drop)]
+#[derive(Clone, Copy)]
 struct Totals {
     cases: u64,
     differences: u64,

@@ -11,7 +11,7 @@ use uih::{Frame, Uih, read_frame};
 use words::{get32, put32, put64, wide32};
 
 // A piece: its row's numbers but the time.
-#[derive(Drop)]
+#[derive(Clone, Copy)]
 pub struct Part {
     pub dlci: u32,
     // 2 * link + direction
@@ -66,7 +66,7 @@ pub fn put_piece(w: &mut [u8], at: usize, p: Part, time: u64)
 }
 
 // Information in the file, or in work where joined is 1.
-#[derive(Drop)]
+#[derive(Clone, Copy)]
 pub struct Info {
     pub dlci: u32,
     pub start: usize,
@@ -75,7 +75,7 @@ pub struct Info {
 }
 
 // What a PDU is once it is judged.
-#[derive(Drop)]
+#[derive(Clone, Copy)]
 pub enum Verdict {
     // a PSM 3 request
     Asks,

@@ -71,7 +71,7 @@ pub fn part(s: &[u8], at: usize, size: usize) -> &[u8]
 }
 
 // Bytes with their length before them: where they stand, and the place after them.
-#[derive(Drop)]
+#[derive(Clone, Copy)]
 struct Counted {
     start: usize,
     size: usize,
@@ -91,7 +91,7 @@ fn read_counted(s: &[u8], at: usize) -> Counted
 }
 
 // A call, and the place after it.
-#[derive(Drop)]
+#[derive(Clone, Copy)]
 pub struct Call {
     pub op: u8,
     // Where the op's numbers stand.
@@ -159,7 +159,7 @@ pub fn read_call(s: &[u8], at: usize) -> Call
 }
 
 // The answer that a call has to give, with so much output lent, and the place after it.
-#[derive(Drop)]
+#[derive(Clone, Copy)]
 pub struct Answer {
     pub lent: usize,
     pub number: u32,

@@ -1,4 +1,6 @@
 // The search for a byte in a slice, by blocks: a block that has none is passed by without an early way out.
+#![tactic(auto)]
+
 ghost use Rattle.std.specs.Prelude.{◌≡◌, ◌+◌, ◌≤◌, length, cond};
 ghost use Rattle.search.specs.Seek.{seek};
 ghost use Rattle.search.specs.Steps.{OneIf, Without, Among, Short, Passed, Sought};

@@ -14,7 +14,7 @@ use trace::Format;
 use words::{Field, field16, get_be32, wide16};
 
 // How often a sign comes, and the byte at which the record starts that shows it first; 0 if none does.
-#[derive(Drop)]
+#[derive(Clone, Copy)]
 pub struct Gap {
     pub many: u64,
     pub first: u64,

@@ -27,7 +27,7 @@ pub fn name_of<'a>(names: &'a [u8], place: u32) -> &'a [u8]
 }
 
 // A name in a list: its place, and the rank of its counter, which is read once for many comparisons.
-#[derive(Drop)]
+#[derive(Clone, Copy)]
 pub struct Head {
     pub place: u32,
     pub rank: usize,

@@ -10,7 +10,7 @@ use search::{find_byte, find_soon};
 use unpacking::unpacks;
 
 // What stands next in a buffer: a span, with its start and its end; or what is left, from its start on.
-#[derive(Drop)]
+#[derive(Clone, Copy)]
 pub enum Next {
     Span(usize, usize),
     Rest(usize),
@@ -73,7 +73,7 @@ pub fn next_span(buffer: &[u8], pos: usize) -> Next
 
 // What is counted of spans: how many, the bytes of their list, and 1 if one of them unpacks. All fields are of one width,
 // so that no padding is copied with them.
-#[derive(Drop)]
+#[derive(Clone, Copy)]
 pub struct Tally {
     pub count: usize,
     pub bytes: usize,
@@ -81,7 +81,7 @@ pub struct Tally {
 }
 
 // What is counted of a buffer, and how long the rest of it is.
-#[derive(Drop)]
+#[derive(Clone, Copy)]
 pub struct Counted {
     pub tally: Tally,
     pub rest: usize,
@@ -141,7 +141,7 @@ pub fn count_part(buffer: &[u8], t: Tally) -> Counted
 // ---- a part behind what is held
 
 // What a scan of a part finds: the spans counted, the place of its first 3C or its length, and how long the rest is.
-#[derive(Drop)]
+#[derive(Clone, Copy)]
 pub struct Scanned {
     pub tally: Tally,
     pub end: usize,
@@ -149,7 +149,7 @@ pub struct Scanned {
 }
 
 // The spans counted when the first is, and how many bytes are passed by then.
-#[derive(Drop)]
+#[derive(Clone, Copy)]
 struct First {
     tally: Tally,
     skip: usize,
@@ -248,7 +248,7 @@ pub fn scan(part: &[u8], h: usize, t: Tally) -> Scanned
 // ---- writing
 
 // Where the list goes on, and how long the rest of the buffer is.
-#[derive(Drop)]
+#[derive(Clone, Copy)]
 pub struct Wrote {
     pub at: usize,
     pub rest: usize,

@@ -15,7 +15,7 @@ use words::{copy_to, get32, least, part};
 
 // Where the tables lie in work: the pieces, what links them, the lengths held and the places of 3C by words, the area by
 // bytes. And the DLCI.
-#[derive(Drop)]
+#[derive(Clone, Copy)]
 pub struct Plan {
     pub rows: usize,
     pub n: usize,

@@ -10,7 +10,7 @@ use words::get32;
 use writing::write_spans;
 
 // The channel that is asked for: any, or one.
-#[derive(Drop)]
+#[derive(Clone, Copy)]
 pub enum Channel {
     Any,
     Only(u8),
@@ -18,7 +18,7 @@ pub enum Channel {
 
 // A DLCI with what is counted of it: its spans, the bytes of their list, its buffers that are not empty at the end, and where
 // the bytes of its pieces went.
-#[derive(Drop)]
+#[derive(Clone, Copy)]
 pub struct Stream {
     pub dlci: u8,
     pub spans: usize,
@@ -30,7 +30,7 @@ pub struct Stream {
     pub left: usize,
 }
 
-#[derive(Drop)]
+#[derive(Clone, Copy)]
 pub enum Choice {
     Nothing,
     Chosen(Stream),
@@ -130,7 +130,7 @@ pub fn choose_dlci(file: &[u8], w: &mut [u8], n: usize, channel: Channel) -> Cho
 }
 
 // What the call answers: 6 and 7 by number, or the DLCI with what is counted of it.
-#[derive(Drop)]
+#[derive(Clone, Copy)]
 pub enum Listed {
     NoStream,
     OutShort(usize),

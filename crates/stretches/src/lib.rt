@@ -11,7 +11,7 @@ use words::{get32, put32};
 // A stretch and direction with bytes held: 2 * link + direction, where a link is 4096 times the adapter's index plus the handle;
 // CID, DLCI, the sessions and links of that link, and the number of bytes held.
 #[repr(C)]
-#[derive(Drop)]
+#[derive(Clone, Copy)]
 pub struct Stretch {
     pub way: u32,
     pub cid: u32,

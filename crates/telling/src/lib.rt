@@ -10,7 +10,7 @@ ghost use Rattle.order.specs.Order.{told_ordered};
 ghost use Rattle.telling.specs.Telling.{number_of, values_of, stored, put_at, Shows, Tells};
 
 // An answer's number, and its values: the first count of a, b and c.
-#[derive(Drop)]
+#[derive(Clone, Copy)]
 pub struct Shown {
     pub number: u32,
     pub count: usize,

@@ -10,14 +10,14 @@ ghost use Rattle.trace.specs.Listings.{WalkedTo};
 use pcap::Encoding;
 
 // The container of a trace's file. The caller says which; nothing is guessed.
-#[derive(Drop)]
+#[derive(Clone, Copy)]
 pub enum Container {
     Btsnoop,
     Pcap,
 }
 
 // What a header says of how the records after it are read.
-#[derive(Drop)]
+#[derive(Clone, Copy)]
 pub enum Format {
     // a btsnoop file: its datalink
     Btsnoop(u32),
@@ -26,7 +26,7 @@ pub enum Format {
 }
 
 // Why a trace is not read.
-#[derive(Drop)]
+#[derive(Clone, Copy)]
 pub enum Refusal {
     FileLong,
     WorkShort,
@@ -38,7 +38,7 @@ pub enum Refusal {
 }
 
 // What reading a header answers.
-#[derive(Drop)]
+#[derive(Clone, Copy)]
 pub enum Header {
     Read(Format),
     Refused(Refusal),
@@ -110,14 +110,14 @@ pub fn size_at(file: &[u8], at: usize, format: Format) -> usize
 }
 
 // A reader over the lent capture: the next record starts at an offset of it.
-#[derive(Drop)]
+#[derive(Clone, Copy)]
 pub struct Reader<'a> {
     pub file: &'a [u8],
     pub at: usize,
 }
 
 // What a reader finds at its offset.
-#[derive(Drop)]
+#[derive(Clone, Copy)]
 pub enum Step {
     // a whole record: where it ends
     Record(usize),
@@ -178,7 +178,7 @@ pub fn read_at(file: &[u8], at: usize, format: Format) -> Step
 }
 
 // What walking the records finds: how many there are, and the tail offset.
-#[derive(Drop)]
+#[derive(Clone, Copy)]
 pub struct Walked {
     pub count: usize,
     pub tail: usize,
@@ -218,7 +218,7 @@ fn walk_records(file: &[u8], starts: &mut [u64], format: Format) -> Walked
 }
 
 // The answer of a listing: how many records and the tail offset, or a refusal.
-#[derive(Drop)]
+#[derive(Clone, Copy)]
 pub enum Listed {
     Records(usize, usize),
     Refused(Refusal),

@@ -7,7 +7,7 @@ ghost use Rattle.uih.specs.Reading.{UihPre, FrameIs, LengthIs};
 use words::wide;
 
 // A UIH frame in a payload: its DLCI, where its information starts, and its length.
-#[derive(Drop)]
+#[derive(Clone, Copy)]
 pub struct Uih {
     pub dlci: u32,
     pub start: usize,
@@ -15,7 +15,7 @@ pub struct Uih {
 }
 
 // Reading a UIH frame tells three things apart: good, wrong FCS, not UIH (SABM, or other).
-#[derive(Drop)]
+#[derive(Clone, Copy)]
 pub enum Frame {
     // the DLCI
     Sabm(u32),
@@ -45,7 +45,7 @@ fn is_uih(control: u8) -> bool
 }
 
 // A length field: how many bytes it has, and its value.
-#[derive(Drop)]
+#[derive(Clone, Copy)]
 struct Length {
     width: usize,
     value: usize,

@@ -37,7 +37,7 @@ fn count_breaks(part: &[u8]) -> u8
     found
 }
 
-#[derive(Drop)]
+#[derive(Clone, Copy)]
 pub enum Flaw {
     Sound,
     Trailing,
@@ -100,7 +100,7 @@ fn is_sound(part: &[u8], sentries: usize) -> bool
 
 // What a first look at an escaped part tells: escaping is not broken before a place, and if it is broken nowhere, these
 // are the bytes' sum and how many of them are 3D.
-#[derive(Drop)]
+#[derive(Clone, Copy)]
 pub struct Scanned {
     pub sum: u8,
     pub hits: usize,
@@ -140,7 +140,7 @@ pub fn scan(s: &[u8]) -> Scanned
 // ---- the bytes that it stands for
 
 // A byte of a sound escaped part, and the place after it.
-#[derive(Drop)]
+#[derive(Clone, Copy)]
 pub struct Got {
     pub byte: u8,
     pub next: usize,

@@ -31,7 +31,7 @@ fn join(a: u8, b: u8, c: u8, d: u8) -> u64
 }
 
 // The first six bytes, and where the payload starts.
-#[derive(Drop)]
+#[derive(Clone, Copy)]
 struct Header {
     kind: u8,
     seq: u8,
@@ -92,7 +92,7 @@ fn last_byte(s: &[u8]) -> u8
 // ---- reading
 
 // A frame that was found sound, and where its payload starts in the escaped part.
-#[derive(Drop)]
+#[derive(Clone, Copy)]
 struct Head {
     kind: u8,
     seq: u8,
@@ -102,7 +102,7 @@ struct Head {
     bare: bool,
 }
 
-#[derive(Drop)]
+#[derive(Clone, Copy)]
 enum Reading {
     Whole(Head),
     Refused(Unpacked),

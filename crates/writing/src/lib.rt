@@ -91,7 +91,7 @@ fn write_closed<'a>(
 }
 
 // Where the list goes on, and from where on in the piece.
-#[derive(Drop)]
+#[derive(Clone, Copy)]
 struct Onward {
     at: usize,
     skip: usize,

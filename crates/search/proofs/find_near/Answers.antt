@@ -1,0 +1,16 @@
+use Prim.Native.Nat.{◌-◌}
+use Rattle.search.proofs.Searching.{seeking_start, seeking_hit, seeking_miss, seeking_found}
+use native.Mathlib.Omega.{arith}
+use Rattle.search.proofs.find_near.Goals as goal
+
+pub loop-i-init : goal.loop-i-init
+loop-i-init c = search seeking_start
+
+pub returns-then-s-i : goal.returns-then-s-i
+returns-then-s-i c = seeking_hit _ _ _ _ c.loop-i.invariant (omega arith) c.if-s-i.true
+
+pub loop-i-preserved : goal.loop-i-preserved
+loop-i-preserved c = seeking_miss _ _ _ _ c.loop-i.invariant (omega arith) c.if-s-i.false
+
+pub returns : goal.returns
+returns c = search seeking_found

@@ -1,0 +1,16 @@
+use Rattle.search.proofs.Searching.{placing_start, placing_hit, placing_miss, placing_end}
+use Rattle.search.proofs.place_of.Reads as reads
+use Rattle.search.proofs.place_of.Lts as lts
+use Rattle.search.proofs.place_of.Goals as goal
+
+pub loop-i-init : goal.loop-i-init
+loop-i-init c = search placing_start
+
+pub loop-i-preserved-then-part-i : goal.loop-i-preserved-then-part-i
+loop-i-preserved-then-part-i c = search placing_hit
+
+pub loop-i-preserved : goal.loop-i-preserved
+loop-i-preserved c = search placing_miss
+
+pub returns : goal.returns
+returns c = search placing_end

@@ -1,0 +1,10 @@
+use Rattle.search.proofs.Searching.{Placing}
+use Rattle.search.proofs.place_of.Reads as reads
+use Rattle.search.proofs.place_of.Lts as lts
+use Rattle.search.proofs.place_of.Given as goal
+
+abbrev pub invariant-loop-i : goal.invariant-loop-i
+invariant-loop-i l = Placing l.part l.x l.best l.i
+
+abbrev pub decreases-loop-i : goal.decreases-loop-i
+decreases-loop-i l = l.i

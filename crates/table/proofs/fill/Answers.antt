@@ -1,0 +1,18 @@
+use Rattle.table.proofs.Chain.{fill_start, fill_put, fill_turn, fill_end}
+use Prim.Native.Nat.{◌-◌}
+use Rattle.table.proofs.fill.Reads as reads
+use Rattle.table.proofs.fill.Lts as lts
+use Rattle.words.proofs.put32.Reads as put32_reads
+use Rattle.table.proofs.fill.Goals as goal
+
+pub loop-i-init : goal.loop-i-init
+loop-i-init c = search fill_start
+
+pub put32-requires : goal.put32-requires
+put32-requires c = search fill_put
+
+pub loop-i-preserved : goal.loop-i-preserved
+loop-i-preserved c = search fill_turn
+
+pub returns : goal.returns
+returns c = search fill_end
