@@ -14,7 +14,7 @@ use Rattle.commands.specs.Labels.{type_name, command_name}
 use Rattle.names.specs.Names.{way_name, frame_name, name_len}
 use Rattle.names.specs.Parts.{head_of, part_of, type_part, seq_part, command_part, NameLen}
 use Rattle.names.proofs.Parts.{name_parts}
-use Rattle.commands.specs.Numbers.{name_at, NameLong, Spot}
+use Rattle.commands.specs.Run.{name_at, Spot}
 use Rattle.mdr.specs.declared.DataType.{DataType}
 use Rattle.commands.specs.declared.Frame.{Frame}
 
@@ -59,9 +59,9 @@ command_long f i s = rw (← s.is)
 
 -- ---- its length
 
-pub name_length : (ms counter : ℕ) (f : Frame) (t : DataType) (i j k m z x y : ℕ) → t ≡ type_of f.kind → Spot i (type_name t) → Spot j (command_name f) → DigitCount counter k → DigitCount ms m → z ≡ 6 - k → NameLong i x → NameLong j y → NameLen ms counter f (43 + m + z + k + x + y)
+pub name_length : (ms counter : ℕ) (f : Frame) (t : DataType) (i j k m z x y : ℕ) → t ≡ type_of f.kind → Spot i (type_name t) → Spot j (command_name f) → DigitCount counter k → DigitCount ms m → z ≡ 6 - k → (x ≡ length (name_at i)) × (x ≤ 4406) → (y ≡ length (name_at j)) × (y ≤ 4406) → NameLen ms counter f (43 + m + z + k + x + y)
 unfolding name_len
 name_length ms counter f t i j k m z x y p s u c d q v w = record {
-  is = omega (arith, type_long f.kind i t p s, command_long f j u, length_six counter, v.is, w.is);
-  small = omega (arith, v.small, w.small);
+  is = omega (arith, type_long f.kind i t p s, command_long f j u, length_six counter);
+  small = omega arith;
 }

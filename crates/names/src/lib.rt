@@ -3,15 +3,14 @@ ghost use Rattle.std.specs.Prelude.{◌≡◌, ◌+◌, ◌-◌, ◌≤◌, ◌<
 ghost use Rattle.laws.specs.Answers.{Meets};
 ghost use Rattle.laws.specs.Stores.{Writes};
 ghost use Rattle.items.specs.Items.{rx_of};
-ghost use Rattle.commands.specs.Numbers.{name_at};
+ghost use Rattle.commands.specs.Run.{name_at};
 ghost use Rattle.names.specs.Names.{way_name, frame_name, name_len, given, look_at, fixture_name};
 ghost use Rattle.names.specs.Told.{told_named, refusal_of};
 ghost use Rattle.names.specs.Parts.{head_of, head_len, part_of, part_len, type_part, type_len, seq_part, command_part, command_len, NameLen};
 ghost use Rattle.names.specs.Digits.{hex_digit, hex2, decimal, decimal6, DigitCount};
 
-use commands::{Frame, command_name, data_type_name};
+use commands::{Frame, command_name, data_type_name, name_len, put_name};
 use items::Direction;
-use letters::{name_len, put_name};
 use mdr::{Inspected, Unpacked};
 
 // What a look at a wire sees.

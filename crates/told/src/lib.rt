@@ -65,7 +65,7 @@ pub fn name_told(
 pub fn command_told(name: &[u8]) -> u32
     ensures { result ≡ bit (is_command_name name.now) }
 {
-    if letters::is_command_name(name) {
+    if commands::is_command_name(name) {
         return 1;
     }
     0

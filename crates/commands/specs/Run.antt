@@ -1,9 +1,11 @@
--- All names by number: those of both tables, of the types, UNKNOWN and NO_COMMAND; and the number of a byte's name.
-use Rattle.std.specs.Prelude.{◌≡◌, Bool, true, false, cond, List, [], ◌∷◌, ◌++◌, map, ℕ, suc, ◌+◌, ◌<◌, ltb, eqb, length, get_or, take, drop}
+-- All names in one run of letters, each with its start and its length: those of both tables, of the types, UNKNOWN and NO_COMMAND.
+use Rattle.std.specs.Prelude.{◌≡◌, Bool, true, false, cond, List, [], ◌∷◌, ◌++◌, map, ℕ, suc, ◌+◌, ◌-◌, ◌<◌, ◌≤◌, leb, ltb, eqb, length, get_or, take, drop}
+use Rattle.laws.specs.Lists.{flat}
 use Rattle.mdr.specs.Types.{kinds}
 use Rattle.commands.specs.Text.{ascii}
 use Rattle.commands.specs.Commands.{Entry, t1, t2}
 use Rattle.commands.specs.Labels.{type_name}
+use Rattle.commands.specs.declared.Place.{Place}
 use Rattle.commands.specs.declared.Table.{Table}
 use Rattle.commands.specs.declared.Table.TheVariants.{One, Two, Neither}
 
@@ -27,25 +29,54 @@ others = map type_name kinds ++ (ascii "UNKNOWN" ∷ ascii "NO_COMMAND" ∷ [])
 unfoldable pub all_names : List (List ℕ)
 all_names = commands ++ others
 
+-- one after another
+unfoldable pub all_letters : List ℕ
+all_letters = flat all_names
+
+abbrev pub starts_from : ℕ → List (List ℕ) → List ℕ
+starts_from at [] = []
+starts_from at (l ∷ ls) = at ∷ starts_from (at + length l) ls
+
+unfoldable pub all_starts : List ℕ
+all_starts = starts_from 0 all_names
+
+unfoldable pub all_lens : List ℕ
+all_lens = map length all_names
+
 -- the name with a number
 unfoldable pub name_at : ℕ → List ℕ
 name_at i = get_or all_names i []
-
--- how long it is, with a bound that spares callers a sum that wraps
-pub record NameLong (i r : ℕ) : Type 0 where
-  pub is : r ≡ length (name_at i)
-  pub small : r < 511
 
 -- the name with this number is this one
 pub record Spot (i : ℕ) (name : List ℕ) : Type 0 where
   pub within : i < 246
   pub is : name_at i ≡ name
 
+-- where a name stands in the run
+pub record PlaceIs (i : ℕ) (p : Place) : Type 0 where
+  pub order : p.start ≤ p.end
+  pub within : p.end ≤ 4406
+  pub spells : take (p.end - p.start) (drop p.start all_letters) ≡ name_at i
+
+-- the run of letters with its starts and lengths
+pub record Tables (l s n : List ℕ) : Type 0 where
+  pub letters : l ≡ all_letters
+  pub starts : s ≡ all_starts
+  pub lens : n ≡ all_lens
+
+-- ---- tests that are computed over a whole table
+
 -- each number is below the next
 abbrev pub rising : List ℕ → Bool
 rising [] = true
 rising (x ∷ []) = true
 rising (x ∷ y ∷ l) = cond (ltb x y) (rising (y ∷ l)) false
+
+-- each start and length stay within so many letters
+abbrev pub inside : ℕ → List ℕ → List ℕ → Bool
+inside n [] ls = true
+inside n (s ∷ ss) [] = false
+inside n (s ∷ ss) (l ∷ ls) = cond (leb (s + l) n) (inside n ss ls) false
 
 -- the first place of a number in a list, or the list's length
 unfoldable pub index_in : ℕ → List ℕ → ℕ

@@ -1,0 +1,22 @@
+use Prim.Native.Nat.{◌-◌}
+use Rattle.classes.proofs.Chains.{linking_start, linking_row, linking_pre, linking_turn, linking_end}
+use Rattle.classes.proofs.link_rows.Reads as reads
+use Rattle.classes.proofs.link_rows.Lts as lts
+use Rattle.classes.proofs.note_row.Reads as note_row_reads
+use Rattle.table.proofs.link.Reads as link_reads
+use Rattle.classes.proofs.link_rows.Goals as goal
+
+pub loop-i-init : goal.loop-i-init
+loop-i-init c = search linking_start
+
+pub note_row-h-requires : goal.note_row-h-requires
+note_row-h-requires c = search linking_row
+
+pub link-requires : goal.link-requires
+link-requires c = search linking_pre
+
+pub loop-i-preserved : goal.loop-i-preserved
+loop-i-preserved c = search linking_turn
+
+pub returns : goal.returns
+returns c = search linking_end

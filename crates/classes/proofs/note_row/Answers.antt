@@ -1,0 +1,19 @@
+use Rattle.classes.proofs.Walking.{note_same, note_met, note_put, note_free}
+use Rattle.classes.proofs.note_row.Reads as reads
+use Rattle.classes.proofs.note_row.Lts as lts
+use Rattle.classes.proofs.place.Reads as place_reads
+use Rattle.classes.proofs.repeats.Reads as repeats_reads
+use Rattle.words.proofs.put32.Reads as put32_reads
+use Rattle.classes.proofs.note_row.Goals as goal
+
+pub returns-then-repeats : goal.returns-then-repeats
+returns-then-repeats c = search note_same
+
+pub put32-requires : goal.put32-requires
+put32-requires c = search note_put
+
+pub returns-in-Met : goal.returns-in-Met
+returns-in-Met c = search note_met
+
+pub returns-in-Free : goal.returns-in-Free
+returns-in-Free c = search note_free

@@ -1,0 +1,13 @@
+use Rattle.commands.specs.Run.{all_lens, all_names, commands, others}
+use Rattle.commands.specs.Labels.{type_name}
+use Rattle.commands.specs.Commands.{t1, t2}
+use mathlib.Core.Path.{refl}
+use Rattle.commands.proofs.all_lens.Statement.{statement}
+use Rattle.commands.proofs.all_lens.Tie as tie
+
+returns : tie.Need-returns
+unfolding all_lens all_names commands others type_name t1 t2
+returns c = refl
+
+pub all_lens_spec : {M : Type 1} → statement M
+all_lens_spec = tie.close (tie.spec returns)

@@ -1,0 +1,13 @@
+use Rattle.commands.specs.Run.{all_letters, all_names, commands, others}
+use Rattle.commands.specs.Labels.{type_name}
+use Rattle.commands.specs.Commands.{t1, t2}
+use mathlib.Core.Path.{refl}
+use Rattle.commands.proofs.all_letters.Statement.{statement}
+use Rattle.commands.proofs.all_letters.Tie as tie
+
+returns : tie.Need-returns
+unfolding all_letters all_names commands others type_name t1 t2
+returns c = refl
+
+pub all_letters_spec : {M : Type 1} → statement M
+all_letters_spec = tie.close (tie.spec returns)

@@ -1,0 +1,13 @@
+use Rattle.commands.specs.Run.{all_starts, all_names, commands, others}
+use Rattle.commands.specs.Labels.{type_name}
+use Rattle.commands.specs.Commands.{t1, t2}
+use mathlib.Core.Path.{refl}
+use Rattle.commands.proofs.all_starts.Statement.{statement}
+use Rattle.commands.proofs.all_starts.Tie as tie
+
+returns : tie.Need-returns
+unfolding all_starts all_names commands others type_name t1 t2
+returns c = refl
+
+pub all_starts_spec : {M : Type 1} → statement M
+all_starts_spec = tie.close (tie.spec returns)

@@ -1,0 +1,17 @@
+use Rattle.tree.proofs.Seats.{near_row, near_none}
+use Rattle.tree.proofs.nearby.Reads as reads
+use Rattle.tree.proofs.nearby.Lts as lts
+use Rattle.tree.proofs.sits.Reads as sits_reads
+use Rattle.tree.proofs.nearby.Goals as goal
+
+pub returns-then-sits : goal.returns-then-sits
+returns-then-sits c = search near_row
+
+pub returns-then-sits-2 : goal.returns-then-sits-2
+returns-then-sits-2 c = search near_row
+
+pub returns-else-sits-2 : goal.returns-else-sits-2
+returns-else-sits-2 c = search near_none
+
+pub returns-else-near-count : goal.returns-else-near-count
+returns-else-near-count c = search near_none

@@ -1,0 +1,29 @@
+use Prim.Native.Nat.{◌-◌}
+use Rattle.tree.proofs.Index.{seeking_start, seeking_end, seeking_key, seeking_hit, seeking_less, seeking_turn}
+use Rattle.tree.proofs.place.Reads as reads
+use Rattle.tree.proofs.place.Lts as lts
+use Rattle.tree.proofs.low_bit.Reads as low_bit_reads
+use Rattle.tree.proofs.mixed.Reads as mixed_reads
+use Rattle.tree.proofs.tree_of.Reads as tree_of_reads
+use Rattle.words.proofs.get32.Reads as get32_reads
+use Rattle.words.proofs.get64.Reads as get64_reads
+use Rattle.words.proofs.wide32.Reads as wide32_reads
+use Rattle.tree.proofs.place.Goals as goal
+
+pub loop-x-init : goal.loop-x-init
+loop-x-init c = search seeking_start
+
+pub returns-then-v-eq0 : goal.returns-then-v-eq0
+returns-then-v-eq0 c = search seeking_end
+
+pub get64-requires : goal.get64-requires
+get64-requires c = search seeking_key
+
+pub returns-then-get64-key : goal.returns-then-get64-key
+returns-then-get64-key c = search seeking_hit
+
+pub loop-x-smaller : goal.loop-x-smaller
+loop-x-smaller c = search seeking_less
+
+pub loop-x-preserved : goal.loop-x-preserved
+loop-x-preserved c = search seeking_turn

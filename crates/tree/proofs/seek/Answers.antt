@@ -1,0 +1,14 @@
+use Rattle.tree.proofs.Index.{seek_none, seek_taken, seek_free}
+use Rattle.tree.proofs.seek.Reads as reads
+use Rattle.tree.proofs.seek.Lts as lts
+use Rattle.tree.proofs.place.Reads as place_reads
+use Rattle.tree.proofs.seek.Goals as goal
+
+pub returns-then-count-eq0 : goal.returns-then-count-eq0
+returns-then-count-eq0 c = search seek_none
+
+pub returns-in-Taken : goal.returns-in-Taken
+returns-in-Taken c = search seek_taken
+
+pub returns-in-Free : goal.returns-in-Free
+returns-in-Free c = search seek_free
