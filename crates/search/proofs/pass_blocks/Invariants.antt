@@ -7,7 +7,7 @@ use Rattle.search.proofs.is_without.Reads as is_without_reads
 use Rattle.search.proofs.pass_blocks.Given as goal
 
 abbrev pub invariant-loop-i : goal.invariant-loop-i
-invariant-loop-i l = Seeking l.s «from» l.x l.i
+invariant-loop-i l = Seeking l.s l.from l.x l.i
 
 abbrev pub decreases-loop-i : goal.decreases-loop-i
 decreases-loop-i l = length l.s - l.i
