@@ -49,7 +49,7 @@ module _ (k : Key) (n a : ℕ) (h : Marked (suc (suc n)) a) where
 used : (k : Key) (n a : ℕ) → Marked (suc n) a → turned k a (suc n) ≡ second_of k
 unfolding turned twice
 used k zero a h = sym (turn_used k a (omega (arith, h.least, h.most)) (second_of k) refl)
-used k (suc n) a h = turned_first k a (suc n) ∙ rw (onward k n a h) (used k n (a / 2) (half k n a h))
+used k (suc n) a h = turned_first k a (suc n) ∙ ap (λ x. turned k x (suc n)) (onward k n a h) ∙ used k n (a / 2) (half k n a h)
 
 -- and say which number it was
 same_bits : (k l : Key) (n a b : ℕ) → Marked (suc n) a → Marked (suc n) b → ((d : ℕ) → d < suc n → turned k a d % 2 ≡ turned l b d % 2) → a ≡ b

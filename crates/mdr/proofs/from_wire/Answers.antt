@@ -1,3 +1,5 @@
+use mathlib.Core.Path.{refl}
+use native.Mathlib.Omega.{arith}
 use borrow.Author.Tests.{ne_eqb}
 use Rattle.mdr.specs.Types.{type_of}
 use Rattle.mdr.proofs.Types.{kind_is}
@@ -50,4 +52,4 @@ returns-in-30 c = search kind_is
 
 pub returns-in_default : goal.returns-in_default
 unfolding type_of
-returns-in_default c = rw (ne_eqb _ _ c.in_default.rest.0.0.0.0.0.0.0.0.0.0.0.0.0.0.1, ne_eqb _ _ c.in_default.rest.0.0.0.0.0.0.0.0.0.0.0.0.0.1, ne_eqb _ _ c.in_default.rest.0.0.0.0.0.0.0.0.0.0.0.0.1, ne_eqb _ _ c.in_default.rest.0.0.0.0.0.0.0.0.0.0.0.1, ne_eqb _ _ c.in_default.rest.0.0.0.0.0.0.0.0.0.0.1, ne_eqb _ _ c.in_default.rest.0.0.0.0.0.0.0.0.0.1, ne_eqb _ _ c.in_default.rest.0.0.0.0.0.0.0.0.1, ne_eqb _ _ c.in_default.rest.0.0.0.0.0.0.0.1, ne_eqb _ _ c.in_default.rest.0.0.0.0.0.0.1, ne_eqb _ _ c.in_default.rest.0.0.0.0.0.1, ne_eqb _ _ c.in_default.rest.0.0.0.0.1, ne_eqb _ _ c.in_default.rest.0.0.0.1, ne_eqb _ _ c.in_default.rest.0.0.1, ne_eqb _ _ c.in_default.rest.0.1, ne_eqb _ _ c.in_default.rest.1)
+returns-in_default c = rw (ne_eqb c.args.b 0 (λ e. omega (arith, e)), ne_eqb c.args.b 1 (λ e. omega (arith, e)), ne_eqb c.args.b 2 (λ e. omega (arith, e)), ne_eqb c.args.b 9 (λ e. omega (arith, e)), ne_eqb c.args.b 10 (λ e. omega (arith, e)), ne_eqb c.args.b 12 (λ e. omega (arith, e)), ne_eqb c.args.b 13 (λ e. omega (arith, e)), ne_eqb c.args.b 14 (λ e. omega (arith, e)), ne_eqb c.args.b 16 (λ e. omega (arith, e)), ne_eqb c.args.b 18 (λ e. omega (arith, e)), ne_eqb c.args.b 25 (λ e. omega (arith, e)), ne_eqb c.args.b 26 (λ e. omega (arith, e)), ne_eqb c.args.b 28 (λ e. omega (arith, e)), ne_eqb c.args.b 29 (λ e. omega (arith, e)), ne_eqb c.args.b 30 (λ e. omega (arith, e))) refl
