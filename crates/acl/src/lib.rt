@@ -1,4 +1,6 @@
 // An ACL packet in the bytes of a record, whichever container the record is of.
+#![tactic(auto)]
+
 ghost use Rattle.std.specs.Prelude.{◌≡◌, cond, ◌+◌, ◌*◌, ◌/◌, ◌%◌, ◌≤◌, ◌<◌, eqb};
 ghost use Rattle.container.specs.Packets.{link_of};
 ghost use Rattle.acl.specs.Reading.{AclPre, AclIs, H4Is};

@@ -1,4 +1,6 @@
 // The btsnoop file: its header, and the size, time and ACL packet of a record.
+#![tactic(auto)]
+
 ghost use Rattle.std.specs.Prelude.{◌≡◌, ◌+◌, ◌-◌, ◌/◌, ◌%◌, ◌≤◌, ◌<◌, length, drop};
 ghost use Rattle.acl.specs.Reading.{AclPre};
 ghost use Rattle.btsnoop.specs.Header.{is_btsnoop, is_datalink};

@@ -1,4 +1,6 @@
 // Both command tables, and the names of the types: the number of a name, the name with a number.
+#![tactic(auto)]
+
 ghost use Rattle.std.specs.Prelude.{◌≡◌, true, ◌+◌, ◌≤◌, ◌<◌, length, take, drop};
 ghost use Rattle.laws.specs.Keys.{eq_k};
 ghost use Rattle.laws.specs.Stores.{Writes};

@@ -1,4 +1,6 @@
 // The counter that a fixture name carries, as a rank: no counter comes before the counter 0.
+#![tactic(auto)]
+
 ghost use Rattle.std.specs.Prelude.{◌≡◌, ◌≤◌, length, take, drop};
 ghost use Rattle.laws.specs.Keys.{eq_k};
 ghost use Rattle.counter.specs.Counter.{mark, to_hyphen, digits, number, signed, within, counter, rank};

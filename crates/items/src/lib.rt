@@ -1,4 +1,6 @@
 // Item lists: spans and names, read, checked and written.
+#![tactic(auto)]
+
 ghost use Rattle.std.specs.Prelude.{◌≡◌, ◌+◌, ◌-◌, ◌%◌, ◌<◌, ◌≤◌, length};
 ghost use Rattle.laws.specs.Stores.{Writes};
 ghost use Rattle.items.specs.Items.{item, item_head, span_item, span, rx_of, span_test, name_test, read_items};

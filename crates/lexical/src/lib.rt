@@ -1,4 +1,6 @@
 // Which of two byte strings comes first.
+#![tactic(auto)]
+
 ghost use Rattle.std.specs.Prelude.{◌≡◌, length};
 ghost use Rattle.lexical.specs.Bytes.{le_bytes};
 ghost use Rattle.lexical.specs.Steps.{Least, OneUnless, Agree, Comparing};

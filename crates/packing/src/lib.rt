@@ -1,4 +1,6 @@
 // Packing: escaping, and a frame's wire.
+#![tactic(auto)]
+
 ghost use Rattle.std.specs.Prelude.{◌≡◌, ◌+◌, ◌*◌, ◌/◌, ◌%◌, ◌<◌, ◌≤◌, [], ◌∷◌, ◌++◌, length, drop};
 ghost use Rattle.laws.specs.Stores.{Writes};
 ghost use Rattle.laws.specs.Answers.{Meets};

@@ -1,4 +1,6 @@
 // The pcap file: its header, and the size, time and ACL packet of a record.
+#![tactic(auto)]
+
 ghost use Rattle.std.specs.Prelude.{◌≡◌, cond, ◌+◌, ◌/◌, ◌<◌, ◌≤◌, length, drop};
 ghost use Rattle.pcap.specs.Header.{is_big, is_little, is_nano, is_pcap, number};
 ghost use Rattle.pcap.specs.Headers.{header_of};

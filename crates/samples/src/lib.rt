@@ -1,5 +1,7 @@
 // A sample: its cases read, and an answer compared. What lies past the end of the file reads as 0. A
 // case is whole if its end lies in the file.
+#![tactic(auto)]
+
 ghost use Rattle.std.specs.Prelude.{◌≡◌, ◌*◌, ◌≤◌, ◌<◌, length, get_or, true};
 ghost use Rattle.samples.specs.Places.{capped, word_at, long_at, part_at, counted_at, numbers_size, second_at, call_at, answer_at};
 ghost use Rattle.samples.specs.Samples.{untouched_of, Fresh, output_of, Compared};

@@ -1,4 +1,6 @@
 // Places of names in a list, as words in lent memory, sorted by the names at them.
+#![tactic(auto)]
+
 ghost use Rattle.std.specs.Prelude.{◌≡◌, ◌+◌, ◌*◌, ◌/◌, ◌≤◌, length};
 ghost use Rattle.words.specs.Words.{word};
 ghost use Rattle.sorting.specs.Steps.{name_at, HeadOf, first_of, HeadIs, Apart, Copies, Rotates, MergePre, Merges, Halves, Joins, Pairs, Sorts};

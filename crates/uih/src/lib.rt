@@ -1,4 +1,6 @@
 // One RFCOMM frame: SABM, UIH with a right or a wrong FCS, or neither.
+#![tactic(auto)]
+
 ghost use Rattle.std.specs.Prelude.{◌≡◌, true, cond, [], ◌∷◌, ◌/◌, ◌≤◌, ◌<◌, eqb, length};
 ghost use Rattle.uih.specs.Fcs.{fcs_of};
 ghost use Rattle.uih.specs.Frames.{is_sabm, is_uih};

@@ -1,4 +1,6 @@
 // An escaped part: where escaping is first broken, the byte at a place, storing the bytes that it stands for.
+#![tactic(auto)]
+
 ghost use Rattle.std.specs.Prelude.{◌≡◌, ◌+◌, ◌*◌, ◌/◌, ◌≤◌, length, ◌==◌};
 ghost use Rattle.laws.specs.Stores.{Writes};
 ghost use Rattle.blocks.specs.Blocks.{OneIf};

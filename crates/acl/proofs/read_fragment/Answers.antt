@@ -1,0 +1,28 @@
+use Rattle.acl.proofs.Reading.{acl_handle, acl_size, acl_short, acl_packet}
+use native.Mathlib.Omega.{arith}
+use Rattle.acl.proofs.read_fragment.Reads as reads
+use Rattle.acl.proofs.read_fragment.Lts as lts
+use Rattle.acl.proofs.key_of.Reads as key_of_reads
+use Rattle.words.proofs.narrow.Reads as narrow_reads
+use Rattle.acl.proofs.start_of.Reads as start_of_reads
+use Rattle.words.proofs.wide16.Reads as wide16_reads
+use Rattle.words.proofs.field16.Reads as field16_reads
+use Rattle.acl.proofs.read_fragment.Goals as goal
+
+pub returns-in_default : goal.returns-in_default
+returns-in_default c = search acl_handle
+
+pub returns-in_default-field16 : goal.returns-in_default-field16
+returns-in_default-field16 c = search acl_size
+
+pub returns-then-end-lo : goal.returns-then-end-lo
+returns-then-end-lo c = search acl_short
+
+pub overflow_add-lo : goal.overflow_add-lo
+overflow_add-lo c = omega (arith, c.requires.order, c.requires.inside, c.requires.small)
+
+pub narrow-requires : goal.narrow-requires
+narrow-requires c = omega (arith, c.requires.order, c.requires.inside, c.requires.small)
+
+pub returns : goal.returns
+returns c = search acl_packet

@@ -1,0 +1,21 @@
+use mathlib.Core.Path.{sym}
+use lib.Seq.{length-take-le}
+use Rattle.btsnoop.proofs.Headers.{begins_short, begins_not, begins_version}
+use native.Mathlib.Omega.{arith}
+use Rattle.btsnoop.proofs.is_btsnoop.Reads as reads
+use Rattle.btsnoop.proofs.is_btsnoop.Lts as lts
+use Rattle.words.proofs.get_be32.Reads as get_be32_reads
+use Rattle.words.proofs.same.Reads as same_Reads
+use Rattle.btsnoop.proofs.is_btsnoop.Goals as goal
+
+pub returns-then-file-lt16 : goal.returns-then-file-lt16
+returns-then-file-lt16 c = search begins_short
+
+pub slice_bounds-same-end : goal.slice_bounds-same-end
+slice_bounds-same-end c = sym (length-take-le 8 c.args.file.now (omega arith))
+
+pub returns-then-same : goal.returns-then-same
+returns-then-same c = search begins_version
+
+pub returns : goal.returns
+returns c = search begins_not

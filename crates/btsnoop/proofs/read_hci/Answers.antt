@@ -1,0 +1,21 @@
+use Rattle.btsnoop.proofs.Reading.{hci_pre, hci_skip, hci_h4, hci_plain}
+use Rattle.btsnoop.proofs.read_hci.Reads as reads
+use Rattle.btsnoop.proofs.read_hci.Lts as lts
+use Rattle.acl.proofs.read_fragment.Reads as read_fragment_reads
+use Rattle.acl.proofs.read_h4.Reads as read_h4_reads
+use Rattle.btsnoop.proofs.read_hci.Goals as goal
+
+pub returns-then-flags-eq1 : goal.returns-then-flags-eq1
+returns-then-flags-eq1 c = search hci_skip
+
+pub read_h4-requires : goal.read_h4-requires
+read_h4-requires c = search hci_pre
+
+pub returns-then-datalink-eq1002 : goal.returns-then-datalink-eq1002
+returns-then-datalink-eq1002 c = search hci_h4
+
+pub read_fragment-requires : goal.read_fragment-requires
+read_fragment-requires c = search hci_pre
+
+pub returns : goal.returns
+returns c = search hci_plain

@@ -1,0 +1,10 @@
+use Rattle.lexical.specs.Steps.{Comparing}
+use Prim.Native.Nat.{◌-◌}
+use lib.ListN.{length}
+use Rattle.lexical.proofs.rest_le.Given as goal
+
+abbrev pub invariant-loop-i : goal.invariant-loop-i
+invariant-loop-i l = Comparing l.a l.b l.i
+
+abbrev pub decreases-loop-i : goal.decreases-loop-i
+decreases-loop-i l = length l.a - l.i

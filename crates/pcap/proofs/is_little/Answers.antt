@@ -1,0 +1,14 @@
+use Rattle.pcap.proofs.Headers.{front_four, little_first, little_second}
+use Rattle.pcap.proofs.is_little.Reads as reads
+use Rattle.pcap.proofs.is_little.Lts as lts
+use Rattle.words.proofs.same.Reads as same_Reads
+use Rattle.pcap.proofs.is_little.Goals as goal
+
+pub slice_bounds-same-end : goal.slice_bounds-same-end
+slice_bounds-same-end c = search front_four
+
+pub returns-then-same : goal.returns-then-same
+returns-then-same c = search little_first
+
+pub returns : goal.returns
+returns c = search little_second

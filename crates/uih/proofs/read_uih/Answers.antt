@@ -1,0 +1,24 @@
+use Rattle.uih.proofs.Reading.{uih_short, uih_missing, uih_right, uih_wrong, uih_unchecked}
+use Rattle.uih.proofs.read_uih.Reads as reads
+use Rattle.uih.proofs.read_uih.Lts as lts
+use Rattle.uih.proofs.credit_width.Reads as credit_width_reads
+use Rattle.uih.proofs.dlci_of.Reads as dlci_of_reads
+use Rattle.uih.proofs.fcs_of.Reads as fcs_of_reads
+use Rattle.uih.proofs.read_length.Reads as read_length_reads
+use Rattle.words.proofs.wide.Reads as wide_reads
+use Rattle.uih.proofs.read_uih.Goals as goal
+
+pub returns-then-p-lt4 : goal.returns-then-p-lt4
+returns-then-p-lt4 c = search uih_short
+
+pub returns-then-p-start : goal.returns-then-p-start
+returns-then-p-start c = search uih_missing
+
+pub returns-then-wide-fcs_of : goal.returns-then-wide-fcs_of
+returns-then-wide-fcs_of c = search uih_wrong
+
+pub returns-else-wide-fcs_of : goal.returns-else-wide-fcs_of
+returns-else-wide-fcs_of c = search uih_right
+
+pub returns-else-fcs : goal.returns-else-fcs
+returns-else-fcs c = search uih_unchecked
