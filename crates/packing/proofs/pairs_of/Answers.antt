@@ -1,0 +1,15 @@
+use Rattle.packing.proofs.Twins.{twin_start, full_least, twin_turn, twin_end}
+use Rattle.std.proofs.Common.{◌-◌}
+use Rattle.packing.proofs.pairs_of.Goals as goal
+
+pub loop-i-init : goal.loop-i-init
+loop-i-init c = search twin_start
+
+pub overflow_sub-part : goal.overflow_sub-part
+overflow_sub-part c = search full_least
+
+pub loop-i-preserved : goal.loop-i-preserved
+loop-i-preserved c = search twin_turn
+
+pub returns : goal.returns
+returns c = search twin_end

@@ -1,0 +1,12 @@
+use Rattle.unescaping.proofs.Filling.{fill_start, fill_block_turn, fill_last}
+use Rattle.std.proofs.Common.{◌-◌}
+use Rattle.unescaping.proofs.fill.Goals as goal
+
+pub loop-k-init : goal.loop-k-init
+loop-k-init c = search fill_start
+
+pub loop-k-preserved : goal.loop-k-preserved
+loop-k-preserved c = search fill_block_turn
+
+pub returns : goal.returns
+returns c = search fill_last

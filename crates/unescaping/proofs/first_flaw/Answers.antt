@@ -1,0 +1,18 @@
+use Rattle.std.proofs.Common.{◌-◌}
+use Rattle.unescaping.proofs.Flaws.{clean_plain, clean_pair, flaw_trailing, flaw_bad, flaw_end}
+use Rattle.unescaping.proofs.first_flaw.Goals as goal
+
+pub returns-then-s-i : goal.returns-then-s-i
+returns-then-s-i c = search flaw_trailing
+
+pub loop-i-preserved-then-is_within : goal.loop-i-preserved-then-is_within
+loop-i-preserved-then-is_within c = search clean_pair
+
+pub returns-else-is_within : goal.returns-else-is_within
+returns-else-is_within c = search flaw_bad
+
+pub loop-i-preserved : goal.loop-i-preserved
+loop-i-preserved c = search clean_plain
+
+pub returns : goal.returns
+returns c = search flaw_end
