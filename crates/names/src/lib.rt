@@ -1,4 +1,6 @@
 // Names of fixtures: digits, the parts of a name, the name of a frame.
+#![tactic(auto)]
+
 ghost use Rattle.std.specs.Prelude.{◌≡◌, ◌+◌, ◌-◌, ◌≤◌, ◌<◌, length, replicate};
 ghost use Rattle.laws.specs.Answers.{Meets};
 ghost use Rattle.laws.specs.Stores.{Writes};

@@ -1,4 +1,6 @@
 // The ACL packets of a trace's whole records, in a table at the start of work.
+#![tactic(auto)]
+
 ghost use Rattle.std.specs.Prelude.{◌≡◌, ◌+◌, ◌*◌, ◌≤◌, length, drop};
 ghost use Rattle.trace.specs.Formats.{record_head, time_by};
 ghost use Rattle.trace.specs.Walk.{RecordPre, is_empty};

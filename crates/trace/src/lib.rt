@@ -1,4 +1,6 @@
 // A trace: the container that its file is of, what its header says, and its records, by a reader.
+#![tactic(auto)]
+
 ghost use Rattle.std.specs.Prelude.{◌≡◌, ◌+◌, ◌≤◌, length, set, drop};
 ghost use Rattle.trace.specs.Formats.{file_head, record_head, size_by};
 ghost use Rattle.trace.specs.Headers.{HeaderIs};

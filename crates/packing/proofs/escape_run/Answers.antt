@@ -6,7 +6,7 @@ pub loop-i-init : goal.loop-i-init
 loop-i-init c = search run_start
 
 pub pair_block-at-requires : goal.pair_block-at-requires
-pair_block-at-requires c = (search block_is, (search full_is, search run_room))
+pair_block-at-requires c = record { part_len = search block_is; part_value = search full_is; part_in_bounds = search run_room }
 
 pub loop-i-preserved : goal.loop-i-preserved
 loop-i-preserved c = search run_turn

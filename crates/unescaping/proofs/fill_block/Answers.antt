@@ -12,7 +12,7 @@ pub slice_bounds-unpair-end : goal.slice_bounds-unpair-end
 slice_bounds-unpair-end c = search dense_inside
 
 pub unpair-requires : goal.unpair-requires
-unpair-requires c = (search dense_long, (search dense_paired, search rules))
+unpair-requires c = record { part_len = search dense_long; paired = search dense_paired; at_in_bounds = search rules }
 
 pub returns-then-is_dense : goal.returns-then-is_dense
 returns-then-is_dense c = search block_dense

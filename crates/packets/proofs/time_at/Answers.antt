@@ -1,0 +1,18 @@
+use Rattle.packets.proofs.Adding.{btsnoop_room, pcap_room, btsnoop_time, pcap_time}
+use Rattle.packets.proofs.time_at.Reads as reads
+use Rattle.packets.proofs.time_at.Lts as lts
+use Rattle.btsnoop.proofs.time_at.Reads as time_at_reads
+use Rattle.pcap.proofs.time_at.Reads as time_at_reads'
+use Rattle.packets.proofs.time_at.Goals as goal
+
+pub time_at-requires : goal.time_at-requires
+time_at-requires c = search btsnoop_room
+
+pub time_at-requires-in-Pcap : goal.time_at-requires-in-Pcap
+time_at-requires-in-Pcap c = search pcap_room
+
+pub returns-in-Btsnoop : goal.returns-in-Btsnoop
+returns-in-Btsnoop c = search btsnoop_time
+
+pub returns-in-Pcap : goal.returns-in-Pcap
+returns-in-Pcap c = search pcap_time
