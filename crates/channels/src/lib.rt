@@ -1,4 +1,6 @@
 // Signalling: the channels that requests and responses name and admit, and which PDUs are tried.
+#![tactic(auto)]
+
 ghost use Rattle.std.specs.Prelude.{◌≡◌, ◌&&◌, ◌+◌, ◌*◌, ◌/◌, ◌%◌, ◌≤◌, ◌<◌, length, leb, eqb};
 ghost use Rattle.laws.specs.Numbers.{le16};
 ghost use Rattle.table.specs.Table.{lookup};

@@ -1,4 +1,6 @@
 // Reassembly followed packet by packet: what the packets show of what is not in the trace, counted, and what is open at the end.
+#![tactic(auto)]
+
 ghost use Rattle.std.specs.Prelude.{◌≡◌, eqb, ◌+◌, ◌*◌, ◌≤◌};
 ghost use Rattle.words.specs.Words.{word};
 ghost use Rattle.packets.specs.PacketTable.{Read};

@@ -1,5 +1,7 @@
 // The fragments of a trace by their keys, link and direction. Each packet is linked to the next one of its key that has bytes,
 // and the row of its key is noted: so the pass that puts PDUs together seeks no key, and walks the fragments of one alone.
+#![tactic(auto)]
+
 ghost use Rattle.std.specs.Prelude.{◌≡◌, ◌+◌, ◌*◌, ◌≤◌, ◌<◌, length, get_or, take};
 ghost use Rattle.laws.specs.Numbers.{le16};
 ghost use Rattle.laws.specs.Stores.{Writes};

@@ -1,4 +1,6 @@
 // L2CAP: PDUs put together from fragments. Each gets a row in work; its payload stays in the file, or is joined in work.
+#![tactic(auto)]
+
 ghost use Rattle.std.specs.Prelude.{◌≡◌, ◌+◌, ◌*◌, ◌≤◌, length};
 ghost use Rattle.packets.specs.PacketTable.{packets_from, Tabled};
 ghost use Rattle.fragments.specs.Bytes.{begun, Walk};

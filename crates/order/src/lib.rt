@@ -1,4 +1,6 @@
 // Fixture names in the order in which their frames crossed the link.
+#![tactic(auto)]
+
 ghost use Rattle.std.specs.Prelude.{◌≡◌, ◌<◌, length};
 ghost use Rattle.items.specs.Items.{name_test, name_list};
 ghost use Rattle.items.specs.Walks.{pass_at, names_from};

@@ -1,4 +1,6 @@
 // What the whole records of a trace show of what is not in it, in one pass.
+#![tactic(auto)]
+
 ghost use Rattle.std.specs.Prelude.{◌≡◌, ◌+◌, ◌≤◌, length};
 ghost use Rattle.acl.specs.Reading.{between};
 ghost use Rattle.trace.specs.Formats.{record_head};

@@ -1,4 +1,6 @@
 // Signs in a trace that something is not in it: what they are, and one of them counted.
+#![tactic(auto)]
+
 ghost use Rattle.std.specs.Prelude.{◌≡◌, ◌||◌, ◌%◌, ◌≤◌, eqb, length, get_or};
 ghost use Rattle.acl.specs.Reading.{between};
 ghost use Rattle.btsnoop.specs.Reading as btsnoop;

@@ -1,4 +1,6 @@
 // Spans in one buffer: the next one, how many there are and what their list takes, the list itself, and what is left.
+#![tactic(auto)]
+
 ghost use Rattle.std.specs.Prelude.{◌≡◌, ◌+◌, ◌*◌, ◌≤◌, ◌<◌, length, drop};
 ghost use Rattle.items.specs.Items.{rx_of};
 ghost use Rattle.search.specs.Seek.{seek};

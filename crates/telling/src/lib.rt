@@ -1,5 +1,7 @@
 // How a call answers over the C interface: a number as its result, and values at the front of a lent list, as many as it has
 // room for.
+#![tactic(auto)]
+
 ghost use Rattle.std.specs.Prelude.{◌≡◌, [], ◌∷◌};
 ghost use Rattle.trace.specs.Headers.{told_refusal};
 ghost use Rattle.trace.specs.Listing.{told_listed};

@@ -1,0 +1,18 @@
+use Rattle.fragments.proofs.Linking.{linking_start, linking_step, linking_turn, linking_end}
+use Rattle.fragments.proofs.link_rows.Reads as reads
+use Rattle.fragments.proofs.link_rows.Lts as lts
+use Rattle.fragments.proofs.link_row.Reads as link_row_reads
+use Rattle.words.proofs.narrow.Reads as narrow_reads
+use Rattle.fragments.proofs.link_rows.Goals as goal
+
+pub loop-i-init : goal.loop-i-init
+loop-i-init c = search linking_start
+
+pub link_row-s-requires : goal.link_row-s-requires
+link_row-s-requires c = search linking_step
+
+pub loop-i-preserved : goal.loop-i-preserved
+loop-i-preserved c = search linking_turn
+
+pub returns : goal.returns
+returns c = search linking_end

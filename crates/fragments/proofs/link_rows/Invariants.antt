@@ -1,0 +1,12 @@
+use Rattle.fragments.proofs.Linking.{Linking}
+use Rattle.fragments.proofs.link_rows.Reads as reads
+use Rattle.fragments.proofs.link_rows.Lts as lts
+use Rattle.fragments.proofs.link_row.Reads as link_row_reads
+use Rattle.words.proofs.narrow.Reads as narrow_reads
+use Rattle.fragments.proofs.link_rows.Given as goal
+
+abbrev pub invariant-loop-i : goal.invariant-loop-i
+invariant-loop-i l = Linking l.initial.w l.q l.count l.w l.s l.i
+
+abbrev pub decreases-loop-i : goal.decreases-loop-i
+decreases-loop-i l = l.i

@@ -1,0 +1,13 @@
+use mathlib.Core.Path.{refl}
+use Rattle.l2cap.proofs.Running.{link_run, run_all}
+use Rattle.l2cap.proofs.reassemble.Reads as reads
+use Rattle.l2cap.proofs.reassemble.Lts as lts
+use Rattle.fragments.proofs.link_packets.Reads as link_packets_reads
+use Rattle.l2cap.proofs.run.Reads as run_reads
+use Rattle.l2cap.proofs.reassemble.Goals as goal
+
+pub run-requires : goal.run-requires
+run-requires c = link_run _ _ _ c.requires _ refl _ _ c.link_packets-rows.ensures
+
+pub returns : goal.returns
+returns c = run_all _ _ _ c.requires _ refl _ _ c.link_packets-rows.ensures _ _ c.run.ensures

@@ -1,0 +1,18 @@
+use Prim.Native.Nat.{◌-◌}
+use Rattle.l2cap.proofs.Ranges.{ranging_start, ranging_step, ranging_turn, ranging_end}
+use Rattle.l2cap.proofs.run.Reads as reads
+use Rattle.l2cap.proofs.run.Lts as lts
+use Rattle.l2cap.proofs.step.Reads as step_reads
+use Rattle.l2cap.proofs.run.Goals as goal
+
+pub loop-i-init : goal.loop-i-init
+loop-i-init c = search ranging_start
+
+pub step-s-requires : goal.step-s-requires
+step-s-requires c = search ranging_step
+
+pub loop-i-preserved : goal.loop-i-preserved
+loop-i-preserved c = search ranging_turn
+
+pub returns : goal.returns
+returns c = search ranging_end

@@ -1,0 +1,47 @@
+use Rattle.l2cap.proofs.Stepping.{step_row, step_arrive, step_skip, step_walk, step_finish, narrow_first, first_fits, narrow_got, at_room, full_room, step_hold, step_full}
+use native.Mathlib.Omega.{arith}
+use Rattle.l2cap.proofs.step.Reads as reads
+use Rattle.l2cap.proofs.step.Lts as lts
+use Rattle.l2cap.proofs.arrive.Reads as arrive_reads
+use Rattle.l2cap.proofs.finish.Reads as finish_reads
+use Rattle.words.proofs.narrow.Reads as narrow_reads
+use Rattle.l2cap.proofs.needed.Reads as needed_reads
+use Rattle.l2cap.proofs.row_of.Reads as row_of_reads
+use Rattle.l2cap.proofs.set_open.Reads as set_open_reads
+use Rattle.l2cap.proofs.step.Goals as goal
+
+pub row_of-at-requires : goal.row_of-at-requires
+row_of-at-requires c = search step_row
+
+pub arrive-next-requires : goal.arrive-next-requires
+arrive-next-requires c = search step_arrive
+
+pub returns-in_default : goal.returns-in_default
+returns-in_default c = search step_skip
+
+pub needed-need-requires : goal.needed-need-requires
+needed-need-requires c = step_walk _ _ _ _ _ c.requires _ c.row_of-at.ensures _ c.arrive-next.ensures _ _ c.in-From.is
+
+pub finish-end-requires : goal.finish-end-requires
+finish-end-requires c = step_finish _ _ _ _ _ c.requires _ c.row_of-at.ensures _ c.arrive-next.ensures _ _ c.in-From.is _ c.needed-need.ensures c.if-need-got.true
+
+pub set_open-requires : goal.set_open-requires
+set_open-requires c = full_room _ _ _ _ _ c.requires _ c.row_of-at.ensures _ _ _ _ c.finish-end.ensures
+
+pub returns-then-need-got : goal.returns-then-need-got
+returns-then-need-got c = search step_full
+
+pub overflow_add-first : goal.overflow_add-first
+overflow_add-first c = omega (arith, first_fits _ _ _ _ _ c.requires _ c.row_of-at.ensures _ c.arrive-next.ensures _ _ c.in-From.is)
+
+pub narrow-requires : goal.narrow-requires
+narrow-requires c = search narrow_first
+
+pub narrow-requires-2 : goal.narrow-requires-2
+narrow-requires-2 c = search narrow_got
+
+pub set_open-requires-2 : goal.set_open-requires-2
+set_open-requires-2 c = at_room _ _ _ _ _ c.requires _ c.row_of-at.ensures
+
+pub returns : goal.returns
+returns c = search step_hold
