@@ -1,4 +1,6 @@
 // Sessions and links counted, the pieces of information that UIH frames carry gathered, and how many of these frames have a wrong FCS.
+#![tactic(auto)]
+
 ghost use Rattle.std.specs.Prelude.{◌≡◌, ◌+◌, ◌*◌, ◌≤◌, ◌<◌, get_or, set};
 ghost use Rattle.gathering.specs.CountTable.{value_of, count_index, CountPre, UpPre, CountedUp};
 ghost use Rattle.rfcomm.specs.PieceRows.{row_of};

@@ -1,4 +1,6 @@
 // What is open at the end of a trace: the packets that began it, counted in one walk over the records.
+#![tactic(auto)]
+
 ghost use Rattle.std.specs.Prelude.{◌≡◌, length};
 ghost use Rattle.acl.specs.Reading.{between};
 ghost use Rattle.trace.specs.Formats.{packet_by};

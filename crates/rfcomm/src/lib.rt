@@ -1,4 +1,6 @@
 // RFCOMM: what a PDU is once it is judged, and the rows of the pieces of information that UIH frames carry.
+#![tactic(auto)]
+
 ghost use Rattle.std.specs.Prelude.{◌≡◌, cond, ◌+◌, ◌*◌, ◌≤◌, ◌<◌, eqb, length};
 ghost use Rattle.rfcomm.specs.Judging.{PlacePre, placed_uih, FrameVerdict, JudgePre, VerdictIs};
 ghost use Rattle.l2cap.specs.PduFrames.{Lent};

@@ -4,6 +4,8 @@
 // Three words are stored for each piece: which piece of its key came before it, how many bytes its key holds after it, and
 // where its first 3C stands. The buffer of a key is then the last that many bytes of all that came under the key, and is
 // put together where a 3C closes it. No piece of another key is walked, and what counting finds is not searched for again.
+#![tactic(auto)]
+
 ghost use Rattle.std.specs.Prelude.{◌≡◌, ◌+◌, ◌≤◌, length, take, drop};
 ghost use Rattle.std.proofs.lemmas.List.Edits.{sets};
 ghost use Rattle.split.specs.Last.{lastn};

@@ -1,0 +1,23 @@
+use native.Mathlib.Omega.{arith}
+use Rattle.words.proofs.Fields.{field_value}
+use Rattle.channels.proofs.Commands.{body_missing, body_past, body_there}
+use Rattle.channels.proofs.body_of.Reads as reads
+use Rattle.channels.proofs.body_of.Lts as lts
+use Rattle.words.proofs.wide16.Reads as wide16_reads
+use Rattle.words.proofs.field16.Reads as field16_reads
+use Rattle.channels.proofs.body_of.Goals as goal
+
+pub returns-in_default : goal.returns-in_default
+returns-in_default c = search body_missing
+
+pub slice_bounds-result-count-then-n-end : goal.slice_bounds-result-count-then-n-end
+slice_bounds-result-count-then-n-end c = omega (arith, (field_value _ _ _ _ c.field16-field.ensures c.in-Value.is).0)
+
+pub slice_bounds-result-start-then-n-end : goal.slice_bounds-result-start-then-n-end
+slice_bounds-result-start-then-n-end c = omega (arith, (field_value _ _ _ _ c.field16-field.ensures c.in-Value.is).0)
+
+pub returns-then-n-end : goal.returns-then-n-end
+returns-then-n-end c = search body_past
+
+pub returns : goal.returns
+returns c = search body_there

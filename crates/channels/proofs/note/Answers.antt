@@ -1,0 +1,19 @@
+use Rattle.channels.proofs.Grades.{noted_request, noted_response, noted_other}
+use native.Mathlib.Omega.{arith}
+use Rattle.channels.proofs.note.Reads as reads
+use Rattle.channels.proofs.note.Lts as lts
+use Rattle.channels.proofs.flip.Reads as flip_reads
+use Rattle.channels.proofs.key_of.Reads as key_of_reads
+use Rattle.channels.proofs.raise.Reads as raise_reads
+use Rattle.channels.proofs.request_grade.Reads as request_grade_reads
+use Rattle.channels.proofs.response_grade.Reads as response_grade_reads
+use Rattle.channels.proofs.note.Goals as goal
+
+pub returns-in-Request : goal.returns-in-Request
+returns-in-Request c = record { noted = noted_request _ _ _ c.in-Request.t (omega arith) _ _ c.key_of-key.ensures _ _ c.raise.ensures.raised _ _ c.in-Request.is c.request_grade.ensures; indexed = c.raise.ensures.indexed }
+
+pub returns-in-Response : goal.returns-in-Response
+returns-in-Response c = record { noted = noted_response _ _ _ c.in-Response.t (omega arith) _ _ c.key_of-key-in-Response.ensures _ _ c.raise-in-Response.ensures.raised _ c.in-Response.source _ c.in-Response.is (omega arith) _ c.flip-other.ensures _ c.key_of-asked.ensures c.response_grade-v.ensures; indexed = c.raise-in-Response.ensures.indexed }
+
+pub returns-in-Other : goal.returns-in-Other
+returns-in-Other c = search noted_other

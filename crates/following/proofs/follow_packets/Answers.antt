@@ -1,0 +1,32 @@
+use Rattle.following.proofs.Walking.{follow_start, follow_pre, follow_less, follow_again, follow_cut, follow_end}
+use Prim.Native.Nat.{◌-◌}
+use Rattle.l2cap.proofs.Running.{link_room}
+use Rattle.following.proofs.follow_packets.Reads as reads
+use Rattle.following.proofs.follow_packets.Lts as lts
+use Rattle.following.proofs.first_pass.Reads as first_pass_reads
+use Rattle.following.proofs.follow_record.Reads as follow_record_reads
+use Rattle.fragments.proofs.link_packets.Reads as link_packets_reads
+use Rattle.trace.proofs.file_head.Reads as file_head_reads
+use Rattle.trace.proofs.read_at.Reads as read_at_reads
+use Rattle.following.proofs.follow_packets.Goals as goal
+
+pub link_packets-rows-requires : goal.link_packets-rows-requires
+link_packets-rows-requires c = search link_room
+
+pub loop-end-init : goal.loop-end-init
+loop-end-init c = search follow_start
+
+pub follow_record-s-requires : goal.follow_record-s-requires
+follow_record-s-requires c = search follow_pre
+
+pub loop-end-smaller : goal.loop-end-smaller
+loop-end-smaller c = search follow_less
+
+pub loop-end-preserved : goal.loop-end-preserved
+loop-end-preserved c = search follow_again
+
+pub returns-in-Cut : goal.returns-in-Cut
+returns-in-Cut c = search follow_cut
+
+pub returns-in-End : goal.returns-in-End
+returns-in-End c = search follow_end

@@ -1,0 +1,20 @@
+use Rattle.following.proofs.Showing.{show_start, show_stray, show_given, show_more}
+use Rattle.following.proofs.show.Reads as reads
+use Rattle.following.proofs.show.Lts as lts
+use Rattle.l2cap.proofs.look.Reads as look_reads
+use Rattle.l2cap.proofs.row_of.Reads as row_of_reads
+use Rattle.signs.proofs.note.Reads as note_reads
+use Rattle.words.proofs.get32.Reads as get32_reads
+use Rattle.following.proofs.show.Goals as goal
+
+pub returns-then-start-eq1 : goal.returns-then-start-eq1
+returns-then-start-eq1 c = search show_start
+
+pub returns-then-start-eq1-2 : goal.returns-then-start-eq1-2
+returns-then-start-eq1-2 c = search show_given
+
+pub returns-else-start-eq1 : goal.returns-else-start-eq1
+returns-else-start-eq1 c = search show_stray
+
+pub returns-else-start-eq1-2 : goal.returns-else-start-eq1-2
+returns-else-start-eq1-2 c = search show_more

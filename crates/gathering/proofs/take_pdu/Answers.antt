@@ -1,0 +1,41 @@
+use Rattle.rfcomm.proofs.Judging.{opens_small}
+use Rattle.gathering.proofs.Gathering.{up_pre, wrong_small, taken_passed, taken_wrong, taken_asks, taken_opens, taken_piece, piece_pre}
+use Rattle.gathering.proofs.take_pdu.Reads as reads
+use Rattle.gathering.proofs.take_pdu.Lts as lts
+use Rattle.gathering.proofs.count_key.Reads as count_key_reads
+use Rattle.gathering.proofs.count_up.Reads as count_up_reads
+use Rattle.rfcomm.proofs.judge.Reads as judge_reads
+use Rattle.gathering.proofs.note_wrong.Reads as note_wrong_reads
+use Rattle.gathering.proofs.take_piece.Reads as take_piece_reads
+use Rattle.words.proofs.get32.Reads as get32_reads
+use Rattle.gathering.proofs.take_pdu.Goals as goal
+
+pub count_up-s-requires : goal.count_up-s-requires
+count_up-s-requires c = search up_pre
+
+pub count_key-requires-in-Opens : goal.count_key-requires-in-Opens
+count_key-requires-in-Opens c = search opens_small
+
+pub count_up-s-requires-in-Opens : goal.count_up-s-requires-in-Opens
+count_up-s-requires-in-Opens c = search up_pre
+
+pub take_piece-found-requires : goal.take_piece-found-requires
+take_piece-found-requires c = search piece_pre
+
+pub note_wrong-requires : goal.note_wrong-requires
+note_wrong-requires c = search wrong_small
+
+pub returns-in-Asks : goal.returns-in-Asks
+returns-in-Asks c = search taken_asks
+
+pub returns-in-Opens : goal.returns-in-Opens
+returns-in-Opens c = search taken_opens
+
+pub returns-in-Carries : goal.returns-in-Carries
+returns-in-Carries c = search taken_piece
+
+pub returns-in-Wrong : goal.returns-in-Wrong
+returns-in-Wrong c = search taken_wrong
+
+pub returns-in-Passed : goal.returns-in-Passed
+returns-in-Passed c = search taken_passed

@@ -1,0 +1,26 @@
+use Rattle.recorded.proofs.Looking.{looking_start, looking_pre, looking_less, looking_turn, looking_cut, looking_end}
+use Prim.Native.Nat.{◌-◌}
+use Rattle.recorded.proofs.record_signs.Reads as reads
+use Rattle.recorded.proofs.record_signs.Lts as lts
+use Rattle.recorded.proofs.look_at.Reads as look_at_reads
+use Rattle.trace.proofs.file_head.Reads as file_head_reads
+use Rattle.trace.proofs.read_at.Reads as read_at_reads
+use Rattle.recorded.proofs.record_signs.Goals as goal
+
+pub loop-end-init : goal.loop-end-init
+loop-end-init c = search looking_start
+
+pub look_at-s-requires : goal.look_at-s-requires
+look_at-s-requires c = search looking_pre
+
+pub loop-end-smaller : goal.loop-end-smaller
+loop-end-smaller c = search looking_less
+
+pub loop-end-preserved : goal.loop-end-preserved
+loop-end-preserved c = search looking_turn
+
+pub returns-in-Cut : goal.returns-in-Cut
+returns-in-Cut c = search looking_cut
+
+pub returns-in-End : goal.returns-in-End
+returns-in-End c = search looking_end

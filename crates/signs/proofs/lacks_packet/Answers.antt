@@ -1,0 +1,19 @@
+use Rattle.signs.proofs.Acl.{packet_lies, packet_lacks, packet_none, packet_fits}
+use Rattle.signs.proofs.lacks_packet.Reads as reads
+use Rattle.signs.proofs.lacks_packet.Lts as lts
+use Rattle.signs.proofs.before_packet.Reads as before_packet_reads
+use Rattle.signs.proofs.is_acl.Reads as is_acl_reads
+use Rattle.signs.proofs.lacks_data.Reads as lacks_data_reads
+use Rattle.signs.proofs.lacks_packet.Goals as goal
+
+pub overflow_add-at : goal.overflow_add-at
+overflow_add-at c = search packet_fits
+
+pub lacks_data-requires : goal.lacks_data-requires
+lacks_data-requires c = (search packet_lies, c.requires.most)
+
+pub returns-then-is_acl : goal.returns-then-is_acl
+returns-then-is_acl c = search packet_lacks
+
+pub returns : goal.returns
+returns c = search packet_none

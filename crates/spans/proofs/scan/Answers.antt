@@ -1,0 +1,17 @@
+use Rattle.spans.proofs.Scans.{scanned_open, scan_first, scanned}
+use Rattle.spans.proofs.scan.Reads as reads
+use Rattle.spans.proofs.scan.Lts as lts
+use Rattle.spans.proofs.count_first.Reads as count_first_reads
+use Rattle.spans.proofs.count_from.Reads as count_from_reads
+use Rattle.spans.proofs.first_end.Reads as first_end_reads
+use Rattle.spans.proofs.open_rest.Reads as open_rest_reads
+use Rattle.spans.proofs.scan.Goals as goal
+
+pub returns-then-e-part : goal.returns-then-e-part
+returns-then-e-part c = search scanned_open
+
+pub count_first-f-requires : goal.count_first-f-requires
+count_first-f-requires c = search scan_first
+
+pub returns : goal.returns
+returns c = search scanned
