@@ -1,5 +1,7 @@
 // The spans of one DLCI counted. Counting leaves two words for each piece, which writing reads: how many bytes its key holds
 // after it, and where its first 3C stands.
+#![tactic(auto)]
+
 ghost use Rattle.std.specs.Prelude.{◌≡◌, ◌+◌, ◌-◌};
 ghost use Rattle.split.specs.Rows.{capped_length, Laid};
 ghost use Rattle.split.specs.Walks.{Row};

@@ -1,4 +1,6 @@
 // Opening a trace: the refusals that every call which reads one has in common, and the packets of its whole records in work.
+#![tactic(auto)]
+
 ghost use Rattle.std.specs.Prelude.{◌≡◌};
 ghost use Rattle.packets.specs.Adding.{ReadPre};
 ghost use Rattle.opening.specs.Opening.{tail_of, Opens, Sized, HeaderOpens, RecordsOpen, truncates};

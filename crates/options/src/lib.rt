@@ -1,5 +1,7 @@
 // What a caller chooses, as numbers in a list: the tail rule and the container, for every call that reads a trace; for import, whether
 // FCS is checked.
+#![tactic(auto)]
+
 ghost use Rattle.std.specs.Prelude.{◌≡◌, get_or};
 ghost use Rattle.opening.specs.Opening.{tail_of};
 ghost use Rattle.options.specs.Numbers.{tail_number, tail_in, container_number, container_in, fcs_number, fcs_in};

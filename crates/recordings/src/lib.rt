@@ -1,1 +1,2 @@
 // Honest pcap recordings, computed: proofs only.
+#![tactic(auto)]

@@ -1,0 +1,21 @@
+use Rattle.split.proofs.Gathers.{within_work, within_file, whole_work, whole_file}
+use native.Mathlib.Omega.{arith}
+use Rattle.split.proofs.piece.Reads as reads
+use Rattle.split.proofs.piece.Lts as lts
+use Rattle.split.proofs.is_joined.Reads as is_joined_reads
+use Rattle.split.proofs.length_of.Reads as length_of_reads
+use Rattle.words.proofs.part.Reads as part_reads
+use Rattle.split.proofs.start_of.Reads as start_of_reads
+use Rattle.split.proofs.piece.Goals as goal
+
+pub part-requires : goal.part-requires
+part-requires c = let h = within_work _ _ _ _ _ c.is_joined.ensures c.requires.laid c.requires.row c.if-is_joined.true in omega (arith, c.start_of-start.ensures.at, c.length_of-n.ensures, c.requires.laid.ends, c.requires.laid.area, c.requires.laid.room)
+
+pub returns-then-is_joined : goal.returns-then-is_joined
+returns-then-is_joined c = search whole_work
+
+pub part-requires-2 : goal.part-requires-2
+part-requires-2 c = let h = within_file _ _ _ _ _ c.is_joined.ensures c.requires.laid c.requires.row c.if-is_joined.false in omega (arith, c.start_of-start.ensures.at, c.length_of-n.ensures)
+
+pub returns : goal.returns
+returns c = search whole_file
