@@ -96,10 +96,10 @@ module _ (d : ℕ) where
       (λ e. rw (ne_eq_k (h ∷ []) (p.link ∷ []) e) same)
 
   -- the counts of a handle at the end are those of now, if nothing adds to them
-  steady : (m : Key → Counts) (h : ℕ) {js : List JudgedPdu} → All (λ (j : JudgedPdu). j.pdu.link ≡ h → adds d j.kind ≡ false) js → Same d (after counting m (judged_of js) (h ∷ [])) (m (h ∷ []))
+  steady : (h : ℕ) (m : Key → Counts) {js : List JudgedPdu} → All (λ (j : JudgedPdu). j.pdu.link ≡ h → adds d j.kind ≡ false) js → Same d (after counting m (judged_of js) (h ∷ [])) (m (h ∷ []))
   unfolding after
-  steady m h all_nil = same
-  steady m h (all_cons {x = j} s ss) = then (steady (step counting m (record { pdu = j.pdu; kind = j.kind })) h ss) (step_stays m h j.pdu j.kind s)
+  steady h m all_nil = same
+  steady h m (all_cons {x = j} s ss) = then (steady h (step counting m (record { pdu = j.pdu; kind = j.kind })) ss) (step_stays m h j.pdu j.kind s)
 
   pub calm_pieces :
       (cid : ℕ → ℕ → ℕ) (m : Key → Counts) {js : List JudgedPdu} → Calm d cid js →
@@ -109,7 +109,7 @@ module _ (d : ℕ) where
   calm_pieces cid m (calm_data {p = p} {k = k} {i = i} {js = js} e c a t) =
       let j : Judged = record { pdu = p; kind = k } in
       let fin : Key → Counts = after counting (step counting m j) (judged_of js) in
-      let sm : Same d (fin (p.link ∷ [])) (m (p.link ∷ [])) = then (steady (step counting m j) p.link a) (step_stays m p.link p k (λ z. rw e (carries_none d d i))) in
+      let sm : Same d (fin (p.link ∷ [])) (m (p.link ∷ [])) = then (steady p.link (step counting m j) a) (step_stays m p.link p k (λ z. rw e (carries_none d d i))) in
       let hd : on_dlci d (brought (m (p.link ∷ [])) p k) ≡ as_piece d (stretch cid d fin) (record { link = p.link; rx = p.rx; time = p.time; information = i }) ∷ [] =
       rw (sm.session, sm.link, ← c, e, eq-eqb d d refl) in
       dlci_append d (brought (m (p.link ∷ [])) p k) (run counting (step counting m j) (judged_of js)) ∙ rw (calm_pieces cid (step counting m j) t, hd)

@@ -48,7 +48,7 @@ data_append (x ∷ xs) ys = rw (data_append xs ys) (if_last_append x.packet x.ma
 pub fragments_front : {C : Container} {S : Framing} {R : RecordingOf C S} {σ : Key → Option (List ℕ)} (xs ys : List Sent) → Fragments R σ (xs ++ ys) → Fragments R σ xs
 fragments_front [] ys t = stop
 fragments_front (x ∷ xs) ys (other e t) = other e (fragments_front xs ys t)
-fragments_front (x ∷ xs) ys (more g n t) = more g n (fragments_front xs ys t)
+fragments_front {C = C} {S = S} {R = R} {σ = σ} (x ∷ xs) ys (more {b = b} g n t) = more g n (fragments_front {σ = put σ (packet_key x.packet) (some b)} xs ys t)
 fragments_front (x ∷ xs) ys (end g w o t) = end g w o (fragments_front xs ys t)
 
 -- ---- marks do not matter to reassembly

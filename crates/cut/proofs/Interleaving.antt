@@ -51,7 +51,7 @@ came_after W came [] k = sym (add-zero (came k))
 came_after W came (x ∷ xs) k =
     rw (came_after W (step (closing W) came x) xs k)
     (split_k (data_key x) k
-    (λ e. rw (eq_eq_k k (data_key x) (sym e), eq_eq_k (data_key x) k e, ← e, length-append) (omega arith))
+    (λ e. rw (e, eq_eq_k k k refl, length-append) (omega arith))
     (λ n. rw (ne_eq_k k (data_key x) (λ q. n (sym q)), ne_eq_k (data_key x) k n)))
 
 module _ (W : ℕ → ℕ → List (List ℕ)) (P : ℕ → ℕ → List ℕ) (S : Framed W P) (d : ℕ) (F : ℕ → ℕ → Key) (apart : Apart F) where

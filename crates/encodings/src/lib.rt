@@ -1,1 +1,2 @@
 // An honest pcap recording in two more encodings, computed: proofs only.
+#![tactic(auto)]

@@ -1,0 +1,26 @@
+use Rattle.measuring.proofs.Counting.{counting_start, counting_pre, counting_turn, counting_skip, counting_end}
+use Prim.Native.Nat.{◌-◌}
+use native.Mathlib.Omega.{arith}
+use Rattle.measuring.proofs.count_spans.Reads as reads
+use Rattle.measuring.proofs.count_spans.Lts as lts
+use Rattle.measuring.proofs.count_piece.Reads as count_piece_reads
+use Rattle.words.proofs.get32.Reads as get32_reads
+use Rattle.measuring.proofs.count_spans.Goals as goal
+
+pub loop-i-init : goal.loop-i-init
+loop-i-init c = counting_start _ _ _ c.requires
+
+pub get32-requires : goal.get32-requires
+get32-requires c = omega (arith, c.loop-i.invariant.laid.rows, c.loop-i.invariant.laid.area, c.loop-i.invariant.laid.room)
+
+pub count_piece-s-requires : goal.count_piece-s-requires
+count_piece-s-requires c = counting_pre _ _ _ _ _ _ c.loop-i.invariant c.loop-i-test.true _ c.get32.ensures c.if-get32-dlci.true
+
+pub loop-i-preserved-then-get32-dlci : goal.loop-i-preserved-then-get32-dlci
+loop-i-preserved-then-get32-dlci c = counting_turn _ _ _ _ _ _ c.loop-i.invariant c.loop-i-test.true _ c.get32.ensures c.if-get32-dlci.true _ _ c.count_piece-s.ensures
+
+pub loop-i-preserved : goal.loop-i-preserved
+loop-i-preserved c = counting_skip _ _ _ _ _ _ c.loop-i.invariant c.loop-i-test.true _ c.get32.ensures c.if-get32-dlci.false
+
+pub returns : goal.returns
+returns c = counting_end _ _ _ _ _ _ c.loop-i.invariant c.loop-i-test.false
