@@ -1,4 +1,4 @@
-// The proved calls for C and Rust. A call returns 0, or document 01's number of the refusal; as many of the values that it
+// The proved calls, as lumbryth_c exports them for C and Rust. A call returns 0, or document 01's number of the refusal; as many of the values that it
 // answers, or that the refusal carries, as the list lent for them has room for are stored at its front.
 ghost use Rattle.std.specs.Prelude.{◌≡◌};
 ghost use Rattle.fixtures.specs.Plan.{plan_of};
@@ -25,16 +25,14 @@ use told::{
 };
 
 // Reads one frame, and writes its payload to the front of out. Values: type, sequence number, payload length.
-#[unsafe(no_mangle)]
-pub extern "C" fn lumbryth_unpack(wire: &[u8], out: &mut [u8], values: &mut [u64]) -> u32
+pub fn lumbryth_unpack(wire: &[u8], out: &mut [u8], values: &mut [u64]) -> u32
     ensures { Calls (unpack_of wire.now) out.old out.new values.old result values.new }
 {
     unpack_told(wire, out, values)
 }
 
 // Writes a frame to the front of out. Value: the wire's length.
-#[unsafe(no_mangle)]
-pub extern "C" fn lumbryth_pack(
+pub fn lumbryth_pack(
     kind: u8,
     seq: u8,
     payload: &[u8],
@@ -47,8 +45,7 @@ pub extern "C" fn lumbryth_pack(
 }
 
 // Writes the name of a frame's wire to the front of out; way is 1 for Rx and 2 for Tx. Value: the name's length.
-#[unsafe(no_mangle)]
-pub extern "C" fn lumbryth_fixture_name(
+pub fn lumbryth_fixture_name(
     ms: u64,
     counter: u32,
     way: u8,
@@ -62,16 +59,14 @@ pub extern "C" fn lumbryth_fixture_name(
 }
 
 // 1 if either table has the name, else 0.
-#[unsafe(no_mangle)]
-pub extern "C" fn lumbryth_is_command_name(name: &[u8]) -> u32
+pub fn lumbryth_is_command_name(name: &[u8]) -> u32
     ensures { result ≡ bit (is_command_name name.now) }
 {
     command_told(name)
 }
 
 // Writes the plan of a list of spans, but for the excluded commands, to the front of out. Values: fixtures, bytes.
-#[unsafe(no_mangle)]
-pub extern "C" fn lumbryth_plan(
+pub fn lumbryth_plan(
     spans: &[u8],
     excluded: &[u8],
     out: &mut [u8],
@@ -83,8 +78,7 @@ pub extern "C" fn lumbryth_plan(
 }
 
 // Writes a list of names in the order of their frames to the front of out. Value: its length.
-#[unsafe(no_mangle)]
-pub extern "C" fn lumbryth_capture_order(names: &[u8], out: &mut [u8], values: &mut [u64]) -> u32
+pub fn lumbryth_capture_order(names: &[u8], out: &mut [u8], values: &mut [u64]) -> u32
     ensures { Calls (capture_order names.now) out.old out.new values.old result values.new }
 {
     order_told(names, out, values)
@@ -95,8 +89,7 @@ pub extern "C" fn lumbryth_capture_order(names: &[u8], out: &mut [u8], values: &
 // any other for checked. A list that ends earlier asks for any channel, strictly, of btsnoop, unchecked. Values: DLCI, frames,
 // unfinished, tail offset, bytes written, frames with a wrong FCS on the DLCI, 0 where it is not checked, and where its bytes
 // went: in spans, dropped, cleared, left.
-#[unsafe(no_mangle)]
-pub extern "C" fn lumbryth_import_with(
+pub fn lumbryth_import_with(
     file: &[u8],
     work: &mut [u8],
     out: &mut [u8],
@@ -109,8 +102,7 @@ pub extern "C" fn lumbryth_import_with(
 }
 
 // Imports a btsnoop file by two options, FCS unchecked. Values: as for lumbryth_import_with.
-#[unsafe(no_mangle)]
-pub extern "C" fn lumbryth_import(
+pub fn lumbryth_import(
     file: &[u8],
     work: &mut [u8],
     out: &mut [u8],
@@ -124,8 +116,7 @@ pub extern "C" fn lumbryth_import(
 }
 
 // Imports a btsnoop file by the strict rule, FCS unchecked. Values: as for lumbryth_import_with.
-#[unsafe(no_mangle)]
-pub extern "C" fn lumbryth_import_strict(
+pub fn lumbryth_import_strict(
     file: &[u8],
     work: &mut [u8],
     out: &mut [u8],
@@ -139,16 +130,14 @@ pub extern "C" fn lumbryth_import_strict(
 
 // Stores where each whole record of a btsnoop file starts at the front of starts, as many as there is room for. Values: records,
 // tail offset.
-#[unsafe(no_mangle)]
-pub extern "C" fn lumbryth_records(file: &[u8], starts: &mut [u64], values: &mut [u64]) -> u32
+pub fn lumbryth_records(file: &[u8], starts: &mut [u64], values: &mut [u64]) -> u32
     ensures { RecordsCalls Btsnoop file.now starts.old values.old result starts.new values.new }
 {
     records_told(file, starts, values)
 }
 
 // The same by a list of options, of which the container counts.
-#[unsafe(no_mangle)]
-pub extern "C" fn lumbryth_records_with(
+pub fn lumbryth_records_with(
     file: &[u8],
     starts: &mut [u64],
     options: &[u64],
@@ -163,8 +152,7 @@ pub extern "C" fn lumbryth_records_with(
 // 5. Values, for each sign how many and at which byte the record starts that shows the first, 0 if none does: records stored
 // short, packets that the recorder dropped, ACL packets skipped because data is not there, records of zeros, continuations
 // with nothing open, partial PDUs given up because another starts, PDUs open at the end.
-#[unsafe(no_mangle)]
-pub extern "C" fn lumbryth_gaps(
+pub fn lumbryth_gaps(
     file: &[u8],
     work: &mut [u8],
     tolerant: u32,
@@ -176,8 +164,7 @@ pub extern "C" fn lumbryth_gaps(
 }
 
 // The same by a list of options, of which the tail rule and the container count.
-#[unsafe(no_mangle)]
-pub extern "C" fn lumbryth_gaps_with(
+pub fn lumbryth_gaps_with(
     file: &[u8],
     work: &mut [u8],
     options: &[u64],
@@ -191,8 +178,7 @@ pub extern "C" fn lumbryth_gaps_with(
 // Imports a btsnoop file, and fills the first places of the list lent with the stretches that are open at the end, in the order
 // of their first pieces; the places past them stay, and all of them after a refusal. It wants as many places as the file length
 // divided by 24, rounded down, else 2. FCS is unchecked. Values: as for lumbryth_import.
-#[unsafe(no_mangle)]
-pub extern "C" fn lumbryth_import_stretches(
+pub fn lumbryth_import_stretches(
     file: &[u8],
     work: &mut [u8],
     stretches: &mut [stretches::Stretch],
@@ -210,8 +196,7 @@ pub extern "C" fn lumbryth_import_stretches(
 }
 
 // The same by a list of options.
-#[unsafe(no_mangle)]
-pub extern "C" fn lumbryth_import_stretches_with(
+pub fn lumbryth_import_stretches_with(
     file: &[u8],
     work: &mut [u8],
     stretches: &mut [stretches::Stretch],
