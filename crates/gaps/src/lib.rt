@@ -1,4 +1,6 @@
 // Signs in a trace that something is not in it: the call that counts them, by three walks over the records.
+#![tactic(auto)]
+
 ghost use Rattle.std.specs.Prelude.{◌≡◌};
 ghost use Rattle.packets.specs.PacketTable.{Read};
 ghost use Rattle.opening.specs.Opening.{tail_of};

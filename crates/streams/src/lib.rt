@@ -1,4 +1,6 @@
 // The DLCI chosen, and the list of its spans.
+#![tactic(auto)]
+
 ghost use Rattle.std.specs.Prelude.{◌≡◌, ◌*◌, ◌/◌, ◌≤◌, ◌<◌, length, get_or, set};
 ghost use Rattle.outcome.specs.Import.{on_channel};
 ghost use Rattle.streams.specs.Streams.{channel_of, plan_of, Tabled, Ready, Accountable, stream_summed, Chooses, ListsSpans};

@@ -1,5 +1,7 @@
 // The calls on frames, names and lists, and those that list records, as plain functions: each writes its output, and tells its
 // answer by a number and values.
+#![tactic(auto)]
+
 ghost use Rattle.std.specs.Prelude.{◌≡◌};
 ghost use Rattle.commands.specs.Commands.{is_command_name};
 ghost use Rattle.fixtures.specs.Plan.{plan_of};

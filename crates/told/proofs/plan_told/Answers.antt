@@ -1,0 +1,5 @@
+use Rattle.telling.proofs.TellLaws.{calls}
+use Rattle.told.proofs.plan_told.Goals as goal
+
+pub returns : goal.returns
+returns c = search calls

@@ -1,0 +1,16 @@
+use Rattle.writing.proofs.Gathers.{out_part, out_fits, out_put}
+use Rattle.writing.proofs.put_out.Reads as reads
+use Rattle.writing.proofs.put_out.Lts as lts
+use Rattle.words.proofs.part.Reads as part_reads
+use Rattle.split.proofs.piece.Reads as piece_reads
+use Rattle.words.proofs.copy_to.Reads as copy_to_reads
+use Rattle.writing.proofs.put_out.Goals as goal
+
+pub part-requires : goal.part-requires
+part-requires c = search out_part
+
+pub copy_to-requires : goal.copy_to-requires
+copy_to-requires c = search out_fits
+
+pub returns : goal.returns
+returns c = search out_put

@@ -1,0 +1,30 @@
+use Rattle.writing.proofs.Writing.{close_time, close_sum, close_gather, close_put, close_written}
+use native.Mathlib.Omega.{arith}
+use Rattle.writing.proofs.write_closed.Reads as reads
+use Rattle.writing.proofs.write_closed.Lts as lts
+use Rattle.items.proofs.put_head.Reads as put_head_reads
+use Rattle.writing.proofs.gather_out.Reads as gather_out_reads
+use Rattle.writing.proofs.kind_of.Reads as kind_of_reads
+use Rattle.writing.proofs.put_out.Reads as put_out_reads
+use Rattle.words.proofs.get32.Reads as get32_reads
+use Rattle.words.proofs.get64.Reads as get64_reads
+use Rattle.words.proofs.put_le.Reads as put_le_reads
+use Rattle.writing.proofs.write_closed.Goals as goal
+
+pub put_le-body-requires : goal.put_le-body-requires
+put_le-body-requires c = close_time _ _ _ _ _ _ _ _ c.requires _ _ _ c.put_head-time.ensures
+
+pub gather_out-requires : goal.gather_out-requires
+gather_out-requires c = close_gather _ _ _ _ _ _ _ _ c.requires _ _ _ c.put_head-time.ensures _ _ _ c.put_le-body.ensures
+
+pub overflow_add-rest : goal.overflow_add-rest
+overflow_add-rest c = omega (arith, c.well_formed, c.ranges, close_sum _ _ _ _ _ _ _ _ c.requires _ _ _ c.put_head-time.ensures _ _ _ c.put_le-body.ensures)
+
+pub put_out-requires : goal.put_out-requires
+put_out-requires c = close_put _ _ _ _ _ _ _ _ c.requires _ _ _ c.put_head-time.ensures _ _ _ c.put_le-body.ensures _ c.gather_out.ensures
+
+pub overflow_add-result : goal.overflow_add-result
+overflow_add-result c = omega (arith, c.well_formed, c.ranges, close_sum _ _ _ _ _ _ _ _ c.requires _ _ _ c.put_head-time.ensures _ _ _ c.put_le-body.ensures)
+
+pub returns : goal.returns
+returns c = close_written _ _ _ _ _ _ _ _ c.requires _ _ _ c.get32.ensures c.kind_of-kind.ensures c.get64-ms.ensures _ _ c.put_head-time.ensures _ _ c.put_le-body.ensures _ c.gather_out.ensures _ c.put_out.ensures
