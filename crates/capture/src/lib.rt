@@ -1,4 +1,6 @@
 // Import: from the bytes of a trace to the list of the spans of one DLCI.
+#![tactic(auto)]
+
 ghost use Rattle.std.specs.Prelude.{◌≡◌, get_or};
 ghost use Rattle.trace.specs.Formats.{format_of};
 ghost use Rattle.packets.specs.Adding.{ReadTo};

@@ -1,4 +1,6 @@
 // Import as the calls ask for it: by options in a list of numbers, or by two; and its answer as a number and values.
+#![tactic(auto)]
+
 ghost use Rattle.std.specs.Prelude.{◌≡◌};
 ghost use Rattle.trace.specs.declared.Container.TheVariants.{Btsnoop};
 ghost use Rattle.capture.specs.Calls.{told_imported};

@@ -1,5 +1,7 @@
 // Import where places for stretches are lent: the open stretches are listed at the start of work, and the answer is told as a
 // number and values.
+#![tactic(auto)]
+
 ghost use Rattle.capture.specs.Options.{options_of};
 ghost use Rattle.trace.specs.declared.Container.TheVariants.{Btsnoop};
 ghost use Rattle.options.specs.Numbers.{container_in};

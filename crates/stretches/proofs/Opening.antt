@@ -1,6 +1,6 @@
 -- Laws of specs/Open: a key that comes at the end of a list, and how many stretches are open.
 use Prim.Native.Nat.{ℕ, suc, ◌+◌}
-use mathlib.Core.Path.{◌≡◌, refl, sym, ◌∙◌}
+use mathlib.Core.Path.{◌≡◌, refl, sym, ◌∙◌, ap}
 use mathlib.Core.Logic.{◌≢◌}
 use mathlib.Core.Bool.{Bool, true, false, cond, not, ◌&&◌}
 use mathlib.Core.List.{List, [], ◌∷◌, ◌++◌, map, map-append}
@@ -79,7 +79,9 @@ count_there p x (y ∷ ys) h =
     split_b (mem y ys)
     (λ e. rw e (count_there p x ys (split_k x y (λ z. rw z e) (λ n. rw (ne_eq_k x y n) at h))))
     (λ e. split_k x y
-    (λ z. rw (e, z) (split_b (p y) (λ g. rw (g, eq_eq_k y y refl, count_absent p y ys e)) (λ g. rw (g, count_absent p y ys e))))
+    (λ z. let gone : mem x ys ≡ false = rw z e in
+    let a : count (but p x) (nub ys) ≡ count p (nub ys) = count_absent p x ys gone in
+    rw (e, ap p z) (split_b (p y) (λ g. rw (g, eq_eq_k y x (sym z), a)) (λ g. rw (g, a))))
     (λ n. let m : y ≢ x = λ z. n (sym z) in
     let ih : cond (p x) (suc (count (but p x) (nub ys))) (count (but p x) (nub ys)) ≡ count p (nub ys) = count_there p x ys (rw (ne_eq_k x y n) at h) in
     rw e (split_b (p y)

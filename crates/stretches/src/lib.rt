@@ -1,4 +1,6 @@
 // The stretches that are open at the end of a trace, each with its counts: listed in work, and put into a lent list.
+#![tactic(auto)]
+
 ghost use Rattle.std.specs.Prelude.{◌≡◌, ◌+◌, ◌*◌, ◌≤◌, length};
 ghost use Rattle.words.specs.Rows.{put_words};
 ghost use Rattle.split.specs.Walks.{Chain};

@@ -1,0 +1,26 @@
+use Rattle.channels.proofs.Passing.{reassembled_own}
+use Rattle.capture.proofs.CallLaws.{packets_read}
+use Rattle.capture.proofs.PassLaws.{reassemble_needs, pieces_need, spans_need}
+use Rattle.capture.proofs.import_packets.Reads as reads
+use Rattle.capture.proofs.import_packets.Lts as lts
+use Rattle.capture.proofs.answer_of.Reads as answer_of_reads
+use Rattle.channels.proofs.read_channels.Reads as read_channels_reads
+use Rattle.l2cap.proofs.reassemble.Reads as reassemble_reads
+use Rattle.gathering.proofs.read_pieces.Reads as read_pieces_reads
+use Rattle.streams.proofs.list_spans.Reads as list_spans_reads
+use Rattle.capture.proofs.import_packets.Goals as goal
+
+pub reassemble-t-requires : goal.reassemble-t-requires
+reassemble-t-requires c = search reassemble_needs
+
+pub read_channels-rows-requires : goal.read_channels-rows-requires
+read_channels-rows-requires c = reassembled_own _ _ _ _ c.reassemble-t.ensures
+
+pub read_pieces-g-requires : goal.read_pieces-g-requires
+read_pieces-g-requires c = pieces_need _ _ _ _ _ c.read_channels-rows.ensures
+
+pub list_spans-l-requires : goal.list_spans-l-requires
+list_spans-l-requires c = spans_need _ _ _ _ _ _ c.read_pieces-g.ensures
+
+pub returns : goal.returns
+returns c = packets_read _ _ _ c.args.options c.requires _ _ c.reassemble-t.ensures _ _ c.read_channels-rows.ensures _ _ c.read_pieces-g.ensures _ _ _ _ c.list_spans-l.ensures _ c.answer_of.ensures

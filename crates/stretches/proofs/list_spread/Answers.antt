@@ -1,0 +1,18 @@
+use Prim.Native.Nat.{◌-◌}
+use Rattle.stretches.proofs.Listing.{listing_start, listing_pre, listing_turn, listing_end}
+use Rattle.stretches.proofs.list_spread.Reads as reads
+use Rattle.stretches.proofs.list_spread.Lts as lts
+use Rattle.stretches.proofs.add_open.Reads as add_open_reads
+use Rattle.stretches.proofs.list_spread.Goals as goal
+
+pub loop-i-init : goal.loop-i-init
+loop-i-init c = search listing_start
+
+pub add_open-k-requires : goal.add_open-k-requires
+add_open-k-requires c = search listing_pre
+
+pub loop-i-preserved : goal.loop-i-preserved
+loop-i-preserved c = search listing_turn
+
+pub returns : goal.returns
+returns c = search listing_end

@@ -1,0 +1,17 @@
+use Rattle.stretches.proofs.Spreading.{spreading_start, spreading_pre, spreading_turn, spreading_end}
+use Rattle.stretches.proofs.spread_back.Reads as reads
+use Rattle.stretches.proofs.spread_back.Lts as lts
+use Rattle.stretches.proofs.hand_back.Reads as hand_back_reads
+use Rattle.stretches.proofs.spread_back.Goals as goal
+
+pub loop-i-init : goal.loop-i-init
+loop-i-init c = search spreading_start
+
+pub hand_back-requires : goal.hand_back-requires
+hand_back-requires c = search spreading_pre
+
+pub loop-i-preserved : goal.loop-i-preserved
+loop-i-preserved c = search spreading_turn
+
+pub returns : goal.returns
+returns c = search spreading_end
