@@ -1,5 +1,7 @@
 // The proved calls, as lumbryth_c exports them for C and Rust. A call returns 0, or document 01's number of the refusal; as many of the values that it
 // answers, or that the refusal carries, as the list lent for them has room for are stored at its front.
+#![tactic(auto)]
+
 ghost use Rattle.std.specs.Prelude.{◌≡◌};
 ghost use Rattle.fixtures.specs.Plan.{plan_of};
 ghost use Rattle.mdr.specs.Frame.{unpack_of, pack_of};

@@ -1,3 +1,2 @@
-pub mod Again
 pub mod PlacesLaws
 pub mod StretchLaws

@@ -7,8 +7,7 @@ use native.Mathlib.Omega.{arith}
 use lib.ListN.{length}
 use borrow.Author.Tests.{le-leb, lt-leb}
 use Rattle.laws.proofs.Choice.{split_b, no_way}
-use types.Run.{OneOf, miss}
-use denote.Enum.Declared.{tag_of}
+use mathlib.Core.Logic.{◌≢◌}
 use Rattle.laws.specs.Answers.{refused, Outcome, Meets}
 use Rattle.laws.proofs.Answers.{meets_refused, meets_as}
 use Rattle.trace.specs.Formats.{container_of}
@@ -34,7 +33,6 @@ use Rattle.capture.specs.declared.Found.{Found}
 use Rattle.capture.specs.declared.Summary.{Summary}
 use Rattle.capture.specs.declared.Imported.{Imported}
 use Rattle.capture.specs.declared.Imported.TheVariants.{Spans, Refused, NoStream, OutShort}
-use Rattle.capture.specs.contracts.Imported.{the_type}
 use Rattle.stretches.specs.Filled.{stretches_to}
 use Rattle.stretches.specs.Listing.{SpreadPre, OpenListed}
 use Rattle.stretches.specs.declared.Stretch.{Stretch}
@@ -92,15 +90,15 @@ refusal_lists NotPcap l = refl
 refusal_lists (LinkType n) l = refl
 refusal_lists (Truncated at) l = refl
 
-listed_refused : (r : Imported) (l : List Stretch) → OneOf (1 ∷ 2 ∷ 3 ∷ []) (tag_of the_type r) → [] ≡ listed_by (told_imported r) l
+listed_refused : (r : Imported) (l : List Stretch) → ((s : Summary) → r ≢ Spans s) → [] ≡ listed_by (told_imported r) l
 unfolding listed_by
-listed_refused (Spans s) l h = absurd (miss (1 ∷ 2 ∷ 3 ∷ []) 0 tt h)
+listed_refused (Spans s) l h = absurd (h s refl)
 listed_refused (Refused x) l h = refusal_lists x l
 listed_refused NoStream l h = refl
 listed_refused (OutShort n) l h = refl
 
 -- no spans
-pub found_none : (f w : List ℕ) (r : Found) → OneOf (1 ∷ 2 ∷ 3 ∷ []) (tag_of the_type r.answer) → FoundListed f w r w 0
+pub found_none : (f w : List ℕ) (r : Found) → ((s : Summary) → r.answer ≢ Spans s) → FoundListed f w r w 0
 unfolding stretches_to
 found_none f w r h = record { list = λ b o l. listed_refused r.answer (file_stretches b f o) h; few = omega arith }
 

@@ -1,4 +1,6 @@
 // Runs the call of a sample's case: the calls on frames, names and lists.
+#![tactic(auto)]
+
 ghost use Rattle.std.specs.Prelude.{◌≡◌, ◌<◌};
 
 use samples::{Call, byte, long, part, sum, word};
