@@ -1,4 +1,6 @@
 // A case of a sample replayed: its call is run, import by work that is lent, and what it answers is compared.
+#![tactic(auto)]
+
 ghost use Rattle.std.specs.Prelude.{◌≡◌, true, ◌≤◌, length};
 
 use rerun::{NO_CALL, run_plain};
