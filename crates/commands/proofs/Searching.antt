@@ -136,7 +136,7 @@ pub empty_spot : Spot 245 (ascii "NO_COMMAND")
 unfolding name_at all_names commands others type_name t1 t2
 empty_spot = record { within = lit< tt; is = refl }
 
-commands_count : length commands ≡ 229
+pub commands_count : length commands ≡ 229
 unfolding commands t1 t2
 commands_count = refl
 
@@ -171,7 +171,7 @@ names1_count : length (names_of t1) ≡ 152
 unfolding t1
 names1_count = refl
 
-command_at : (i : ℕ) → i < 229 → name_at i ≡ get_or commands i []
+pub command_at : (i : ℕ) → i < 229 → name_at i ≡ get_or commands i []
 unfolding name_at all_names
 command_at i h = get_or-append commands others [] i (omega (arith, commands_count))
 

@@ -1,11 +1,13 @@
 // The letters of every name: a name by its number is joined of its stem and its ending. And whether a table has a name.
+#![tactic(auto)]
+
 ghost use Rattle.std.specs.Prelude.{◌≡◌, ◌+◌, ◌*◌, ◌≤◌, ◌<◌, length};
 ghost use Rattle.laws.specs.Keys.{eq_k};
 ghost use Rattle.laws.specs.Stores.{Writes};
 ghost use Rattle.commands.specs.Commands.{is_command_name};
 ghost use Rattle.commands.specs.Labels.{command_name};
-ghost use Rattle.commands.specs.Numbers.{name_at, NameLong};
-ghost use Rattle.letters.specs.Run.{all_letters, all_starts, all_lens, all_pairs, part_at, begins, PlaceIs, PartLen, HalvesAre, PartTables, Tables};
+ghost use Rattle.commands.specs.Run.{name_at};
+ghost use Rattle.letters.specs.Run.{NameLong, all_letters, all_starts, all_lens, all_pairs, part_at, begins, PlaceIs, PartLen, HalvesAre, PartTables, Tables};
 ghost use Rattle.letters.specs.Search.{EndingIs, is_pair, named_from};
 
 use commands::{Frame, command_name};

@@ -13,8 +13,8 @@ use Rattle.laws.proofs.Keys.{eq_k_true, eq_eq_k, ne_eq_k}
 use Rattle.laws.proofs.Stores.{writes_then, writes_long}
 use Rattle.laws.specs.Keys.{eq_k}
 use Rattle.laws.specs.Stores.{Writes}
-use Rattle.commands.specs.Numbers.{all_names, name_at, NameLong}
-use Rattle.letters.specs.Run.{part_at, begins, joined, all_pairs, PartLen, HalvesAre}
+use Rattle.commands.specs.Run.{all_names, name_at}
+use Rattle.letters.specs.Run.{NameLong, part_at, begins, joined, all_pairs, PartLen, HalvesAre}
 use Rattle.letters.specs.declared.Halves.{Halves}
 use Rattle.letters.proofs.Computed.{names_joined, passes, is_below, all_below, names_count}
 

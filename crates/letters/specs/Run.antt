@@ -2,7 +2,7 @@
 use Rattle.std.specs.Prelude.{◌≡◌, Bool, true, false, cond, List, [], ◌∷◌, ◌++◌, map, ℕ, suc, ◌+◌, ◌-◌, ◌*◌, ◌/◌, ◌%◌, ◌<◌, ◌≤◌, eqb, length, get_or, take, drop}
 use Rattle.laws.specs.Keys.{eq_k}
 use Rattle.commands.specs.Text.{ascii}
-use Rattle.commands.specs.Numbers.{all_names, name_at}
+use Rattle.commands.specs.Run.{all_names, name_at}
 use Rattle.letters.specs.declared.Place.{Place}
 use Rattle.letters.specs.declared.Halves.{Halves}
 
@@ -106,6 +106,11 @@ abbrev pub joined : ℕ → List ℕ
 joined w = part_at (w / 256) ++ part_at (w % 256)
 
 -- ---- what the code has of them
+
+-- how long a name is, with a bound that spares callers a sum that wraps
+pub record NameLong (i r : ℕ) : Type 0 where
+  pub is : r ≡ length (name_at i)
+  pub small : r < 511
 
 -- where a part stands in the run
 pub record PlaceIs (p : ℕ) (r : Place) : Type 0 where
