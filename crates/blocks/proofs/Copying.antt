@@ -1,5 +1,5 @@
 -- Storing a part as it stands.
-use Rattle.std.proofs.Common.{◌≡◌, ℕ, ◌+◌, ◌-◌, ◌<◌, ◌≤◌, List, [], ◌∷◌, length, get_or, drop, set, refl, ◌∙◌, subst, append-nil, arith}
+use Rattle.std.proofs.Common.{◌≡◌, ℕ, ◌+◌, ◌<◌, ◌≤◌, List, [], ◌∷◌, length, get_or, drop, set, refl, ◌∙◌, subst, append-nil, arith}
 use lib.Seq.{sets-eq}
 use Rattle.laws.proofs.Lists.{drop_step, drop_end}
 use Rattle.laws.specs.Stores.{Writes, Emitting}

@@ -1,5 +1,5 @@
 -- The table of channels in work: the key of a channel, and what the signals said of it.
-use Rattle.std.specs.Prelude.{ℕ, ◌+◌, ◌-◌, ◌*◌, ◌/◌, ◌<◌, ◌≤◌, ◌≡◌, Bool, true, false, List, ltb}
+use Rattle.std.specs.Prelude.{ℕ, ◌+◌, ◌*◌, ◌/◌, ◌<◌, ◌≤◌, ◌≡◌, Bool, true, false, List, ltb}
 use Rattle.table.specs.Table.{Slot, none, some, lookup}
 use Rattle.tree.specs.declared.Tree.{Tree}
 use Rattle.channels.specs.Signals.{Signal, triple}

@@ -1,5 +1,5 @@
 -- Channels: what signals name and admit, and which PDUs are tried.
-use Rattle.std.specs.Prelude.{ℕ, Bool, true, false, not, ◌&&◌, ◌||◌, List, [], ◌∷◌, length, leb, eqb}
+use Rattle.std.specs.Prelude.{ℕ, Bool, false, not, ◌&&◌, ◌||◌, List, [], ◌∷◌, length, leb, eqb}
 use Rattle.laws.specs.Keys.{Key, eq_k}
 use Rattle.laws.specs.Numbers.{le16}
 use Rattle.l2cap.specs.Pdus.{Pdu}

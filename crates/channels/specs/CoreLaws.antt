@@ -2,7 +2,7 @@
 use Rattle.std.specs.Prelude.{◌≡◌, Bool, true, false, ◌||◌, List, ◌∷◌, ◌++◌}
 use Rattle.laws.specs.Keys.{Key, eq_k}
 use Rattle.channels.specs.Channels.{any}
-use Rattle.channels.specs.Core.{CoreSignal, connects, succeeds, disconnects, latest}
+use Rattle.channels.specs.Core.{CoreSignal, connects, succeeds, disconnects}
 
 -- ---- from success to end
 

@@ -1,5 +1,5 @@
 -- Signalling on CID 1: commands, and the requests and responses among them.
-use Rattle.std.specs.Prelude.{ℕ, ◌+◌, ◌-◌, Bool, true, false, cond, ◌&&◌, List, [], ◌∷◌, ◌++◌, length, get_or, take, drop, leb, eqb}
+use Rattle.std.specs.Prelude.{ℕ, ◌+◌, ◌-◌, Bool, cond, ◌&&◌, List, [], ◌∷◌, ◌++◌, length, get_or, take, drop, leb, eqb}
 use Rattle.laws.specs.Chop.{chop}
 use Rattle.laws.specs.Keys.{Key}
 use Rattle.laws.specs.Numbers.{le16}

@@ -1,20 +1,17 @@
 -- The rows linked, class by class.
 use mathlib.Core.Path.{◌≡◌, refl, sym, ap, ◌∙◌}
 use mathlib.Core.List.{List}
-use mathlib.Core.Bool.{Bool, true, false, cond}
 use Prim.Native.Nat.{ℕ, zero, suc, ◌+◌, ◌-◌, ◌*◌, ◌<◌, ◌≤◌}
 use native.Mathlib.Omega.{arith}
 use native.Mathlib.Numerals.{add-one}
 use lib.ListN.{length}
-use lib.Dec.{eqb}
 use borrow.Author.Tests.{eq-eqb, ne_eqb, lt-ltb, le-ltb}
 use Rattle.laws.proofs.Choice.{split≡, split≤}
-use Rattle.laws.specs.Keys.{Key}
 use Rattle.words.specs.Words.{word, put_word}
 use Rattle.words.proofs.Words.{length_put, word_put_same, word_put_other}
 use Rattle.words.specs.Front.{Front}
 use Rattle.words.proofs.Front.{front_refl, front_then, front_less, front_put, front_word}
-use Rattle.table.specs.Chain.{newest, Chained, Filled, put_link, LinkPre}
+use Rattle.table.specs.Chain.{newest, Filled, put_link, LinkPre}
 use Rattle.table.proofs.Chain.{newest_below, chained_agree, length_link, link_other}
 use Rattle.classes.specs.First.{class_of}
 use Rattle.classes.proofs.First.{class_same, class_most, class_key}
@@ -22,7 +19,7 @@ use Rattle.classes.specs.Bits.{roots_of}
 use Rattle.classes.specs.Classes.{key_at, links_in, NotePre, Known, Noted, Classes}
 use Rattle.classes.specs.Linking.{LinkRoom, LinkedTo, Unlinked, class_in, Links, Woven, earlier_of, Ended}
 use Rattle.classes.specs.declared.Rows.{Rows}
-use Rattle.classes.proofs.Bits.{roots_some, roots_few}
+use Rattle.classes.proofs.Bits.{roots_few}
 use Rattle.classes.proofs.Walking.{classes_agree}
 
 key_same : (u w : List ℕ) (x : Rows) (m i : ℕ) → x.at + 8 * i + 4 ≤ m → Front (4 * m) u w → key_at u x i ≡ key_at w x i

@@ -1,9 +1,9 @@
 -- The walk along the bits of a key, and one row more in the trees.
 use mathlib.Core.Path.{◌≡◌, refl, sym, ap, ◌∙◌}
 use mathlib.Core.List.{List}
-use mathlib.Core.Logic.{◌⊎◌, inl, inr, ⊎_elim}
+use mathlib.Core.Logic.{inl, inr, ⊎_elim}
 use mathlib.Core.Bool.{Bool, true, false, cond}
-use Prim.Native.Nat.{ℕ, zero, suc, ◌+◌, ◌-◌, ◌*◌, ◌/◌, ◌%◌, ◌<◌, ◌≤◌}
+use Prim.Native.Nat.{ℕ, zero, suc, ◌+◌, ◌-◌, ◌*◌, ◌%◌, ◌<◌, ◌≤◌}
 use native.Mathlib.Omega.{arith}
 use lib.ListN.{length}
 use lib.Dec.{eqb}
@@ -14,7 +14,7 @@ use Rattle.laws.proofs.Keys.{eq_k_true, eq_eq_k}
 use Rattle.words.specs.Words.{word, put_word}
 use Rattle.words.proofs.Words.{length_put, word_put_same, word_put_other}
 use Rattle.words.proofs.Front.{front_put, front_refl}
-use Rattle.tree.specs.Paths.{next_of, node_at, Slots, Keeps}
+use Rattle.tree.specs.Paths.{next_of, node_at, Keeps}
 use Rattle.tree.proofs.Paths.{node_step, node_past, node_below, node_kept, Grew, grew_keeps, grew_slots, slots_agree}
 use Rattle.classes.specs.First.{class_of}
 use Rattle.classes.proofs.First.{class_key, class_most, class_new}
@@ -23,7 +23,7 @@ use Rattle.classes.specs.Classes.{key_at, links_in, root_in, path_of, TwoRows, R
 use Rattle.classes.specs.declared.Rows.{Rows}
 use Rattle.classes.specs.declared.Spot.{Spot}
 use Rattle.classes.specs.declared.Spot.TheVariants.{Met, Free}
-use Rattle.classes.proofs.Bits.{roots_some, root_few}
+use Rattle.classes.proofs.Bits.{root_few}
 
 no_zero : {A : Type 0} (a : ℕ) → 0 ≡ suc a → A
 no_zero a e = absurd (omega (arith, e))

@@ -38,7 +38,7 @@ use Rattle.cut.proofs.CutRecords.{records_front, cut_records}
 use Rattle.cut.proofs.CutWires.{Spanning, stream, held_past, mid_none, past_mid}
 use Rattle.cut.proofs.Interleaving.{information_append, plain, Framed, as_piece, Apart, came_after, Fed, fed_run, fed_after, fed_none}
 use Rattle.cut.proofs.Counts.{mem_nub, once_nub, count_same, count_respell}
-use Rattle.cut.proofs.LinkWires.{partial_of, packed_spans, wires_all, links_framed, handles, found, directions, directions_once, mid_at, mid_counted, past_at, past_added}
+use Rattle.cut.proofs.LinkWires.{partial_of, packed_spans, wires_all, links_framed, found, directions, directions_once, mid_at, mid_counted, past_at, past_added}
 use Rattle.cut.proofs.DataPdus.{data_in, sent_append, data_append, cut_trace, cut_data, OnLink, trace_links}
 use Rattle.cut.proofs.DataKeys.{Where, nowhere, at_link, where_is_law, occurs, within, stretch_at, among_directions}
 use Rattle.cut.proofs.JudgedLists.{judged_of, marked_of, in_judged, in_marked}

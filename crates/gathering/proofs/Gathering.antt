@@ -27,7 +27,7 @@ use Rattle.channels.specs.Signals.{Signal, signals}
 use Rattle.channels.specs.ChannelTable.{Tells}
 use Rattle.channels.specs.Passing.{Signalled}
 use Rattle.channels.proofs.Passing.{signalled_front}
-use Rattle.rfcomm.specs.Pieces.{Kind, asks, opens, wrong, passed, kind_of, judged, told, kinds, is_wrong, wrong_on, Counts, counted, piece_of, brought, no_counts, pieces}
+use Rattle.rfcomm.specs.Pieces.{Kind, asks, opens, wrong, passed, kind_of, judged, kinds, is_wrong, wrong_on, Counts, counted, piece_of, brought, no_counts, pieces}
 use Rattle.rfcomm.proofs.Pieces.{judged_is}
 use Rattle.rfcomm.specs.PieceTable.{piece_at, pieces_from, infos_of, Within, Pieced}
 use Rattle.tree.specs.Tree.{Indexed, Entered, Stands, ClearPre, Cleared}

@@ -1,12 +1,11 @@
 -- The table of counts in work: under 64 * link the sessions of a link, under 64 * link + DLCI its links on that DLCI.
-use Rattle.std.specs.Prelude.{ℕ, ◌+◌, ◌-◌, ◌*◌, ◌/◌, ◌<◌, ◌≤◌, ◌≡◌, List, [], ◌∷◌}
+use Rattle.std.specs.Prelude.{ℕ, ◌+◌, ◌*◌, ◌/◌, ◌<◌, ◌≤◌, ◌≡◌, List, [], ◌∷◌}
 use Rattle.laws.specs.Keys.{Key}
-use Rattle.words.specs.Words.{word}
 use Rattle.table.specs.Table.{Slot, none, some, lookup}
 use Rattle.tree.specs.Tree.{SeekPre, EnterPre, Entered}
 use Rattle.tree.specs.declared.Tree.{Tree}
 use Rattle.tree.specs.declared.Seating.{Seating}
-use Rattle.rfcomm.specs.Pieces.{Counts, counted}
+use Rattle.rfcomm.specs.Pieces.{Counts}
 
 unfoldable pub value_of : Slot → ℕ
 value_of none = 0

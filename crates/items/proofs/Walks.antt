@@ -11,7 +11,7 @@ use lib.Seq.{drop-drop, get_or-take, take-nil, length-take-le}
 use borrow.Author.Tests.{leb-true, le-leb, lt-leb, eqb-true}
 use Rattle.laws.proofs.Choice.{split_b, split≤, no_way}
 use Rattle.laws.specs.Numbers.{le16, le32, le64}
-use Rattle.items.specs.Items.{Span, span, rx_of, Item, item_at, end_at, Test, is_item, Listed, well_formed, ill_formed, more, read_items, span_test, span_of, spans_in, name_test, names_in}
+use Rattle.items.specs.Items.{span, rx_of, Item, item_at, end_at, Test, is_item, Listed, well_formed, ill_formed, more, read_items, span_test, span_of, spans_in, name_test, names_in}
 use Rattle.items.specs.Reading.{read_from}
 use Rattle.items.proofs.Reading.{read_good, read_bad, read_end, le32_drop}
 use Rattle.items.specs.declared.Direction.{Direction}

@@ -1,5 +1,5 @@
 -- Laws of reading a list: one item after another, and back what was written.
-use Rattle.std.specs.Prelude.{ℕ, ◌-◌, ◌<◌, ◌≤◌, ◌≡◌, true, List, map, drop}
+use Rattle.std.specs.Prelude.{ℕ, ◌<◌, ◌≤◌, ◌≡◌, true, List, map, drop}
 use Rattle.laws.specs.Lists.{flat}
 use Rattle.items.specs.Items.{item, Span, Item, Test, Listed, passing}
 

@@ -1,5 +1,5 @@
 -- Laws on the table of PDUs, for the passes that read it: one PDU at a time, its payload, and what a write behind the table leaves.
-use Rattle.std.specs.Prelude.{List, ℕ, ◌+◌, ◌-◌, ◌*◌, ◌<◌, ◌≤◌, length}
+use Rattle.std.specs.Prelude.{List, ℕ, ◌+◌, ◌*◌, ◌<◌, ◌≤◌, length}
 use Rattle.l2cap.specs.PduTable.{Inside}
 
 -- ---- a payload that can be lent

@@ -8,7 +8,7 @@ use native.Mathlib.Omega.{arith}
 use native.Mathlib.Nat.{zero-add}
 use Rattle.laws.proofs.Choice.{split_b}
 use Rattle.laws.specs.Lists.{All, all_nil, all_cons}
-use Rattle.laws.specs.Keys.{Key, eq_k}
+use Rattle.laws.specs.Keys.{Key}
 use Rattle.laws.proofs.Keys.{split_k, eq_eq_k, ne_eq_k}
 use Rattle.laws.specs.Keyed.{Machine, of, step, run, run1}
 use Rattle.laws.specs.Count.{mem, nub, count}

@@ -1,5 +1,5 @@
 -- Laws of escaping: back again, how long, and that no mark of a frame is left inside.
-use Rattle.std.specs.Prelude.{ℕ, ◌+◌, ◌-◌, ◌≡◌, List, [], ◌∷◌, cond}
+use Rattle.std.specs.Prelude.{ℕ, ◌+◌, ◌≡◌, List, [], ◌∷◌, cond}
 use Rattle.mdr.specs.Escape.{within}
 
 -- a byte that is neither mark

@@ -1,5 +1,5 @@
 -- The wire of a frame: it unpacks to the frame, holds 3E only first and 3C only last, and has a known length.
-use Rattle.std.specs.Prelude.{ℕ, ◌+◌, ◌-◌, ◌≡◌, List, [], ◌∷◌, ◌++◌}
+use Rattle.std.specs.Prelude.{ℕ, ◌≡◌, List, [], ◌∷◌, ◌++◌}
 use Rattle.laws.specs.Lists.{All}
 use Rattle.mdr.specs.Escape.{escape}
 use Rattle.mdr.specs.Frame.{body_of}

@@ -23,7 +23,7 @@ use Rattle.packets.specs.Adding.{ReadPre, ReadTo}
 use Rattle.packets.specs.declared.Packets.{Packets}
 use Rattle.outcome.specs.Import.{ends_well, fits, work_suffices}
 use Rattle.outcome.specs.Import as import
-use Rattle.opening.specs.Opening.{ends, heads, opened, tail_of, Reads, Opens, Sized, HeaderOpens, ends_by, RecordsOpen, truncates}
+use Rattle.opening.specs.Opening.{ends, heads, opened, tail_of, Opens, Sized, HeaderOpens, ends_by, RecordsOpen, truncates}
 use Rattle.opening.specs.declared.Tail.{Tail}
 use Rattle.opening.specs.declared.Tail.TheVariants.{Strict, Tolerant}
 use Rattle.opening.specs.declared.Opened.{Opened}

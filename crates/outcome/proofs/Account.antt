@@ -1,7 +1,7 @@
 -- The four numbers of an accepted file add up to the information bytes of the pieces taken in; and the bytes written are those in spans, and 14 for each span.
 use Prim.Native.Nat.{ℕ, ◌+◌, ◌*◌}
 use mathlib.Core.Path.{◌≡◌, refl}
-use mathlib.Core.List.{List, []}
+use mathlib.Core.List.{List}
 use mathlib.Core.Option.{Option, none, some}
 use native.Mathlib.Omega.{arith}
 use lib.ListN.{length}

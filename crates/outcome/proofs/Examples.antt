@@ -1,6 +1,6 @@
 -- By computation: the worked example and its cut by one byte, each refusal, document 01's own examples of 1 to 7, whose buffers are counted, and
 -- where bytes went.
-use Prim.Native.Nat.{ℕ, ◌+◌, ◌<◌}
+use Prim.Native.Nat.{ℕ, ◌<◌}
 use mathlib.Core.Path.{◌≡◌, refl}
 use mathlib.Core.List.{List, [], ◌∷◌, ◌++◌}
 use mathlib.Core.Option.{none, some}

@@ -1,7 +1,7 @@
 -- Import: the DLCI chosen, its spans, how many buffers are unfinished, the tail offset, its frames with a wrong FCS, and where its bytes went; or a refusal.
-use Rattle.std.specs.Prelude.{ℕ, ◌*◌, ◌/◌, Bool, true, false, cond, ◌&&◌, List, [], ◌∷◌, map, length, leb, ltb, eqb}
+use Rattle.std.specs.Prelude.{ℕ, ◌*◌, ◌/◌, Bool, true, cond, ◌&&◌, List, [], ◌∷◌, map, length, leb, eqb}
 use Rattle.std.proofs.Math.Option.{Option, none, some}
-use Rattle.laws.specs.Answers.{Answer, Outcome, gives, refuses, Meets}
+use Rattle.laws.specs.Answers.{Outcome, gives, refuses}
 use Rattle.items.specs.Items.{Span, span_list}
 use Rattle.mdr.specs.Frame.{unpacks_of}
 use Rattle.container.specs.Container.{Container, tail_offset, packets_in}

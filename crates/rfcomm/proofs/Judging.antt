@@ -1,5 +1,5 @@
 -- Laws of specs/Judging.
-use Prim.Native.Nat.{ℕ, zero, suc, ◌+◌, ◌-◌, ◌*◌, ◌<◌, ◌≤◌}
+use Prim.Native.Nat.{ℕ, zero, suc, ◌+◌, ◌*◌, ◌<◌, ◌≤◌}
 use mathlib.Core.Path.{◌≡◌, refl, sym, ap, ◌∙◌}
 use mathlib.Core.Bool.{Bool, true, false, cond, ◌&&◌}
 use mathlib.Core.List.{List}
@@ -19,7 +19,7 @@ use Rattle.channels.specs.Channels.{is_tried, asks_session}
 use Rattle.channels.specs.ChannelTable.{Tells}
 use Rattle.channels.specs.Passing.{Judged}
 use Rattle.uih.specs.Frames.{Uih as UihFrame, Frame as FrameRead, sabm, uih, wrong_fcs, other, frame_of}
-use Rattle.rfcomm.specs.Pieces.{carries, wrong, passed, uih_kind, frame_kind, kind_of}
+use Rattle.rfcomm.specs.Pieces.{carries, passed, uih_kind, frame_kind, kind_of}
 use Rattle.uih.specs.Reading.{uih_at, frame_shown, seen, UihLies, FrameIs}
 use Rattle.uih.specs.declared.Uih.{Uih}
 use Rattle.uih.specs.declared.Frame.{Frame}

@@ -1,9 +1,9 @@
 -- Sessions and links for each handle of an adapter (a PDU's `link`), and the pieces of information with the stretch that each belongs to.
-use Rattle.std.specs.Prelude.{ℕ, zero, suc, ◌+◌, Bool, true, false, cond, ◌&&◌, List, [], ◌∷◌, ◌++◌, map, length, ltb, eqb}
+use Rattle.std.specs.Prelude.{ℕ, zero, suc, ◌+◌, Bool, false, cond, ◌&&◌, List, [], ◌∷◌, ◌++◌, map, length, ltb, eqb}
 use Rattle.laws.specs.Keys.{Key}
 use Rattle.laws.specs.Keyed.{Machine, run}
 use Rattle.l2cap.specs.Pdus.{Pdu}
-use Rattle.channels.specs.Signals.{Signal, signals}
+use Rattle.channels.specs.Signals.{Signal}
 use Rattle.channels.specs.Channels.{is_tried, asks_session}
 use Rattle.channels.specs.Tried.{ChannelRule, source, tried_by}
 use Rattle.uih.specs.Frames.{Uih, Frame, sabm, uih, wrong_fcs, other, frame_of}

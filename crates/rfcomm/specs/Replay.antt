@@ -1,7 +1,7 @@
 -- Judging by Bluetooth Core's rule as a pass can do it: the signals of each PDU are noted, then the PDU is judged by what is known.
 use Rattle.std.specs.Prelude.{Bool, cond, List, [], ◌∷◌, leb}
 use Rattle.l2cap.specs.Pdus.{Pdu}
-use Rattle.channels.specs.Signals.{Signal, signals}
+use Rattle.channels.specs.Signals.{Signal}
 use Rattle.channels.specs.Channels.{named, channel_of, asks_session}
 use Rattle.channels.specs.Core.{pdu_core_signals}
 use Rattle.channels.specs.CoreReplay.{Known, noted_all}

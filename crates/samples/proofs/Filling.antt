@@ -1,14 +1,14 @@
 -- An output filled and compared place by place.
 use Prim.Native.Nat.{ℕ, ◌+◌, ◌<◌, ◌≤◌}
 use mathlib.Core.Path.{◌≡◌, refl, ◌∙◌}
-use mathlib.Core.Bool.{Bool, true, false}
+use mathlib.Core.Bool.{true, false}
 use mathlib.Core.List.{List}
 use native.Mathlib.Omega.{arith}
 use lib.ListN.{length, get_or, set, length-set}
 use lib.Seq.{get_or-set_same, get_or-set_other}
 use borrow.Author.Tests.{lt-ltb, le-ltb}
 use Rattle.laws.proofs.Choice.{split≡, no_way}
-use Rattle.samples.specs.Samples.{untouched_of, Fresh, output_of, Holds, Compared}
+use Rattle.samples.specs.Samples.{untouched_of, Fresh, output_of, Compared}
 
 -- ---- filled up to a place
 

@@ -7,10 +7,8 @@ use lib.ListN.{length, get_or, take, drop, get_or-eq_default}
 use borrow.Author.Tests.{eq-eqb, ne_eqb, le-leb, lt-leb}
 use Rattle.laws.proofs.Choice.{split≤}
 use Rattle.laws.specs.Numbers.{le32, le64}
-use Rattle.samples.specs.Places.{capped, word_at, long_at, part_at, counted_at, numbers_size, second_at, call_of, call_at, answer_of, answer_at}
+use Rattle.samples.specs.Places.{capped, word_at, long_at, part_at, counted_at, numbers_size, second_at, call_of, call_at, answer_at}
 use Rattle.samples.specs.declared.Counted.{Counted}
-use Rattle.samples.specs.declared.Call.{Call}
-use Rattle.samples.specs.declared.Answer.{Answer}
 
 -- ---- sums and numbers
 

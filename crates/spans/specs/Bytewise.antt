@@ -1,11 +1,10 @@
 -- The rule on one buffer is a scan byte by byte, for a buffer that is empty or begins with 3E and holds no 3C. All buffers are such.
-use Rattle.std.specs.Prelude.{ℕ, ◌+◌, ◌≡◌, cond, List, [], ◌∷◌, ◌++◌, map, eqb}
+use Rattle.std.specs.Prelude.{ℕ, ◌≡◌, cond, List, [], ◌∷◌, ◌++◌, map, eqb}
 use Rattle.laws.specs.Keys.{Key}
 use Rattle.laws.specs.Keyed.{Machine}
 use Rattle.items.specs.Items.{Span}
 use Rattle.rfcomm.specs.Pieces.{Piece}
 use Rattle.spans.specs.Scan.{capped}
-use Rattle.spans.specs.Spans.{spans}
 
 -- ---- the scan: what one byte, and what a list of bytes, makes of what is held, and the spans it completes
 

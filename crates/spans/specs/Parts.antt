@@ -1,7 +1,7 @@
 -- What the functions over one buffer promise.
-use Rattle.std.specs.Prelude.{ℕ, ◌+◌, ◌-◌, ◌*◌, ◌<◌, ◌≤◌, ◌≡◌, Bool, true, cond, List, [], ◌∷◌, map, length, take, drop, eqb}
+use Rattle.std.specs.Prelude.{ℕ, ◌+◌, ◌-◌, ◌*◌, ◌<◌, ◌≤◌, ◌≡◌, Bool, cond, List, [], ◌∷◌, map, length, take, drop, eqb}
 use Rattle.laws.specs.Stores.{Writes}
-use Rattle.items.specs.Items.{Span, span, span_list}
+use Rattle.items.specs.Items.{Span, span_list}
 use Rattle.mdr.specs.Frame.{unpacks_of}
 use Rattle.spans.specs.Scan.{spans_of, rest_of}
 use Rattle.spans.specs.declared.Next.{Next}

@@ -1,5 +1,5 @@
 -- The spans of pieces, in order of completion, each with the direction and time of the piece that brought its 3C; and the buffers left.
-use Rattle.std.specs.Prelude.{ℕ, Bool, cond, ◌&&◌, List, [], ◌∷◌, ◌++◌, map, length, ltb, eqb}
+use Rattle.std.specs.Prelude.{ℕ, cond, List, [], ◌∷◌, ◌++◌, map, length, ltb, eqb}
 use Rattle.laws.specs.Keys.{Key}
 use Rattle.laws.specs.Keyed.{Machine, run, after}
 use Rattle.laws.specs.Count.{count, nub}

@@ -1,22 +1,17 @@
 -- The pieces still to come: what the machine does with the next one, and a piece of another DLCI.
 use Prim.Native.Nat.{ℕ, suc, ◌+◌, ◌-◌, ◌*◌, ◌<◌, ◌≤◌}
-use mathlib.Core.Path.{◌≡◌, refl, sym, ap, ◌∙◌, fun_ext}
-use mathlib.Core.Bool.{cond}
+use mathlib.Core.Path.{◌≡◌, refl, fun_ext}
 use mathlib.Core.List.{List, [], ◌∷◌, ◌++◌, append-nil, map}
 use native.Mathlib.Omega.{arith}
 use native.Mathlib.Numerals.{add-one}
-use lib.ListN.{length}
-use lib.Dec.{eqb}
 use borrow.Author.Tests.{eq-eqb, ne_eqb}
 use Rattle.laws.specs.Keys.{Key, eq_k}
 use Rattle.laws.specs.Keyed.{step, run, after}
 use Rattle.words.specs.Front.{Front}
-use Rattle.rfcomm.specs.Pieces.{Piece}
 use Rattle.rfcomm.specs.PieceTable.{piece_at, pieces_from}
 use Rattle.spans.specs.Scan.{spans_of}
 use Rattle.spans.specs.Spans.{scanner, emptied, on_dlci}
 use Rattle.spans.specs.Parts.{tagged}
-use Rattle.split.specs.Last.{lastn}
 use Rattle.split.specs.Rows.{piece, dlci_at, tail_at, key_at, held_in, stream_of, opened, Fits, joined, ahead, Laid}
 use Rattle.split.proofs.Fronts.{table_front}
 use Rattle.split.specs.declared.Plan.{Plan}

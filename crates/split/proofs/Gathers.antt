@@ -1,8 +1,8 @@
 -- The bytes of a piece, read or copied from the file or from work; and what a key holds, put together by walking the pieces back.
-use Prim.Native.Nat.{ℕ, zero, suc, ◌+◌, ◌-◌, ◌*◌, ◌<◌, ◌≤◌, min}
+use Prim.Native.Nat.{ℕ, suc, ◌+◌, ◌-◌, ◌*◌, ◌<◌, ◌≤◌, min}
 use mathlib.Core.Path.{◌≡◌, refl, sym, ap, ◌∙◌}
 use mathlib.Core.Bool.{Bool, true, false, cond}
-use mathlib.Core.List.{List, [], ◌∷◌, ◌++◌}
+use mathlib.Core.List.{List, ◌++◌}
 use mathlib.Core.Logic.{◌≢◌}
 use native.Mathlib.Omega.{arith}
 use lib.ListN.{length, get_or, set, take, drop, length-append, length-drop, length-set}
@@ -11,7 +11,6 @@ use Rattle.laws.proofs.Choice.{split≡}
 use Rattle.laws.specs.Keys.{Key}
 use Rattle.words.specs.Front.{Front}
 use Rattle.words.proofs.Front.{front_refl, front_then, front_sets, part_take}
-use Rattle.rfcomm.specs.PieceTable.{infos_of}
 use Rattle.split.specs.Last.{lastn}
 use Rattle.split.specs.Rows.{key_at, len_at, start_at, in_work, bytes_at, stream_of, stream_to, Laid}
 use Rattle.split.specs.Walks.{Row, Chain, Earlier, PutPre, GatherPre}

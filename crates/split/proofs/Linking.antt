@@ -1,19 +1,17 @@
 -- The pieces linked: the four words of a piece's key and the key are told from each other.
-use Prim.Native.Nat.{ℕ, zero, suc, ◌+◌, ◌-◌, ◌*◌, ◌/◌, ◌%◌, ◌<◌, ◌≤◌}
+use Prim.Native.Nat.{ℕ, zero, suc, ◌+◌, ◌*◌, ◌/◌, ◌%◌, ◌<◌, ◌≤◌}
 use mathlib.Core.Path.{◌≡◌, refl, sym, ap, ◌∙◌}
 use mathlib.Core.List.{List, [], ◌∷◌}
 use native.Mathlib.Omega.{arith}
-use lib.ListN.{length, get_or}
-use lib.Dec.{eqb}
+use lib.ListN.{get_or}
 use borrow.Author.Tests.{eq-eqb, ne_eqb}
-use Rattle.laws.specs.Keys.{Key, eq_k}
+use Rattle.laws.specs.Keys.{Key}
 use Rattle.laws.proofs.Keys.{split_k, eq_eq_k, ne_eq_k}
 use Rattle.words.specs.Words.{word}
 use Rattle.table.specs.Chain.{newest}
 use Rattle.classes.specs.Classes.{key_at as words_at}
 use Rattle.classes.specs.Linking.{LinkRoom as ClassRoom, LinkedTo as ClassLinked}
-use Rattle.classes.specs.declared.Rows.{Rows}
-use Rattle.split.specs.Rows.{row_of, tail_at, key_at, newest_of, Linked}
+use Rattle.split.specs.Rows.{row_of, tail_at, key_at, newest_of}
 use Rattle.split.specs.Walks.{LinkRoom, LinkedTo}
 use Rattle.split.specs.declared.Plan.{Plan}
 

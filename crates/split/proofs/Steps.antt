@@ -1,9 +1,8 @@
 -- The step of the machine by one piece, in the table.
-use Prim.Native.Nat.{ℕ, zero, suc, ◌+◌, ◌-◌, ◌*◌, ◌<◌, ◌≤◌}
+use Prim.Native.Nat.{ℕ, suc, ◌+◌, ◌-◌, ◌*◌, ◌<◌, ◌≤◌}
 use mathlib.Core.Path.{◌≡◌, refl, sym, ap, ◌∙◌, fun_ext}
 use mathlib.Core.Logic.{◌≢◌}
-use mathlib.Core.Bool.{cond}
-use mathlib.Core.List.{List, [], ◌∷◌, ◌++◌}
+use mathlib.Core.List.{List, ◌∷◌, ◌++◌}
 use native.Mathlib.Omega.{arith}
 use native.Mathlib.Numerals.{add-one}
 use lib.ListN.{length, take, drop, length-append}
@@ -22,7 +21,7 @@ use Rattle.spans.specs.Bytewise.{AllQuiet}
 use Rattle.spans.proofs.Bytewise.{quiet_scanned}
 use Rattle.spans.proofs.Scans.{rest_le}
 use Rattle.split.specs.Last.{lastn}
-use Rattle.split.specs.Rows.{row_of, piece, dlci_at, tail_at, key_at, len_at, bytes_at, stream_of, held_in, held_of, stream_to, opened, Fits, joined, capped_length, Laid}
+use Rattle.split.specs.Rows.{piece, dlci_at, tail_at, key_at, len_at, bytes_at, stream_of, held_in, held_of, stream_to, opened, Fits, joined, capped_length, Laid}
 use Rattle.split.specs.Walks.{PutPre, JoinPre, Joined, Kept, Moved}
 use Rattle.split.proofs.Fronts.{key_front, len_front, bytes_front, stream_front, held_front, laid_front}
 use Rattle.split.specs.declared.Plan.{Plan}

@@ -2,9 +2,8 @@
 use Prim.Native.Nat.{ℕ, zero, suc, ◌+◌, ◌-◌, ◌*◌, ◌<◌, ◌≤◌}
 use mathlib.Core.Path.{◌≡◌, refl, sym, ap, ◌∙◌}
 use mathlib.Core.Bool.{Bool, true, false, cond}
-use mathlib.Core.List.{List, [], ◌∷◌, ◌++◌, append-nil}
+use mathlib.Core.List.{List, ◌++◌, append-nil}
 use native.Mathlib.Omega.{arith}
-use native.Mathlib.Numerals.{add-one}
 use lib.ListN.{length, take, drop, length-append, length-drop}
 use lib.Seq.{length-take-le}
 use Rattle.laws.proofs.Choice.{split_b, split≡}
@@ -12,9 +11,8 @@ use Rattle.laws.specs.Keys.{Key, eq_k}
 use Rattle.laws.proofs.Keys.{split_k, eq_k_true, eq_eq_k, ne_eq_k}
 use Rattle.words.specs.Words.{word}
 use Rattle.words.specs.Front.{Front}
-use Rattle.rfcomm.specs.Pieces.{Piece}
 use Rattle.rfcomm.specs.PieceTable.{piece_at, infos_of}
-use Rattle.split.specs.Rows.{piece, dlci_at, tail_at, key_at, len_at, start_at, in_work, bytes_at, stream_of, held_in, held_of, newest_of, Laid}
+use Rattle.split.specs.Rows.{piece, tail_at, key_at, len_at, start_at, in_work, bytes_at, stream_of, held_in, held_of, newest_of, Laid}
 use Rattle.split.specs.Walks.{Row, Chain, Earlier}
 use Rattle.split.proofs.Fronts.{key_front, newest_front}
 use Rattle.split.specs.declared.Plan.{Plan}

@@ -1,17 +1,15 @@
 -- From an answer's case to its number and values, and from there to what a caller gets.
 use Prim.Native.Nat.{ℕ, zero, suc, ◌+◌, ◌<◌, ◌≤◌}
 use mathlib.Core.Path.{◌≡◌, refl, sym, ap, subst, ◌∙◌}
-use mathlib.Core.Bool.{Bool, true, false, cond}
 use mathlib.Core.List.{List, [], ◌∷◌}
 use native.Mathlib.Omega.{arith}
-use lib.Dec.{ltb}
 use lib.ListN.{length, get_or, set, take, drop, drop_of_length-le, length-set}
 use lib.Seq.{set_out, take-length}
 use borrow.Author.Tests.{lt-ltb, le-ltb}
 use Rattle.laws.proofs.Choice.{split≤}
 use Rattle.laws.proofs.Lists.{drop_step}
 use Rattle.laws.specs.Answers.{Answer, Outcome, Meets}
-use Rattle.telling.specs.Telling.{number_of, values_of, stored, Told, Calls, shown_values, Shows, Tells, put_at}
+use Rattle.telling.specs.Telling.{number_of, values_of, stored, Told, Calls, Shows, Tells, put_at}
 use Rattle.telling.specs.declared.Shown.{Shown}
 
 pub shows_as : {X : Type 0} (tell : X → Answer) (u x : X) (s : Shown) → u ≡ x → Shows (number_of (tell x)) (values_of (tell x)) s → Shows (number_of (tell u)) (values_of (tell u)) s

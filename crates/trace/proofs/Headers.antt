@@ -2,7 +2,6 @@
 use Prim.Native.Nat.{ℕ}
 use mathlib.Core.Path.{◌≡◌, sym, ◌∙◌}
 use mathlib.Core.List.{List}
-use Rattle.laws.specs.Answers.{refused}
 use Rattle.btsnoop.specs.Headers as btsnoop_headers
 use Rattle.btsnoop.proofs.Headers as btsnoop_read
 use Rattle.btsnoop.specs.declared.Header as btsnoop_header

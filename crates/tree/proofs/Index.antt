@@ -1,12 +1,12 @@
 -- Laws of specs/Tree: the search, one row more, an index that begins.
 use mathlib.Core.Path.{◌≡◌, refl, sym, ap, ◌∙◌}
 use mathlib.Core.List.{List}
-use mathlib.Core.Logic.{◌⊎◌, inl, inr, ⊎_elim}
-use mathlib.Core.Bool.{Bool, true, false, cond}
+use mathlib.Core.Logic.{inl, inr}
+use mathlib.Core.Bool.{cond}
 use Prim.Native.Nat.{ℕ, zero, suc, ◌+◌, ◌-◌, ◌*◌, ◌/◌, ◌%◌, ◌<◌, ◌≤◌}
 use native.Mathlib.Omega.{arith}
 use native.Mathlib.Numerals.{add-one}
-use native.Mathlib.Nat.{div-lt_iff_lt-mul, mul_comm, mul-le-mul, mul-lt-mul_of_pos_right}
+use native.Mathlib.Nat.{div-lt_iff_lt-mul, mul-le-mul, mul-lt-mul_of_pos_right}
 use lib.ListN.{length}
 use lib.Dec.{eqb}
 use borrow.Author.Tests.{eq-eqb, ne_eqb}
@@ -14,14 +14,13 @@ use Rattle.laws.proofs.Choice.{split≡, split≤}
 use Rattle.words.specs.Words.{word, long, put_word}
 use Rattle.words.proofs.Words.{length_put, word_put_same, word_put_other}
 use Rattle.words.specs.Front.{Front}
-use Rattle.words.proofs.Front.{front_then, front_put, front_refl}
-use Rattle.table.specs.Table.{find_in, put_row, lookup, sum_of, Stored, Agree}
+use Rattle.words.proofs.Front.{front_then, front_put}
+use Rattle.table.specs.Table.{find_in, put_row, Stored, Agree}
 use Rattle.table.specs.Chain.{Filled}
-use Rattle.table.proofs.Table.{find_below, row_outside, row_key, length_row, long_agree, lookup_agree, sum_agree, store_new}
-use Rattle.table.specs.declared.Row.{Row}
+use Rattle.table.proofs.Table.{row_outside, row_key, length_row, long_agree, lookup_agree, sum_agree, store_new}
 use Rattle.table.specs.declared.Row.TheVariants.{At, Nothing}
-use Rattle.tree.specs.Paths.{node_at, rest_at, Slots, Apart, Keeps}
-use Rattle.tree.specs.Tree.{mix_of, tree_of, key_at, links_in, root_in, path_to, Indexed, Stands, SeekPre, EnterPre, Entered, Added, Cleared, ClearPre, TreeIs, Vacant, SpotIs, Seeking, NewPre, put_new}
+use Rattle.tree.specs.Paths.{node_at, rest_at, Keeps}
+use Rattle.tree.specs.Tree.{mix_of, tree_of, key_at, links_in, root_in, path_to, Indexed, Stands, SeekPre, EnterPre, Added, Cleared, ClearPre, TreeIs, Vacant, SpotIs, Seeking, NewPre, put_new}
 use Rattle.tree.specs.declared.Tree.{Tree}
 use Rattle.tree.specs.declared.Spot.{Spot}
 use Rattle.tree.specs.declared.Spot.TheVariants.{Taken, Free}

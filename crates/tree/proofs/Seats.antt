@@ -1,5 +1,5 @@
 -- The row of a key, found or made, and its values stored: the laws that callers of seat go by.
-use mathlib.Core.Path.{◌≡◌, refl, sym, ap, ◌∙◌}
+use mathlib.Core.Path.{◌≡◌, refl, sym, ◌∙◌}
 use mathlib.Core.List.{List}
 use Prim.Native.Nat.{ℕ, ◌+◌, ◌*◌, ◌<◌, ◌≤◌}
 use native.Mathlib.Omega.{arith}
@@ -12,7 +12,7 @@ use Rattle.words.specs.Words.{word, long, put_word}
 use Rattle.words.proofs.Words.{length_put, word_put_same, word_put_other}
 use Rattle.words.specs.Front.{Front}
 use Rattle.words.proofs.Front.{front_then, front_put, front_refl}
-use Rattle.table.specs.Table.{find_in, Slot, none, some, lookup, upd, second, sum_of, Stored, Refilled}
+use Rattle.table.specs.Table.{find_in, Slot, none, some, lookup, upd, second, sum_of, Stored}
 use Rattle.table.proofs.Table.{find_below, lookup_found, lookup_nothing, long_agree, store_old}
 use Rattle.table.specs.declared.Row.{Row}
 use Rattle.table.specs.declared.Row.TheVariants.{At, Nothing}

@@ -12,7 +12,6 @@ use Rattle.uih.specs.Frames.{is_sabm, is_uih, short_length, info_length, info_st
 use Rattle.uih.specs.Fcs.{fcs_of}
 use Rattle.uih.specs.declared.Length.{Length}
 use Rattle.uih.specs.declared.Frame.TheVariants.{Sabm, Uih as Found, WrongFcs, Other}
-use Rattle.uih.specs.declared.Uih.{Uih}
 use Rattle.uih.specs.Reading.{uih_at, frame_shown, seen, UihLies, FrameIs, LengthIs, UihPre}
 
 pub sabm_first : (c : ℕ) → c ≡ 0x2F → true ≡ is_sabm c

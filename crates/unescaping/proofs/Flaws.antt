@@ -9,7 +9,7 @@ use Rattle.mdr.specs.Escape.{within, escapee, push, unescape}
 use Rattle.mdr.proofs.Escaping.{within_range}
 use Rattle.blocks.specs.Blocks.{OneIf, Tallied}
 use Rattle.unescaping.specs.Flaws.{sentries, Measured, is_breach, breaches, breaches_after, flaw_of, Clean, FrontPart, KeptIf, LastPart, SoundIf, ScannedIs}
-use Rattle.unescaping.specs.Places.{bytes_of, Sound}
+use Rattle.unescaping.specs.Places.{bytes_of}
 use Rattle.blocks.specs.declared.Totals.{Totals}
 use Rattle.unescaping.specs.declared.Scanned.{Scanned}
 use Rattle.unescaping.specs.declared.Flaw.{Flaw}

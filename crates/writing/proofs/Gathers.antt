@@ -1,13 +1,13 @@
 -- A part of a piece, and what a key holds, copied to a place in the output.
-use Prim.Native.Nat.{ℕ, suc, ◌+◌, ◌-◌, ◌<◌, ◌≤◌, min}
-use mathlib.Core.Path.{◌≡◌, refl, sym, ap, ◌∙◌}
+use Prim.Native.Nat.{ℕ, ◌+◌, ◌-◌, ◌<◌, ◌≤◌, min}
+use mathlib.Core.Path.{◌≡◌, refl, ap, ◌∙◌}
 use mathlib.Core.List.{List}
 use native.Mathlib.Omega.{arith}
 use lib.ListN.{length, take, drop, length-drop}
 use lib.Seq.{sets, length-sets, length-take-le}
 use Rattle.laws.specs.Stores.{Writes}
 use Rattle.split.specs.Last.{lastn}
-use Rattle.split.specs.Rows.{key_at, len_at, bytes_at, stream_of, stream_to, Laid}
+use Rattle.split.specs.Rows.{key_at, len_at, bytes_at, stream_of, stream_to}
 use Rattle.split.specs.Walks.{Row, Chain, Earlier}
 use Rattle.split.specs.declared.Plan.{Plan}
 use Rattle.split.proofs.Lasts.{lastn_zero}

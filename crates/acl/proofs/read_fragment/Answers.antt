@@ -1,12 +1,5 @@
 use Rattle.acl.proofs.Reading.{acl_handle, acl_size, acl_short, acl_packet}
 use native.Mathlib.Omega.{arith}
-use Rattle.acl.proofs.read_fragment.Reads as reads
-use Rattle.acl.proofs.read_fragment.Lts as lts
-use Rattle.acl.proofs.key_of.Reads as key_of_reads
-use Rattle.words.proofs.narrow.Reads as narrow_reads
-use Rattle.acl.proofs.start_of.Reads as start_of_reads
-use Rattle.words.proofs.wide16.Reads as wide16_reads
-use Rattle.words.proofs.field16.Reads as field16_reads
 use Rattle.acl.proofs.read_fragment.Goals as goal
 
 pub returns-in_default : goal.returns-in_default

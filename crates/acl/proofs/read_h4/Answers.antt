@@ -1,7 +1,4 @@
 use Rattle.acl.proofs.Reading.{h4_pre, h4_none, h4_other, h4_acl}
-use Rattle.acl.proofs.read_h4.Reads as reads
-use Rattle.acl.proofs.read_h4.Lts as lts
-use Rattle.acl.proofs.read_fragment.Reads as read_fragment_reads
 use Rattle.acl.proofs.read_h4.Goals as goal
 
 pub read_fragment-requires : goal.read_fragment-requires

@@ -1,6 +1,4 @@
 use borrow.Author.Tests.{eq-eqb, ne_eqb}
-use Rattle.acl.proofs.start_of.Reads as reads
-use Rattle.acl.proofs.start_of.Lts as lts
 use Rattle.acl.proofs.start_of.Goals as goal
 
 pub returns-then-handle-eq1 : goal.returns-then-handle-eq1

@@ -1,4 +1,3 @@
-use Rattle.std.proofs.Common.{◌-◌}
 use Rattle.blocks.proofs.Counting.{sum_start, sum_turn, sum_end}
 use Rattle.blocks.proofs.checksum.Goals as goal
 

@@ -1,4 +1,3 @@
-use Rattle.std.proofs.Common.{◌-◌}
 use Rattle.blocks.proofs.Copying.{copy_start, copy_turn, copy_end}
 use Rattle.blocks.proofs.copy.Goals as goal
 

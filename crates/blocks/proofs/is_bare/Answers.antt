@@ -1,4 +1,3 @@
-use Rattle.std.proofs.Common.{◌-◌}
 use Rattle.blocks.proofs.Counting.{bare_start, bare_more, bare_same, bare_end}
 use Rattle.blocks.proofs.is_bare.Goals as goal
 

@@ -1,5 +1,4 @@
 use Rattle.blocks.proofs.Counting.{full_start, full_more, full_same, full_end}
-use Rattle.std.proofs.Common.{◌-◌}
 use Rattle.blocks.proofs.is_full.Goals as goal
 
 pub loop-i-init : goal.loop-i-init

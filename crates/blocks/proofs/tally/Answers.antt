@@ -1,4 +1,3 @@
-use Rattle.std.proofs.Common.{◌-◌}
 use Rattle.blocks.proofs.Counting.{tally_start, tally_block, tally_last}
 use Rattle.blocks.proofs.tally.Goals as goal
 

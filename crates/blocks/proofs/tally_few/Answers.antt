@@ -1,4 +1,3 @@
-use Rattle.std.proofs.Common.{◌-◌}
 use Rattle.blocks.proofs.Counting.{tally_start, tally_turn, tally_end}
 use Rattle.blocks.proofs.tally_few.Goals as goal
 

@@ -2,10 +2,6 @@ use mathlib.Core.Path.{sym}
 use lib.Seq.{length-take-le}
 use Rattle.btsnoop.proofs.Headers.{begins_short, begins_not, begins_version}
 use native.Mathlib.Omega.{arith}
-use Rattle.btsnoop.proofs.is_btsnoop.Reads as reads
-use Rattle.btsnoop.proofs.is_btsnoop.Lts as lts
-use Rattle.words.proofs.get_be32.Reads as get_be32_reads
-use Rattle.words.proofs.same.Reads as same_Reads
 use Rattle.btsnoop.proofs.is_btsnoop.Goals as goal
 
 pub returns-then-file-lt16 : goal.returns-then-file-lt16

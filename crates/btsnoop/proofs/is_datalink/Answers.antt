@@ -1,6 +1,4 @@
 use Rattle.btsnoop.proofs.Headers.{read_1001, read_1002, read_2001}
-use Rattle.btsnoop.proofs.is_datalink.Reads as reads
-use Rattle.btsnoop.proofs.is_datalink.Lts as lts
 use Rattle.btsnoop.proofs.is_datalink.Goals as goal
 
 pub returns-then-n-eq1001 : goal.returns-then-n-eq1001

@@ -1,8 +1,4 @@
 use Rattle.btsnoop.proofs.Reading.{hci_pre, hci_skip, hci_h4, hci_plain}
-use Rattle.btsnoop.proofs.read_hci.Reads as reads
-use Rattle.btsnoop.proofs.read_hci.Lts as lts
-use Rattle.acl.proofs.read_fragment.Reads as read_fragment_reads
-use Rattle.acl.proofs.read_h4.Reads as read_h4_reads
 use Rattle.btsnoop.proofs.read_hci.Goals as goal
 
 pub returns-then-flags-eq1 : goal.returns-then-flags-eq1

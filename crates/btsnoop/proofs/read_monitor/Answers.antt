@@ -1,7 +1,4 @@
 use Rattle.btsnoop.proofs.Reading.{monitor_pre, monitor_tx, monitor_rx, monitor_none}
-use Rattle.btsnoop.proofs.read_monitor.Reads as reads
-use Rattle.btsnoop.proofs.read_monitor.Lts as lts
-use Rattle.acl.proofs.read_fragment.Reads as read_fragment_reads
 use Rattle.btsnoop.proofs.read_monitor.Goals as goal
 
 pub returns-then-op-eq4 : goal.returns-then-op-eq4

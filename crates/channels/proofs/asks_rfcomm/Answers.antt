@@ -1,8 +1,4 @@
 use Rattle.channels.proofs.Commands.{some_command, asks_missing, asks_other, asks_request}
-use Rattle.channels.proofs.asks_rfcomm.Reads as reads
-use Rattle.channels.proofs.asks_rfcomm.Lts as lts
-use Rattle.channels.proofs.body_of.Reads as body_of_reads
-use Rattle.words.proofs.field16.Reads as field16_reads
 use Rattle.channels.proofs.asks_rfcomm.Goals as goal
 
 pub returns-in_default : goal.returns-in_default

@@ -1,10 +1,5 @@
-use Prim.Native.Nat.{◌-◌}
 use Rattle.channels.proofs.Commands.{asking_start, asking_found, asking_turn, asking_end, command_within, command_more}
 use native.Mathlib.Omega.{arith}
-use Rattle.channels.proofs.asks_session.Reads as reads
-use Rattle.channels.proofs.asks_session.Lts as lts
-use Rattle.channels.proofs.asks_rfcomm.Reads as asks_rfcomm_reads
-use Rattle.channels.proofs.command_len.Reads as command_len_reads
 use Rattle.channels.proofs.asks_session.Goals as goal
 
 pub loop-at-init : goal.loop-at-init

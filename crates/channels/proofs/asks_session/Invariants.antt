@@ -1,10 +1,6 @@
 use lib.ListN.{length}
 use Prim.Native.Nat.{◌-◌}
 use Rattle.channels.proofs.Commands.{Asking}
-use Rattle.channels.proofs.asks_session.Reads as reads
-use Rattle.channels.proofs.asks_session.Lts as lts
-use Rattle.channels.proofs.asks_rfcomm.Reads as asks_rfcomm_reads
-use Rattle.channels.proofs.command_len.Reads as command_len_reads
 use Rattle.channels.proofs.asks_session.Given as goal
 
 abbrev pub invariant-loop-at : goal.invariant-loop-at

@@ -1,10 +1,6 @@
 use native.Mathlib.Omega.{arith}
 use Rattle.words.proofs.Fields.{field_value}
 use Rattle.channels.proofs.Commands.{body_missing, body_past, body_there}
-use Rattle.channels.proofs.body_of.Reads as reads
-use Rattle.channels.proofs.body_of.Lts as lts
-use Rattle.words.proofs.wide16.Reads as wide16_reads
-use Rattle.words.proofs.field16.Reads as field16_reads
 use Rattle.channels.proofs.body_of.Goals as goal
 
 pub returns-in_default : goal.returns-in_default

@@ -1,6 +1,4 @@
 use Rattle.items.specs.Items.{rx_of}
-use Rattle.channels.proofs.flip.Reads as reads
-use Rattle.channels.proofs.flip.Lts as lts
 use Rattle.channels.proofs.flip.Goals as goal
 
 pub returns-in-Rx : goal.returns-in-Rx

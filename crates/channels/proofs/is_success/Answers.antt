@@ -1,7 +1,4 @@
 use Rattle.channels.proofs.Commands.{no_success, success_is}
-use Rattle.channels.proofs.is_success.Reads as reads
-use Rattle.channels.proofs.is_success.Lts as lts
-use Rattle.words.proofs.field16.Reads as field16_reads
 use Rattle.channels.proofs.is_success.Goals as goal
 
 pub returns-in_default : goal.returns-in_default

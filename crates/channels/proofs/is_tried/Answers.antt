@@ -1,8 +1,4 @@
 use Rattle.channels.proofs.Walk.{tries_seek, tries_unnamed, tries_named}
-use Rattle.channels.proofs.is_tried.Reads as reads
-use Rattle.channels.proofs.is_tried.Lts as lts
-use Rattle.channels.proofs.index_of.Reads as index_of_reads
-use Rattle.channels.proofs.look.Reads as look_reads
 use Rattle.channels.proofs.is_tried.Goals as goal
 
 pub look-standing-requires : goal.look-standing-requires

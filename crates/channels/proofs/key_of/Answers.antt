@@ -1,8 +1,6 @@
 use Rattle.items.specs.Items.{rx_of}
 use Rattle.channels.specs.ChannelTable.{channel_key}
 use native.Mathlib.Omega.{arith}
-use Rattle.channels.proofs.key_of.Reads as reads
-use Rattle.channels.proofs.key_of.Lts as lts
 use Rattle.channels.proofs.key_of.Goals as goal
 
 pub returns-in-Rx : goal.returns-in-Rx

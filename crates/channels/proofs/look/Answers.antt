@@ -1,11 +1,6 @@
 use Rattle.table.proofs.Table.{found_below}
 use Rattle.channels.proofs.Grades.{standing_none, standing_row}
 use native.Mathlib.Omega.{arith}
-use Rattle.channels.proofs.look.Reads as reads
-use Rattle.channels.proofs.look.Lts as lts
-use Rattle.channels.proofs.last_but_one.Reads as last_but_one_reads
-use Rattle.tree.proofs.seek_near.Reads as seek_near_reads
-use Rattle.words.proofs.get32.Reads as get32_reads
 use Rattle.channels.proofs.look.Goals as goal
 
 pub returns-in_default : goal.returns-in_default

@@ -1,12 +1,5 @@
 use Rattle.channels.proofs.Grades.{noted_request, noted_response, noted_other}
 use native.Mathlib.Omega.{arith}
-use Rattle.channels.proofs.note.Reads as reads
-use Rattle.channels.proofs.note.Lts as lts
-use Rattle.channels.proofs.flip.Reads as flip_reads
-use Rattle.channels.proofs.key_of.Reads as key_of_reads
-use Rattle.channels.proofs.raise.Reads as raise_reads
-use Rattle.channels.proofs.request_grade.Reads as request_grade_reads
-use Rattle.channels.proofs.response_grade.Reads as response_grade_reads
 use Rattle.channels.proofs.note.Goals as goal
 
 pub returns-in-Request : goal.returns-in-Request

@@ -1,12 +1,5 @@
-use Prim.Native.Nat.{◌-◌}
 use Rattle.channels.proofs.Walk.{not_signalling, noting_start, noting_pre, noting_enter, noting_turn, noting_end}
 use native.Mathlib.Omega.{arith}
-use Rattle.channels.proofs.note_pdu.Reads as reads
-use Rattle.channels.proofs.note_pdu.Lts as lts
-use Rattle.channels.proofs.note.Reads as note_reads
-use Rattle.channels.proofs.pdu_step.Reads as pdu_step_reads
-use Rattle.words.proofs.get32.Reads as get32_reads
-use Rattle.words.proofs.wide32.Reads as wide32_reads
 use Rattle.channels.proofs.note_pdu.Goals as goal
 
 pub returns-then-get32-ne1 : goal.returns-then-get32-ne1

@@ -1,10 +1,5 @@
-use Prim.Native.Nat.{◌-◌}
 use Rattle.channels.proofs.Walk.{running_start, running_note, running_noted, running_end}
 use native.Mathlib.Omega.{arith}
-use Rattle.channels.proofs.note_pdus.Reads as reads
-use Rattle.channels.proofs.note_pdus.Lts as lts
-use Rattle.channels.proofs.index_of.Reads as index_of_reads
-use Rattle.channels.proofs.note_pdu.Reads as note_pdu_reads
 use Rattle.channels.proofs.note_pdus.Goals as goal
 
 pub index_of-x-requires : goal.index_of-x-requires

@@ -1,9 +1,5 @@
 use Prim.Native.Nat.{◌-◌}
 use Rattle.channels.proofs.Walk.{RunningIn}
-use Rattle.channels.proofs.note_pdus.Reads as reads
-use Rattle.channels.proofs.note_pdus.Lts as lts
-use Rattle.channels.proofs.index_of.Reads as index_of_reads
-use Rattle.channels.proofs.note_pdu.Reads as note_pdu_reads
 use Rattle.channels.proofs.note_pdus.Given as goal
 
 abbrev pub invariant-loop-i : goal.invariant-loop-i

@@ -1,10 +1,4 @@
 use Rattle.channels.proofs.Walk.{step_inside, pdu_step_is}
-use Rattle.channels.proofs.pdu_step.Reads as reads
-use Rattle.channels.proofs.pdu_step.Lts as lts
-use Rattle.items.proofs.direction_in.Reads as direction_in_reads
-use Rattle.channels.proofs.step_at.Reads as step_at_reads
-use Rattle.l2cap.proofs.payload.Reads as payload_reads
-use Rattle.words.proofs.get32.Reads as get32_reads
 use Rattle.channels.proofs.pdu_step.Goals as goal
 
 pub step_at-requires : goal.step_at-requires

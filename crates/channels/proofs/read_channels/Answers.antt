@@ -1,9 +1,4 @@
 use Rattle.channels.proofs.Walk.{note_clear, none_noted, noted_cleared}
-use Rattle.channels.proofs.read_channels.Reads as reads
-use Rattle.channels.proofs.read_channels.Lts as lts
-use Rattle.channels.proofs.index_of.Reads as index_of_reads
-use Rattle.channels.proofs.note_pdus.Reads as note_pdus_reads
-use Rattle.tree.proofs.clear.Reads as clear_reads
 use Rattle.channels.proofs.read_channels.Goals as goal
 
 pub clear-requires : goal.clear-requires

@@ -1,10 +1,4 @@
 use Rattle.channels.proofs.Commands.{some_command, says_missing, says_missing₂, says_other, says_request, says_response}
-use Rattle.channels.proofs.read_signal.Reads as reads
-use Rattle.channels.proofs.read_signal.Lts as lts
-use Rattle.channels.proofs.body_of.Reads as body_of_reads
-use Rattle.words.proofs.field16.Reads as field16_reads
-use Rattle.channels.proofs.flip.Reads as flip_reads
-use Rattle.channels.proofs.is_success.Reads as is_success_reads
 use Rattle.channels.proofs.read_signal.Goals as goal
 
 pub returns-in_default : goal.returns-in_default

@@ -1,6 +1,4 @@
 use Rattle.channels.proofs.Grades.{request_three, request_other}
-use Rattle.channels.proofs.request_grade.Reads as reads
-use Rattle.channels.proofs.request_grade.Lts as lts
 use Rattle.channels.proofs.request_grade.Goals as goal
 
 pub returns-then-psm-eq3 : goal.returns-then-psm-eq3

@@ -1,7 +1,4 @@
 use Rattle.channels.proofs.Grades.{response_fails, response_unnamed, response_admits, response_unasked}
-use Rattle.channels.proofs.response_grade.Reads as reads
-use Rattle.channels.proofs.response_grade.Lts as lts
-use Rattle.channels.proofs.look.Reads as look_reads
 use Rattle.channels.proofs.response_grade.Goals as goal
 
 pub returns-in_default : goal.returns-in_default

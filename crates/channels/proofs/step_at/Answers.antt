@@ -1,10 +1,6 @@
 use Rattle.channels.proofs.Commands.{command_within}
 use Rattle.channels.proofs.Walk.{step_is}
 use native.Mathlib.Omega.{arith}
-use Rattle.channels.proofs.step_at.Reads as reads
-use Rattle.channels.proofs.step_at.Lts as lts
-use Rattle.channels.proofs.command_len.Reads as command_len_reads
-use Rattle.channels.proofs.read_signal.Reads as read_signal_reads
 use Rattle.channels.proofs.step_at.Goals as goal
 
 pub overflow_add-end : goal.overflow_add-end

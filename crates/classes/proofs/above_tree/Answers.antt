@@ -1,6 +1,4 @@
 use Rattle.classes.proofs.Bits.{above_known}
-use Rattle.classes.proofs.above_tree.Reads as reads
-use Rattle.classes.proofs.above_tree.Lts as lts
 use Rattle.classes.proofs.above_tree.Goals as goal
 
 pub returns-then-m-eq4096 : goal.returns-then-m-eq4096

@@ -1,7 +1,4 @@
 use Rattle.classes.proofs.Chains.{earlier_none, earlier_kept}
-use Rattle.classes.proofs.earlier_only.Reads as reads
-use Rattle.classes.proofs.earlier_only.Lts as lts
-use Rattle.words.proofs.wide32.Reads as wide32_reads
 use Rattle.classes.proofs.earlier_only.Goals as goal
 
 pub returns-then-i-wide32 : goal.returns-then-i-wide32

@@ -1,8 +1,4 @@
-use Prim.Native.Nat.{◌-◌}
 use Rattle.classes.proofs.Chains.{ending_start, ending_put, ending_turn, ending_end}
-use Rattle.classes.proofs.end_chains.Reads as reads
-use Rattle.classes.proofs.end_chains.Lts as lts
-use Rattle.classes.proofs.end_chain.Reads as end_chain_reads
 use Rattle.classes.proofs.end_chains.Goals as goal
 
 pub loop-i-init : goal.loop-i-init

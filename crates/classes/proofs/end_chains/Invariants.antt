@@ -1,8 +1,5 @@
 use Prim.Native.Nat.{◌-◌}
 use Rattle.classes.proofs.Chains.{Ending}
-use Rattle.classes.proofs.end_chains.Reads as reads
-use Rattle.classes.proofs.end_chains.Lts as lts
-use Rattle.classes.proofs.end_chain.Reads as end_chain_reads
 use Rattle.classes.proofs.end_chains.Given as goal
 
 abbrev pub invariant-loop-i : goal.invariant-loop-i

@@ -1,9 +1,4 @@
-use Prim.Native.Nat.{◌-◌}
 use Rattle.classes.proofs.Chains.{linking_start, linking_row, linking_pre, linking_turn, linking_end}
-use Rattle.classes.proofs.link_rows.Reads as reads
-use Rattle.classes.proofs.link_rows.Lts as lts
-use Rattle.classes.proofs.note_row.Reads as note_row_reads
-use Rattle.table.proofs.link.Reads as link_reads
 use Rattle.classes.proofs.link_rows.Goals as goal
 
 pub loop-i-init : goal.loop-i-init

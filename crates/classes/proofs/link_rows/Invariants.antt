@@ -1,9 +1,5 @@
 use Prim.Native.Nat.{◌-◌}
 use Rattle.classes.proofs.Chains.{Linking}
-use Rattle.classes.proofs.link_rows.Reads as reads
-use Rattle.classes.proofs.link_rows.Lts as lts
-use Rattle.classes.proofs.note_row.Reads as note_row_reads
-use Rattle.table.proofs.link.Reads as link_reads
 use Rattle.classes.proofs.link_rows.Given as goal
 
 abbrev pub invariant-loop-i : goal.invariant-loop-i

@@ -1,7 +1,5 @@
 use Rattle.classes.specs.Bits.{mix_of}
 use borrow.Author.Rules.{rules}
-use Rattle.classes.proofs.mixed.Reads as reads
-use Rattle.classes.proofs.mixed.Lts as lts
 use Rattle.classes.proofs.mixed.Goals as goal
 
 pub returns : goal.returns

@@ -1,9 +1,4 @@
 use Rattle.classes.proofs.Walking.{note_same, note_met, note_put, note_free}
-use Rattle.classes.proofs.note_row.Reads as reads
-use Rattle.classes.proofs.note_row.Lts as lts
-use Rattle.classes.proofs.place.Reads as place_reads
-use Rattle.classes.proofs.repeats.Reads as repeats_reads
-use Rattle.words.proofs.put32.Reads as put32_reads
 use Rattle.classes.proofs.note_row.Goals as goal
 
 pub returns-then-repeats : goal.returns-then-repeats

@@ -1,7 +1,4 @@
 use Rattle.classes.proofs.Bits.{not_repeated, repeated}
-use Rattle.classes.proofs.repeats.Reads as reads
-use Rattle.classes.proofs.repeats.Lts as lts
-use Rattle.classes.proofs.same_key.Reads as same_key_reads
 use Rattle.classes.proofs.repeats.Goals as goal
 
 pub returns-then-i-eq0 : goal.returns-then-i-eq0

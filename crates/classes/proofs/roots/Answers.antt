@@ -1,6 +1,4 @@
 use Rattle.classes.proofs.Bits.{one_tree, trees_256, trees_4096, trees_65536}
-use Rattle.classes.proofs.roots.Reads as reads
-use Rattle.classes.proofs.roots.Lts as lts
 use Rattle.classes.proofs.roots.Goals as goal
 
 pub returns-then-n-lt256 : goal.returns-then-n-lt256

@@ -1,7 +1,4 @@
 use Rattle.classes.proofs.Bits.{key_0, key_1, key_2, key_3}
-use Rattle.classes.proofs.same_key.Reads as reads
-use Rattle.classes.proofs.same_key.Lts as lts
-use Rattle.words.proofs.get32.Reads as get32_reads
 use Rattle.classes.proofs.same_key.Goals as goal
 
 pub returns-then-get32 : goal.returns-then-get32

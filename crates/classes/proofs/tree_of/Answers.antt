@@ -1,6 +1,4 @@
 use Rattle.classes.proofs.Bits.{tree_known, tree_any}
-use Rattle.classes.proofs.tree_of.Reads as reads
-use Rattle.classes.proofs.tree_of.Lts as lts
 use Rattle.classes.proofs.tree_of.Goals as goal
 
 pub returns-then-m-eq4096 : goal.returns-then-m-eq4096

@@ -1,4 +1,3 @@
-use Prim.Native.Nat.{◌-◌}
 use Rattle.commands.proofs.Searching.{asking_start, asking_yes, asking_turn, asking_end}
 use Rattle.commands.proofs.any_name.Goals as goal
 

@@ -1,4 +1,3 @@
-use Prim.Native.Nat.{◌-◌}
 use Rattle.commands.proofs.Searching.{searching_start, searching_up, searching_down, searching_found, searching_other, searching_past}
 use Rattle.commands.proofs.find.Goals as goal
 

@@ -1,4 +1,3 @@
-use Prim.Native.Nat.{◌-◌}
 use Rattle.counter.proofs.Reading.{read_start, read_digit, read_over, read_hyphen, read_low, read_high, read_end}
 use Rattle.counter.proofs.read_digits.Goals as goal
 

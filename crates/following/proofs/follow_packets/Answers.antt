@@ -1,13 +1,5 @@
 use Rattle.following.proofs.Walking.{follow_start, follow_pre, follow_less, follow_again, follow_cut, follow_end}
-use Prim.Native.Nat.{◌-◌}
 use Rattle.l2cap.proofs.Running.{link_room}
-use Rattle.following.proofs.follow_packets.Reads as reads
-use Rattle.following.proofs.follow_packets.Lts as lts
-use Rattle.following.proofs.first_pass.Reads as first_pass_reads
-use Rattle.following.proofs.follow_record.Reads as follow_record_reads
-use Rattle.fragments.proofs.link_packets.Reads as link_packets_reads
-use Rattle.trace.proofs.file_head.Reads as file_head_reads
-use Rattle.trace.proofs.read_at.Reads as read_at_reads
 use Rattle.following.proofs.follow_packets.Goals as goal
 
 pub link_packets-rows-requires : goal.link_packets-rows-requires

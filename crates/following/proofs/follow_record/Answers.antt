@@ -1,8 +1,4 @@
 use Rattle.following.proofs.Showing.{record_skip, record_turn, record_done}
-use Rattle.following.proofs.follow_record.Reads as reads
-use Rattle.following.proofs.follow_record.Lts as lts
-use Rattle.following.proofs.follow_packet.Reads as follow_packet_reads
-use Rattle.signs.proofs.lacks_packet.Reads as lacks_packet_reads
 use Rattle.following.proofs.follow_record.Goals as goal
 
 pub returns-then-lacks_packet : goal.returns-then-lacks_packet

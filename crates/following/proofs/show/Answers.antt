@@ -1,10 +1,4 @@
 use Rattle.following.proofs.Showing.{show_start, show_stray, show_given, show_more}
-use Rattle.following.proofs.show.Reads as reads
-use Rattle.following.proofs.show.Lts as lts
-use Rattle.l2cap.proofs.look.Reads as look_reads
-use Rattle.l2cap.proofs.row_of.Reads as row_of_reads
-use Rattle.signs.proofs.note.Reads as note_reads
-use Rattle.words.proofs.get32.Reads as get32_reads
 use Rattle.following.proofs.show.Goals as goal
 
 pub returns-then-start-eq1 : goal.returns-then-start-eq1

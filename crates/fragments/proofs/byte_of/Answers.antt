@@ -1,10 +1,4 @@
-use Prim.Native.Nat.{◌-◌}
 use Rattle.fragments.proofs.Walking.{seek_start, seek_row, seek_next, seek_less, seek_turn, seek_inside, seek_fits, seek_here, seek_end}
-use Rattle.fragments.proofs.byte_of.Reads as reads
-use Rattle.fragments.proofs.byte_of.Lts as lts
-use Rattle.fragments.proofs.later.Reads as later_reads
-use Rattle.fragments.proofs.len_of.Reads as len_of_reads
-use Rattle.fragments.proofs.place_of.Reads as place_of_reads
 use Rattle.fragments.proofs.byte_of.Goals as goal
 
 pub loop-i-init : goal.loop-i-init

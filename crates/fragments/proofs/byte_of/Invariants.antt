@@ -1,10 +1,5 @@
 use Prim.Native.Nat.{◌-◌}
 use Rattle.fragments.proofs.Walking.{Seeking}
-use Rattle.fragments.proofs.byte_of.Reads as reads
-use Rattle.fragments.proofs.byte_of.Lts as lts
-use Rattle.fragments.proofs.later.Reads as later_reads
-use Rattle.fragments.proofs.len_of.Reads as len_of_reads
-use Rattle.fragments.proofs.place_of.Reads as place_of_reads
 use Rattle.fragments.proofs.byte_of.Given as goal
 
 abbrev pub invariant-loop-i : goal.invariant-loop-i

@@ -1,9 +1,4 @@
-use Prim.Native.Nat.{◌-◌}
 use Rattle.fragments.proofs.Walking.{gather_start, gather_paste, gather_next, gather_less, gather_turn, gather_end}
-use Rattle.fragments.proofs.gather.Reads as reads
-use Rattle.fragments.proofs.gather.Lts as lts
-use Rattle.fragments.proofs.later.Reads as later_reads
-use Rattle.fragments.proofs.paste.Reads as paste_reads
 use Rattle.fragments.proofs.gather.Goals as goal
 
 pub loop-i-init : goal.loop-i-init

@@ -1,9 +1,5 @@
 use Prim.Native.Nat.{◌-◌}
 use Rattle.fragments.proofs.Walking.{Gathering}
-use Rattle.fragments.proofs.gather.Reads as reads
-use Rattle.fragments.proofs.gather.Lts as lts
-use Rattle.fragments.proofs.later.Reads as later_reads
-use Rattle.fragments.proofs.paste.Reads as paste_reads
 use Rattle.fragments.proofs.gather.Given as goal
 
 abbrev pub invariant-loop-i : goal.invariant-loop-i

@@ -2,12 +2,6 @@ use Rattle.laws.specs.Numbers.{le16}
 use Rattle.fragments.proofs.Walking.{half_inside, half_first, half_fits, half_next, half_here}
 use native.Mathlib.Omega.{arith}
 use borrow.Author.Rules.{rules}
-use Rattle.fragments.proofs.half.Reads as reads
-use Rattle.fragments.proofs.half.Lts as lts
-use Rattle.fragments.proofs.byte_of.Reads as byte_of_reads
-use Rattle.fragments.proofs.len_of.Reads as len_of_reads
-use Rattle.fragments.proofs.pair.Reads as PairReads
-use Rattle.fragments.proofs.place_of.Reads as place_of_reads
 use Rattle.fragments.proofs.half.Goals as goal
 
 pub overflow_add-s : goal.overflow_add-s

@@ -1,7 +1,4 @@
 use Rattle.fragments.proofs.Linking.{head_new, head_old}
-use Rattle.fragments.proofs.head_of.Reads as reads
-use Rattle.fragments.proofs.head_of.Lts as lts
-use Rattle.words.proofs.get32.Reads as get32_reads
 use Rattle.fragments.proofs.head_of.Goals as goal
 
 pub returns-then-at-rows : goal.returns-then-at-rows

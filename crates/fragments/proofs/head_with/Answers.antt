@@ -1,7 +1,4 @@
 use Rattle.fragments.proofs.Linking.{with_none, with_some}
-use Rattle.fragments.proofs.head_with.Reads as reads
-use Rattle.fragments.proofs.head_with.Lts as lts
-use Rattle.words.proofs.narrow.Reads as narrow_reads
 use Rattle.fragments.proofs.head_with.Goals as goal
 
 pub returns-then-n-eq0 : goal.returns-then-n-eq0

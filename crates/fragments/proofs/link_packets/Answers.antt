@@ -1,9 +1,4 @@
 use Rattle.fragments.proofs.Linking.{link_clear, link_begun, link_cleared}
-use Rattle.fragments.proofs.link_packets.Reads as reads
-use Rattle.fragments.proofs.link_packets.Lts as lts
-use Rattle.fragments.proofs.index_of.Reads as index_of_reads
-use Rattle.fragments.proofs.link_rows.Reads as link_rows_reads
-use Rattle.tree.proofs.clear.Reads as clear_reads
 use Rattle.fragments.proofs.link_packets.Goals as goal
 
 pub clear-requires : goal.clear-requires

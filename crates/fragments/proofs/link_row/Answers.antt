@@ -1,11 +1,4 @@
 use Rattle.fragments.proofs.Linking.{link_head, link_note, link_stepped}
-use Rattle.fragments.proofs.link_row.Reads as reads
-use Rattle.fragments.proofs.link_row.Lts as lts
-use Rattle.fragments.proofs.head_of.Reads as head_of_reads
-use Rattle.fragments.proofs.head_with.Reads as head_with_reads
-use Rattle.fragments.proofs.note.Reads as note_reads
-use Rattle.fragments.proofs.seat_key.Reads as seat_key_reads
-use Rattle.words.proofs.get32.Reads as get32_reads
 use Rattle.fragments.proofs.link_row.Goals as goal
 
 pub head_of-next-requires : goal.head_of-next-requires

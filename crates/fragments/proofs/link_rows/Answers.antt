@@ -1,8 +1,4 @@
 use Rattle.fragments.proofs.Linking.{linking_start, linking_step, linking_turn, linking_end}
-use Rattle.fragments.proofs.link_rows.Reads as reads
-use Rattle.fragments.proofs.link_rows.Lts as lts
-use Rattle.fragments.proofs.link_row.Reads as link_row_reads
-use Rattle.words.proofs.narrow.Reads as narrow_reads
 use Rattle.fragments.proofs.link_rows.Goals as goal
 
 pub loop-i-init : goal.loop-i-init

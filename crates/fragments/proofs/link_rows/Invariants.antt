@@ -1,8 +1,4 @@
 use Rattle.fragments.proofs.Linking.{Linking}
-use Rattle.fragments.proofs.link_rows.Reads as reads
-use Rattle.fragments.proofs.link_rows.Lts as lts
-use Rattle.fragments.proofs.link_row.Reads as link_row_reads
-use Rattle.words.proofs.narrow.Reads as narrow_reads
 use Rattle.fragments.proofs.link_rows.Given as goal
 
 abbrev pub invariant-loop-i : goal.invariant-loop-i

@@ -1,10 +1,5 @@
 use Rattle.gathering.proofs.CountTable.{count_seek, count_row, seek_found, seek_nothing}
 use native.Mathlib.Omega.{arith}
-use Rattle.gathering.proofs.count_of.Reads as reads
-use Rattle.gathering.proofs.count_of.Lts as lts
-use Rattle.gathering.proofs.index_of.Reads as index_of_reads
-use Rattle.tree.proofs.seek_near.Reads as seek_near_reads
-use Rattle.words.proofs.get32.Reads as get32_reads
 use Rattle.gathering.proofs.count_of.Goals as goal
 
 pub seek_near-x-requires : goal.seek_near-x-requires

@@ -1,11 +1,5 @@
 use Rattle.gathering.proofs.CountTable.{count_enter, up_row, up_put, up_fits, counted_up}
 use native.Mathlib.Omega.{arith}
-use Rattle.gathering.proofs.count_up.Reads as reads
-use Rattle.gathering.proofs.count_up.Lts as lts
-use Rattle.gathering.proofs.index_of.Reads as index_of_reads
-use Rattle.tree.proofs.seat.Reads as seat_reads
-use Rattle.words.proofs.get32.Reads as get32_reads
-use Rattle.words.proofs.put32.Reads as put32_reads
 use Rattle.gathering.proofs.count_up.Goals as goal
 
 pub seat-s-requires : goal.seat-s-requires

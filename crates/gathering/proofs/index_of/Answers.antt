@@ -1,6 +1,4 @@
 use Rattle.gathering.proofs.CountTable.{index_is}
-use Rattle.gathering.proofs.index_of.Reads as reads
-use Rattle.gathering.proofs.index_of.Lts as lts
 use Rattle.gathering.proofs.index_of.Goals as goal
 
 pub returns : goal.returns

@@ -1,6 +1,4 @@
 use Rattle.gathering.proofs.Gathering.{note_past}
-use Rattle.gathering.proofs.note_wrong.Reads as reads
-use Rattle.gathering.proofs.note_wrong.Lts as lts
 use Rattle.gathering.proofs.note_wrong.Goals as goal
 
 pub returns-else-k-wrong : goal.returns-else-k-wrong

@@ -1,13 +1,5 @@
 use Rattle.rfcomm.proofs.Judging.{opens_small}
 use Rattle.gathering.proofs.Gathering.{up_pre, wrong_small, taken_passed, taken_wrong, taken_asks, taken_opens, taken_piece, piece_pre}
-use Rattle.gathering.proofs.take_pdu.Reads as reads
-use Rattle.gathering.proofs.take_pdu.Lts as lts
-use Rattle.gathering.proofs.count_key.Reads as count_key_reads
-use Rattle.gathering.proofs.count_up.Reads as count_up_reads
-use Rattle.rfcomm.proofs.judge.Reads as judge_reads
-use Rattle.gathering.proofs.note_wrong.Reads as note_wrong_reads
-use Rattle.gathering.proofs.take_piece.Reads as take_piece_reads
-use Rattle.words.proofs.get32.Reads as get32_reads
 use Rattle.gathering.proofs.take_pdu.Goals as goal
 
 pub count_up-s-requires : goal.count_up-s-requires

@@ -1,10 +1,6 @@
 use Rattle.gathering.proofs.Gathering.{gather_start, gather_ready, gather_turn, gathered}
 use mathlib.Core.Path.{refl}
-use Prim.Native.Nat.{◌-◌}
 use native.Mathlib.Omega.{arith}
-use Rattle.gathering.proofs.take_pdus.Reads as reads
-use Rattle.gathering.proofs.take_pdus.Lts as lts
-use Rattle.gathering.proofs.take_pdu.Reads as take_pdu_reads
 use Rattle.gathering.proofs.take_pdus.Goals as goal
 
 pub loop-j-init : goal.loop-j-init

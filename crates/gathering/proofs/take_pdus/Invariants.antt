@@ -3,9 +3,6 @@ use Rattle.l2cap.specs.PduTable.{pdus_from}
 use mathlib.Core.Path.{◌≡◌}
 use Prim.Native.Nat.{◌-◌, ◌*◌, ◌/◌}
 use lib.ListN.{length}
-use Rattle.gathering.proofs.take_pdus.Reads as reads
-use Rattle.gathering.proofs.take_pdus.Lts as lts
-use Rattle.gathering.proofs.take_pdu.Reads as take_pdu_reads
 use Rattle.gathering.proofs.take_pdus.Given as goal
 
 abbrev pub invariant-loop-j : goal.invariant-loop-j

@@ -1,7 +1,5 @@
 use Rattle.items.specs.Items.{rx_of}
 use borrow.Author.Rules.{rules}
-use Rattle.items.proofs.direction_in.Reads as reads
-use Rattle.items.proofs.direction_in.Lts as lts
 use Rattle.items.proofs.direction_in.Goals as goal
 
 pub returns-then-side-eq1 : goal.returns-then-side-eq1

@@ -1,4 +1,3 @@
-use Prim.Native.Nat.{◌-◌}
 use Rattle.items.proofs.Steps.{checking_start, checking_ill, checking_turn, checking_end, checking_less}
 use Rattle.items.proofs.walk.Goals as goal
 

@@ -1,9 +1,4 @@
 use Rattle.l2cap.proofs.Opens.{arrive_start, arrive_closed, arrive_more, arrive_small}
-use Rattle.l2cap.proofs.arrive.Reads as reads
-use Rattle.l2cap.proofs.arrive.Lts as lts
-use Rattle.fragments.proofs.len_of.Reads as len_of_reads
-use Rattle.l2cap.proofs.look.Reads as look_reads
-use Rattle.words.proofs.get32.Reads as get32_reads
 use Rattle.l2cap.proofs.arrive.Goals as goal
 
 pub returns-then-start-eq1 : goal.returns-then-start-eq1

@@ -1,8 +1,4 @@
 use Rattle.l2cap.proofs.Opens.{look_zero, look_from}
-use Rattle.l2cap.proofs.look.Reads as reads
-use Rattle.l2cap.proofs.look.Lts as lts
-use Rattle.words.proofs.get32.Reads as get32_reads
-use Rattle.words.proofs.wide32.Reads as wide32_reads
 use Rattle.l2cap.proofs.look.Goals as goal
 
 pub returns-then-first-eq0 : goal.returns-then-first-eq0

@@ -2,11 +2,6 @@ use Rattle.l2cap.proofs.PduFrames.{lent_work, lent_file}
 use Rattle.l2cap.proofs.Rows.{got_work, got_file}
 use mathlib.Core.Path.{sym, ◌∙◌}
 use native.Mathlib.Omega.{arith}
-use Rattle.l2cap.proofs.payload.Reads as reads
-use Rattle.l2cap.proofs.payload.Lts as lts
-use Rattle.words.proofs.part.Reads as part_reads
-use Rattle.words.proofs.get32.Reads as get32_reads
-use Rattle.words.proofs.wide32.Reads as wide32_reads
 use Rattle.l2cap.proofs.payload.Goals as goal
 
 pub part-requires : goal.part-requires

@@ -1,8 +1,4 @@
 use Rattle.l2cap.proofs.Rows.{row_is}
-use Rattle.l2cap.proofs.put_pdu.Reads as reads
-use Rattle.l2cap.proofs.put_pdu.Lts as lts
-use Rattle.words.proofs.put32.Reads as put32_reads
-use Rattle.words.proofs.put64.Reads as put64_reads
 use Rattle.l2cap.proofs.put_pdu.Goals as goal
 
 pub returns : goal.returns

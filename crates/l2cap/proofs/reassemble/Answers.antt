@@ -1,9 +1,5 @@
 use mathlib.Core.Path.{refl}
 use Rattle.l2cap.proofs.Running.{link_run, run_all}
-use Rattle.l2cap.proofs.reassemble.Reads as reads
-use Rattle.l2cap.proofs.reassemble.Lts as lts
-use Rattle.fragments.proofs.link_packets.Reads as link_packets_reads
-use Rattle.l2cap.proofs.run.Reads as run_reads
 use Rattle.l2cap.proofs.reassemble.Goals as goal
 
 pub run-requires : goal.run-requires

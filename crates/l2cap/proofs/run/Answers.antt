@@ -1,8 +1,4 @@
-use Prim.Native.Nat.{◌-◌}
 use Rattle.l2cap.proofs.Ranges.{ranging_start, ranging_step, ranging_turn, ranging_end}
-use Rattle.l2cap.proofs.run.Reads as reads
-use Rattle.l2cap.proofs.run.Lts as lts
-use Rattle.l2cap.proofs.step.Reads as step_reads
 use Rattle.l2cap.proofs.run.Goals as goal
 
 pub loop-i-init : goal.loop-i-init

@@ -1,8 +1,5 @@
 use Prim.Native.Nat.{◌-◌}
 use Rattle.l2cap.proofs.Ranges.{Ranging}
-use Rattle.l2cap.proofs.run.Reads as reads
-use Rattle.l2cap.proofs.run.Lts as lts
-use Rattle.l2cap.proofs.step.Reads as step_reads
 use Rattle.l2cap.proofs.run.Given as goal
 
 abbrev pub invariant-loop-i : goal.invariant-loop-i

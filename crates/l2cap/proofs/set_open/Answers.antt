@@ -1,8 +1,5 @@
 use Rattle.l2cap.proofs.Opens.{open_is}
 use Rattle.l2cap.specs.Steps.{put_open}
-use Rattle.l2cap.proofs.set_open.Reads as reads
-use Rattle.l2cap.proofs.set_open.Lts as lts
-use Rattle.words.proofs.put32.Reads as put32_reads
 use Rattle.l2cap.proofs.set_open.Goals as goal
 
 pub returns : goal.returns

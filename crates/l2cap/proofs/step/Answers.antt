@@ -1,13 +1,5 @@
 use Rattle.l2cap.proofs.Stepping.{step_row, step_arrive, step_skip, step_walk, step_finish, narrow_first, first_fits, narrow_got, at_room, full_room, step_hold, step_full}
 use native.Mathlib.Omega.{arith}
-use Rattle.l2cap.proofs.step.Reads as reads
-use Rattle.l2cap.proofs.step.Lts as lts
-use Rattle.l2cap.proofs.arrive.Reads as arrive_reads
-use Rattle.l2cap.proofs.finish.Reads as finish_reads
-use Rattle.words.proofs.narrow.Reads as narrow_reads
-use Rattle.l2cap.proofs.needed.Reads as needed_reads
-use Rattle.l2cap.proofs.row_of.Reads as row_of_reads
-use Rattle.l2cap.proofs.set_open.Reads as set_open_reads
 use Rattle.l2cap.proofs.step.Goals as goal
 
 pub row_of-at-requires : goal.row_of-at-requires

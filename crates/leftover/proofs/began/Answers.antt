@@ -1,8 +1,4 @@
 use Rattle.leftover.proofs.Meeting.{began_none, began_from}
-use Rattle.leftover.proofs.began.Reads as reads
-use Rattle.leftover.proofs.began.Lts as lts
-use Rattle.l2cap.proofs.look.Reads as look_reads
-use Rattle.l2cap.proofs.row_of.Reads as row_of_reads
 use Rattle.leftover.proofs.began.Goals as goal
 
 pub returns-in-Closed : goal.returns-in-Closed

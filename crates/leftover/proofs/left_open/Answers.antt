@@ -1,10 +1,4 @@
 use Rattle.leftover.proofs.Meeting.{leaving_start, leaving_pre, leaving_less, leaving_turn, leaving_cut, leaving_end}
-use Prim.Native.Nat.{◌-◌}
-use Rattle.leftover.proofs.left_open.Reads as reads
-use Rattle.leftover.proofs.left_open.Lts as lts
-use Rattle.leftover.proofs.meet.Reads as meet_reads
-use Rattle.trace.proofs.file_head.Reads as file_head_reads
-use Rattle.trace.proofs.read_at.Reads as read_at_reads
 use Rattle.leftover.proofs.left_open.Goals as goal
 
 pub loop-end-init : goal.loop-end-init

@@ -1,11 +1,6 @@
 use Rattle.leftover.proofs.Meeting.{Leaving}
 use Prim.Native.Nat.{◌-◌}
 use lib.ListN.{length}
-use Rattle.leftover.proofs.left_open.Reads as reads
-use Rattle.leftover.proofs.left_open.Lts as lts
-use Rattle.leftover.proofs.meet.Reads as meet_reads
-use Rattle.trace.proofs.file_head.Reads as file_head_reads
-use Rattle.trace.proofs.read_at.Reads as read_at_reads
 use Rattle.leftover.proofs.left_open.Given as goal
 
 abbrev pub invariant-loop-end : goal.invariant-loop-end

@@ -1,8 +1,4 @@
 use Rattle.leftover.proofs.Meeting.{meets_none, meets_one, meets_count}
-use Rattle.leftover.proofs.meet.Reads as reads
-use Rattle.leftover.proofs.meet.Lts as lts
-use Rattle.leftover.proofs.count_packet.Reads as count_packet_reads
-use Rattle.signs.proofs.lacks_packet.Reads as lacks_packet_reads
 use Rattle.leftover.proofs.meet.Goals as goal
 
 pub returns-then-lacks_packet : goal.returns-then-lacks_packet

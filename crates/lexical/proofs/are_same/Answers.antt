@@ -1,5 +1,4 @@
 use Rattle.lexical.proofs.Comparing.{agreeing_start, agreeing_more, agreeing_same, agreeing_end}
-use Prim.Native.Nat.{◌-◌}
 use Rattle.lexical.proofs.are_same.Goals as goal
 
 pub loop-i-init : goal.loop-i-init

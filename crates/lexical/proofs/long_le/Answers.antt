@@ -1,5 +1,4 @@
 use Rattle.lexical.proofs.Comparing.{eight_same, eight_less}
-use Prim.Native.Nat.{◌-◌}
 use native.Mathlib.Omega.{arith}
 use Rattle.lexical.proofs.long_le.Goals as goal
 

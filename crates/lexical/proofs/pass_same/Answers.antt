@@ -1,5 +1,4 @@
 use Rattle.lexical.proofs.Comparing.{compare_block}
-use Prim.Native.Nat.{◌-◌}
 use native.Mathlib.Omega.{arith}
 use Rattle.lexical.proofs.pass_same.Goals as goal
 

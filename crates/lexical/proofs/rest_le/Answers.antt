@@ -1,5 +1,4 @@
 use Rattle.lexical.proofs.Comparing.{compare_turn, compare_found, compare_longer, compare_end}
-use Prim.Native.Nat.{◌-◌}
 use Rattle.lexical.proofs.rest_le.Goals as goal
 
 pub returns-then-b-i : goal.returns-then-b-i

@@ -1,7 +1,4 @@
 use Rattle.measuring.proofs.Counting.{added_is, added_none}
-use Rattle.measuring.proofs.add_piece.Reads as reads
-use Rattle.measuring.proofs.add_piece.Lts as lts
-use Rattle.measuring.proofs.count_open.Reads as count_open_reads
 use Rattle.measuring.proofs.add_piece.Goals as goal
 
 pub returns-then-h-n-eq0 : goal.returns-then-h-n-eq0

@@ -1,7 +1,5 @@
 use Rattle.split.proofs.Lasts.{capped_small, capped_large}
 use native.Mathlib.Omega.{arith}
-use Rattle.measuring.proofs.capped.Reads as reads
-use Rattle.measuring.proofs.capped.Lts as lts
 use Rattle.measuring.proofs.capped.Goals as goal
 
 pub returns-then-n-gt65536 : goal.returns-then-n-gt65536

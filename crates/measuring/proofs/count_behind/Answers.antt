@@ -1,10 +1,4 @@
 use Rattle.measuring.proofs.Counting.{behind_scan, behind_scanned}
-use Rattle.measuring.proofs.count_behind.Reads as reads
-use Rattle.measuring.proofs.count_behind.Lts as lts
-use Rattle.spans.proofs.scan.Reads as scan_reads
-use Rattle.measuring.proofs.count_joined.Reads as count_joined_reads
-use Rattle.measuring.proofs.is_known.Reads as is_known_reads
-use Rattle.split.proofs.piece.Reads as piece_reads
 use Rattle.measuring.proofs.count_behind.Goals as goal
 
 pub scan-requires : goal.scan-requires

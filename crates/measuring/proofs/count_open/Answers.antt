@@ -1,8 +1,5 @@
 use Rattle.measuring.proofs.Counts.{sign_le}
 use native.Mathlib.Omega.{arith}
-use Rattle.measuring.proofs.count_open.Reads as reads
-use Rattle.measuring.proofs.count_open.Lts as lts
-use Rattle.measuring.proofs.sign_of.Reads as sign_of_reads
 use Rattle.measuring.proofs.count_open.Goals as goal
 
 pub overflow_add-result : goal.overflow_add-result

@@ -1,13 +1,5 @@
 use Rattle.measuring.proofs.Counting.{count_held, count_add, count_stepped}
 use native.Mathlib.Omega.{arith}
-use Rattle.measuring.proofs.count_piece.Reads as reads
-use Rattle.measuring.proofs.count_piece.Lts as lts
-use Rattle.measuring.proofs.add_piece.Reads as add_piece_reads
-use Rattle.measuring.proofs.capped.Reads as capped_reads
-use Rattle.measuring.proofs.count_behind.Reads as count_behind_reads
-use Rattle.measuring.proofs.note.Reads as note_reads
-use Rattle.split.proofs.held_before.Reads as held_before_reads
-use Rattle.split.proofs.length_of.Reads as length_of_reads
 use Rattle.measuring.proofs.count_piece.Goals as goal
 
 pub count_behind-c-requires : goal.count_behind-c-requires

@@ -1,10 +1,5 @@
 use Rattle.measuring.proofs.Counting.{counting_start, counting_pre, counting_turn, counting_skip, counting_end}
-use Prim.Native.Nat.{◌-◌}
 use native.Mathlib.Omega.{arith}
-use Rattle.measuring.proofs.count_spans.Reads as reads
-use Rattle.measuring.proofs.count_spans.Lts as lts
-use Rattle.measuring.proofs.count_piece.Reads as count_piece_reads
-use Rattle.words.proofs.get32.Reads as get32_reads
 use Rattle.measuring.proofs.count_spans.Goals as goal
 
 pub loop-i-init : goal.loop-i-init

@@ -1,6 +1,4 @@
 use Rattle.measuring.proofs.Counting.{known_none, known_not, known_frame}
-use Rattle.measuring.proofs.is_known.Reads as reads
-use Rattle.measuring.proofs.is_known.Lts as lts
 use Rattle.measuring.proofs.is_known.Goals as goal
 
 pub returns-then-h-eq0 : goal.returns-then-h-eq0

@@ -1,6 +1,4 @@
 use Rattle.measuring.proofs.Counts.{sign_zero, sign_one}
-use Rattle.measuring.proofs.sign_of.Reads as reads
-use Rattle.measuring.proofs.sign_of.Lts as lts
 use Rattle.measuring.proofs.sign_of.Goals as goal
 
 pub returns-then-n-gt0 : goal.returns-then-n-gt0

@@ -1,6 +1,4 @@
 use Rattle.opening.proofs.Opening.{truncates_strict, truncates_not}
-use Rattle.opening.proofs.is_truncated.Reads as reads
-use Rattle.opening.proofs.is_truncated.Lts as lts
 use Rattle.opening.proofs.is_truncated.Goals as goal
 
 pub returns-in-Strict : goal.returns-in-Strict

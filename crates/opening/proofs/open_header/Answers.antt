@@ -1,8 +1,4 @@
 use Rattle.opening.proofs.Opening.{header_pre, header_refused, header_read}
-use Rattle.opening.proofs.open_header.Reads as reads
-use Rattle.opening.proofs.open_header.Lts as lts
-use Rattle.opening.proofs.open_records.Reads as open_records_reads
-use Rattle.trace.proofs.read_header.Reads as read_header_reads
 use Rattle.opening.proofs.open_header.Goals as goal
 
 pub open_records-requires : goal.open_records-requires

@@ -1,7 +1,4 @@
 use Rattle.opening.proofs.Opening.{open_long, open_short, open_read, open_sized}
-use Rattle.opening.proofs.open_trace.Reads as reads
-use Rattle.opening.proofs.open_trace.Lts as lts
-use Rattle.opening.proofs.open_header.Reads as open_header_reads
 use Rattle.opening.proofs.open_trace.Goals as goal
 
 pub returns-then-n-gt1048576 : goal.returns-then-n-gt1048576

@@ -1,6 +1,4 @@
 use Rattle.options.proofs.Numbers.{container_btsnoop, container_pcap}
-use Rattle.options.proofs.container_of.Reads as reads
-use Rattle.options.proofs.container_of.Lts as lts
 use Rattle.options.proofs.container_of.Goals as goal
 
 pub returns-then-container-eq0 : goal.returns-then-container-eq0

@@ -1,7 +1,5 @@
 use Rattle.options.specs.Numbers.{fcs_number}
 use mathlib.Core.Path.{refl}
-use Rattle.options.proofs.fcs_of.Reads as reads
-use Rattle.options.proofs.fcs_of.Lts as lts
 use Rattle.options.proofs.fcs_of.Goals as goal
 
 pub returns : goal.returns

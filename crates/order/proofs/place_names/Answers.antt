@@ -1,4 +1,3 @@
-use Prim.Native.Nat.{◌-◌}
 use Rattle.order.proofs.Arranging.{placing_start, placing_turn, placing_end, placing_room}
 use native.Mathlib.Omega.{arith}
 use Rattle.order.proofs.place_names.Goals as goal

@@ -1,5 +1,4 @@
 use Rattle.order.proofs.Running.{running_start, running_turn, running_less, running_end, runs_not}
-use Prim.Native.Nat.{◌-◌}
 use native.Mathlib.Omega.{arith}
 use Rattle.order.proofs.runs_on.Goals as goal
 

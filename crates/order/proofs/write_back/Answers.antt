@@ -1,5 +1,4 @@
 use Rattle.order.proofs.Turning.{backing_start, backing_turn, backing_end}
-use Prim.Native.Nat.{◌-◌}
 use Rattle.order.proofs.write_back.Goals as goal
 
 pub loop-at-init : goal.loop-at-init

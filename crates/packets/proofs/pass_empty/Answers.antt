@@ -1,9 +1,4 @@
 use Rattle.packets.proofs.Adding.{pass_start, pass_less, pass_turn}
-use Prim.Native.Nat.{◌-◌}
-use Rattle.packets.proofs.pass_empty.Reads as reads
-use Rattle.packets.proofs.pass_empty.Lts as lts
-use Rattle.packets.proofs.is_empty.Reads as is_empty_reads
-use Rattle.trace.proofs.record_head.Reads as record_head_reads
 use Rattle.packets.proofs.pass_empty.Goals as goal
 
 pub loop-format-init : goal.loop-format-init

@@ -1,10 +1,6 @@
 use Prim.Native.Nat.{◌-◌}
 use lib.ListN.{length}
 use Rattle.packets.specs.Adding.{Passed}
-use Rattle.packets.proofs.pass_empty.Reads as reads
-use Rattle.packets.proofs.pass_empty.Lts as lts
-use Rattle.packets.proofs.is_empty.Reads as is_empty_reads
-use Rattle.trace.proofs.record_head.Reads as record_head_reads
 use Rattle.packets.proofs.pass_empty.Given as goal
 
 abbrev pub invariant-loop-format : goal.invariant-loop-format

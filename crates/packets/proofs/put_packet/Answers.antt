@@ -1,8 +1,4 @@
 use Rattle.packets.proofs.Adding.{put_all}
-use Rattle.packets.proofs.put_packet.Reads as reads
-use Rattle.packets.proofs.put_packet.Lts as lts
-use Rattle.words.proofs.put32.Reads as put32_reads
-use Rattle.words.proofs.put64.Reads as put64_reads
 use Rattle.packets.proofs.put_packet.Goals as goal
 
 pub returns : goal.returns

@@ -1,8 +1,4 @@
 use Rattle.packets.proofs.Adding.{btsnoop_pre, pcap_pre, btsnoop_packet, pcap_packet}
-use Rattle.packets.proofs.read_packet.Reads as reads
-use Rattle.packets.proofs.read_packet.Lts as lts
-use Rattle.btsnoop.proofs.read_packet.Reads as read_packet_reads
-use Rattle.pcap.proofs.read_packet.Reads as read_packet_reads'
 use Rattle.packets.proofs.read_packet.Goals as goal
 
 pub read_packet-requires : goal.read_packet-requires

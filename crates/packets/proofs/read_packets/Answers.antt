@@ -1,12 +1,4 @@
 use Rattle.packets.proofs.Adding.{walk_start, walk_in, walk_pass_less, walk_pass, walk_pre, walk_less, walk_turn, walk_cut, walk_end}
-use Prim.Native.Nat.{◌-◌}
-use Rattle.packets.proofs.read_packets.Reads as reads
-use Rattle.packets.proofs.read_packets.Lts as lts
-use Rattle.packets.proofs.add_packet.Reads as add_packet_reads
-use Rattle.packets.proofs.pass_empty.Reads as pass_empty_reads
-use Rattle.trace.proofs.file_head.Reads as file_head_reads
-use Rattle.trace.proofs.read_at.Reads as read_at_reads
-use Rattle.trace.proofs.record_head.Reads as record_head_reads
 use Rattle.packets.proofs.read_packets.Goals as goal
 
 pub loop-end-init : goal.loop-end-init

@@ -1,8 +1,4 @@
 use Rattle.packets.proofs.Adding.{btsnoop_room, pcap_room, btsnoop_time, pcap_time}
-use Rattle.packets.proofs.time_at.Reads as reads
-use Rattle.packets.proofs.time_at.Lts as lts
-use Rattle.btsnoop.proofs.time_at.Reads as time_at_reads
-use Rattle.pcap.proofs.time_at.Reads as time_at_reads'
 use Rattle.packets.proofs.time_at.Goals as goal
 
 pub time_at-requires : goal.time_at-requires

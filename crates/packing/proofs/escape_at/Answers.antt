@@ -1,5 +1,5 @@
 use Rattle.packing.proofs.Escapes.{escape_start, block_is, escape_bare_room, escape_bare_turn, escape_mixed_room, escape_mixed_turn, escape_last_room, escape_last}
-use Rattle.std.proofs.Common.{◌-◌, rules}
+use Rattle.std.proofs.Common.{rules}
 use Rattle.packing.proofs.escape_at.Goals as goal
 
 pub loop-i-init : goal.loop-i-init

@@ -1,4 +1,3 @@
-use Rattle.std.proofs.Common.{◌-◌}
 use Rattle.packing.proofs.Escapes.{escape_start, escape_room, escape_turn, escape_end}
 use Rattle.packing.proofs.escape_few.Goals as goal
 

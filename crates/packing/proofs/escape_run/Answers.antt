@@ -1,5 +1,4 @@
 use Rattle.packing.proofs.Escapes.{run_start, block_is, full_is, run_room, run_turn, run_end}
-use Rattle.std.proofs.Common.{◌-◌}
 use Rattle.packing.proofs.escape_run.Goals as goal
 
 pub loop-i-init : goal.loop-i-init

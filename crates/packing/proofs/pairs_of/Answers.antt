@@ -1,5 +1,4 @@
 use Rattle.packing.proofs.Twins.{twin_start, full_least, twin_turn, twin_end}
-use Rattle.std.proofs.Common.{◌-◌}
 use Rattle.packing.proofs.pairs_of.Goals as goal
 
 pub loop-i-init : goal.loop-i-init

@@ -1,5 +1,4 @@
 use Rattle.packing.proofs.Twins.{part_start, part_second, part_turn, part_end}
-use Rattle.std.proofs.Common.{◌-◌}
 use Rattle.packing.proofs.put_pairs.Goals as goal
 
 pub loop-i-init : goal.loop-i-init

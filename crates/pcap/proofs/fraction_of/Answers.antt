@@ -1,7 +1,5 @@
 use Rattle.pcap.proofs.Reading.{fraction_nano, fraction_micro}
 use native.Mathlib.Omega.{arith}
-use Rattle.pcap.proofs.fraction_of.Reads as reads
-use Rattle.pcap.proofs.fraction_of.Lts as lts
 use Rattle.pcap.proofs.fraction_of.Goals as goal
 
 pub returns-then-nano : goal.returns-then-nano

@@ -1,7 +1,4 @@
 use Rattle.pcap.proofs.Headers.{front_four, big_first, big_second}
-use Rattle.pcap.proofs.is_big.Reads as reads
-use Rattle.pcap.proofs.is_big.Lts as lts
-use Rattle.words.proofs.same.Reads as same_Reads
 use Rattle.pcap.proofs.is_big.Goals as goal
 
 pub slice_bounds-same-end : goal.slice_bounds-same-end

@@ -1,7 +1,4 @@
 use Rattle.pcap.proofs.Headers.{front_four, little_first, little_second}
-use Rattle.pcap.proofs.is_little.Reads as reads
-use Rattle.pcap.proofs.is_little.Lts as lts
-use Rattle.words.proofs.same.Reads as same_Reads
 use Rattle.pcap.proofs.is_little.Goals as goal
 
 pub slice_bounds-same-end : goal.slice_bounds-same-end

@@ -1,7 +1,4 @@
 use Rattle.pcap.proofs.Headers.{front_four, nano_first, nano_second}
-use Rattle.pcap.proofs.is_nano.Reads as reads
-use Rattle.pcap.proofs.is_nano.Lts as lts
-use Rattle.words.proofs.same.Reads as same_Reads
 use Rattle.pcap.proofs.is_nano.Goals as goal
 
 pub slice_bounds-same-end : goal.slice_bounds-same-end

@@ -1,8 +1,4 @@
 use Rattle.pcap.proofs.Headers.{begins_short, begins_big, begins_little}
-use Rattle.pcap.proofs.is_pcap.Reads as reads
-use Rattle.pcap.proofs.is_pcap.Lts as lts
-use Rattle.pcap.proofs.is_big.Reads as is_big_reads
-use Rattle.pcap.proofs.is_little.Reads as is_little_reads
 use Rattle.pcap.proofs.is_pcap.Goals as goal
 
 pub returns-then-file-lt24 : goal.returns-then-file-lt24

@@ -1,10 +1,4 @@
 use Rattle.pcap.proofs.Headers.{header_read, header_other, header_not, header_four, header_room}
-use Rattle.pcap.proofs.read_header.Reads as reads
-use Rattle.pcap.proofs.read_header.Lts as lts
-use Rattle.pcap.proofs.get_number.Reads as get_number_reads
-use Rattle.pcap.proofs.is_big.Reads as is_big_reads
-use Rattle.pcap.proofs.is_nano.Reads as is_nano_reads
-use Rattle.pcap.proofs.is_pcap.Reads as is_pcap_reads
 use Rattle.pcap.proofs.read_header.Goals as goal
 
 pub is_big-big-requires : goal.is_big-big-requires

@@ -1,8 +1,4 @@
 use Rattle.pcap.proofs.Reading.{packet_short, packet_directed, packet_other}
-use Rattle.pcap.proofs.read_packet.Reads as reads
-use Rattle.pcap.proofs.read_packet.Lts as lts
-use Rattle.acl.proofs.read_h4.Reads as read_h4_reads
-use Rattle.words.proofs.get_be32.Reads as get_be32_reads
 use Rattle.pcap.proofs.read_packet.Goals as goal
 
 pub returns-then-end-at-lt20 : goal.returns-then-end-at-lt20

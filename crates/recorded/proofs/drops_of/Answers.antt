@@ -1,7 +1,4 @@
 use Rattle.recorded.proofs.Records.{count_btsnoop, drops_btsnoop, drops_pcap}
-use Rattle.recorded.proofs.drops_of.Reads as reads
-use Rattle.recorded.proofs.drops_of.Lts as lts
-use Rattle.words.proofs.get_be32.Reads as get_be32_reads
 use Rattle.recorded.proofs.drops_of.Goals as goal
 
 pub get_be32-requires : goal.get_be32-requires

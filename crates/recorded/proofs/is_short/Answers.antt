@@ -1,8 +1,4 @@
 use Rattle.recorded.proofs.Records.{included_btsnoop, original_btsnoop, captured_pcap, original_pcap, short_btsnoop, short_pcap}
-use Rattle.recorded.proofs.is_short.Reads as reads
-use Rattle.recorded.proofs.is_short.Lts as lts
-use Rattle.pcap.proofs.get_number.Reads as get_number_reads
-use Rattle.words.proofs.get_be32.Reads as get_be32_reads
 use Rattle.recorded.proofs.is_short.Goals as goal
 
 pub get_be32-requires : goal.get_be32-requires

@@ -1,8 +1,4 @@
 use Rattle.recorded.proofs.Records.{skipped_acl, skipped_not}
-use Rattle.recorded.proofs.is_skipped.Reads as reads
-use Rattle.recorded.proofs.is_skipped.Lts as lts
-use Rattle.signs.proofs.is_acl.Reads as is_acl_reads
-use Rattle.signs.proofs.lacks_packet.Reads as lacks_packet_reads
 use Rattle.recorded.proofs.is_skipped.Goals as goal
 
 pub returns-then-is_acl : goal.returns-then-is_acl

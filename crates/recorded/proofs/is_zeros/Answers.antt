@@ -1,7 +1,4 @@
 use Rattle.recorded.proofs.Records.{zeros_start, zeros_not, zeros_turn, zeros_end}
-use Prim.Native.Nat.{◌-◌}
-use Rattle.recorded.proofs.is_zeros.Reads as reads
-use Rattle.recorded.proofs.is_zeros.Lts as lts
 use Rattle.recorded.proofs.is_zeros.Goals as goal
 
 pub loop-i-init : goal.loop-i-init

@@ -1,8 +1,6 @@
 use Rattle.recorded.proofs.Records.{Zeroing}
 use Prim.Native.Nat.{◌-◌}
 use lib.ListN.{length}
-use Rattle.recorded.proofs.is_zeros.Reads as reads
-use Rattle.recorded.proofs.is_zeros.Lts as lts
 use Rattle.recorded.proofs.is_zeros.Given as goal
 
 abbrev pub invariant-loop-i : goal.invariant-loop-i

@@ -1,7 +1,4 @@
 use Rattle.recorded.proofs.Looking.{noted_shows, noted_not}
-use Rattle.recorded.proofs.note_if.Reads as reads
-use Rattle.recorded.proofs.note_if.Lts as lts
-use Rattle.signs.proofs.note.Reads as note_reads
 use Rattle.recorded.proofs.note_if.Goals as goal
 
 pub returns-then-shows : goal.returns-then-shows

@@ -1,7 +1,4 @@
 use Rattle.recorded.proofs.Looking.{rise_more, rise_none}
-use Rattle.recorded.proofs.note_rise.Reads as reads
-use Rattle.recorded.proofs.note_rise.Lts as lts
-use Rattle.signs.proofs.note.Reads as note_reads
 use Rattle.recorded.proofs.note_rise.Goals as goal
 
 pub returns-then-before-here : goal.returns-then-before-here

@@ -1,10 +1,4 @@
 use Rattle.recorded.proofs.Looking.{looking_start, looking_pre, looking_less, looking_turn, looking_cut, looking_end}
-use Prim.Native.Nat.{◌-◌}
-use Rattle.recorded.proofs.record_signs.Reads as reads
-use Rattle.recorded.proofs.record_signs.Lts as lts
-use Rattle.recorded.proofs.look_at.Reads as look_at_reads
-use Rattle.trace.proofs.file_head.Reads as file_head_reads
-use Rattle.trace.proofs.read_at.Reads as read_at_reads
 use Rattle.recorded.proofs.record_signs.Goals as goal
 
 pub loop-end-init : goal.loop-end-init

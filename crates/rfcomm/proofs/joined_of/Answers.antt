@@ -1,6 +1,4 @@
 use borrow.Author.Tests.{eq-eqb, ne_eqb}
-use Rattle.rfcomm.proofs.joined_of.Reads as reads
-use Rattle.rfcomm.proofs.joined_of.Lts as lts
 use Rattle.rfcomm.proofs.joined_of.Goals as goal
 
 pub returns-then-place-eq1 : goal.returns-then-place-eq1

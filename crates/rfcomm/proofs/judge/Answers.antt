@@ -1,10 +1,4 @@
 use Rattle.rfcomm.proofs.Judging.{judged_asks, judged_passed, judged_frame_law}
-use Rattle.rfcomm.proofs.judge.Reads as reads
-use Rattle.rfcomm.proofs.judge.Lts as lts
-use Rattle.channels.proofs.asks.Reads as asks_reads
-use Rattle.channels.proofs.is_tried.Reads as is_tried_reads
-use Rattle.rfcomm.proofs.judge_frame.Reads as judge_frame_reads
-use Rattle.words.proofs.get32.Reads as get32_reads
 use Rattle.rfcomm.proofs.judge.Goals as goal
 
 pub returns-then-asks : goal.returns-then-asks

@@ -1,9 +1,4 @@
 use Rattle.rfcomm.proofs.Judging.{verdict_sabm, verdict_other, verdict_uih, verdict_wrong, place_uih}
-use Rattle.rfcomm.proofs.judge_frame.Reads as reads
-use Rattle.rfcomm.proofs.judge_frame.Lts as lts
-use Rattle.l2cap.proofs.payload.Reads as payload_reads
-use Rattle.rfcomm.proofs.place_uih.Reads as place_uih_reads
-use Rattle.uih.proofs.read_frame.Reads as read_frame_reads
 use Rattle.rfcomm.proofs.judge_frame.Goals as goal
 
 pub place_uih-requires : goal.place_uih-requires

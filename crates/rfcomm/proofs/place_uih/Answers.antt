@@ -1,9 +1,4 @@
 use Rattle.rfcomm.proofs.Judging.{placed_zero, placed_empty, placed_info}
-use Rattle.rfcomm.proofs.place_uih.Reads as reads
-use Rattle.rfcomm.proofs.place_uih.Lts as lts
-use Rattle.rfcomm.proofs.joined_of.Reads as joined_of_reads
-use Rattle.words.proofs.get32.Reads as get32_reads
-use Rattle.words.proofs.wide32.Reads as wide32_reads
 use Rattle.rfcomm.proofs.place_uih.Goals as goal
 
 pub returns-then-dlci-eq0 : goal.returns-then-dlci-eq0

@@ -1,9 +1,4 @@
 use Rattle.rfcomm.proofs.PieceRows.{put_row_law}
-use Rattle.rfcomm.proofs.put_piece.Reads as reads
-use Rattle.rfcomm.proofs.put_piece.Lts as lts
-use Rattle.rfcomm.proofs.pair.Reads as PairReads
-use Rattle.rfcomm.proofs.put_bytes.Reads as put_bytes_reads
-use Rattle.rfcomm.proofs.put_stretch.Reads as put_stretch_reads
 use Rattle.rfcomm.proofs.put_piece.Goals as goal
 
 pub returns : goal.returns

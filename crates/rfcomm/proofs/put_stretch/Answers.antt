@@ -1,8 +1,4 @@
 use Rattle.rfcomm.proofs.PieceRows.{put_stretch as stretch_put}
-use Rattle.rfcomm.proofs.put_stretch.Reads as reads
-use Rattle.rfcomm.proofs.put_stretch.Lts as lts
-use Rattle.rfcomm.proofs.pair.Reads as PairReads
-use Rattle.words.proofs.put32.Reads as put32_reads
 use Rattle.rfcomm.proofs.put_stretch.Goals as goal
 
 pub returns : goal.returns

@@ -1,6 +1,4 @@
 use Rattle.samples.proofs.Places.{byte_past}
-use Rattle.samples.proofs.byte.Reads as reads
-use Rattle.samples.proofs.byte.Lts as lts
 use Rattle.samples.proofs.byte.Goals as goal
 
 pub returns-else-at-s : goal.returns-else-at-s

@@ -1,8 +1,4 @@
-use Prim.Native.Nat.{◌-◌}
 use Rattle.samples.proofs.Filling.{filling_start, filling_turn, filling_end}
-use Rattle.samples.proofs.fill.Reads as reads
-use Rattle.samples.proofs.fill.Lts as lts
-use Rattle.samples.proofs.untouched.Reads as untouched_reads
 use Rattle.samples.proofs.fill.Goals as goal
 
 pub loop-i-init : goal.loop-i-init

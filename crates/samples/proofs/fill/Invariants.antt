@@ -1,9 +1,6 @@
 use Prim.Native.Nat.{◌-◌}
 use lib.ListN.{length}
 use Rattle.samples.proofs.Filling.{Filling}
-use Rattle.samples.proofs.fill.Reads as reads
-use Rattle.samples.proofs.fill.Lts as lts
-use Rattle.samples.proofs.untouched.Reads as untouched_reads
 use Rattle.samples.proofs.fill.Given as goal
 
 abbrev pub invariant-loop-i : goal.invariant-loop-i

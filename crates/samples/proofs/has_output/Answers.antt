@@ -1,8 +1,4 @@
-use Prim.Native.Nat.{◌-◌}
 use Rattle.samples.proofs.Filling.{comparing_start, comparing_turn, comparing_end, compared_no}
-use Rattle.samples.proofs.has_output.Reads as reads
-use Rattle.samples.proofs.has_output.Lts as lts
-use Rattle.samples.proofs.output_byte.Reads as output_byte_reads
 use Rattle.samples.proofs.has_output.Goals as goal
 
 pub returns-then-out-written : goal.returns-then-out-written

@@ -1,9 +1,6 @@
 use Prim.Native.Nat.{◌-◌}
 use lib.ListN.{length}
 use Rattle.samples.proofs.Filling.{Comparing}
-use Rattle.samples.proofs.has_output.Reads as reads
-use Rattle.samples.proofs.has_output.Lts as lts
-use Rattle.samples.proofs.output_byte.Reads as output_byte_reads
 use Rattle.samples.proofs.has_output.Given as goal
 
 abbrev pub invariant-loop-i : goal.invariant-loop-i

@@ -1,7 +1,4 @@
 use Rattle.samples.proofs.Places.{long_few, long_past, long_there}
-use Rattle.samples.proofs.long.Reads as reads
-use Rattle.samples.proofs.long.Lts as lts
-use Rattle.words.proofs.get_le64.Reads as get_le64_reads
 use Rattle.samples.proofs.long.Goals as goal
 
 pub returns-then-n-lt8 : goal.returns-then-n-lt8

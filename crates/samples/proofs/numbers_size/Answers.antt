@@ -1,6 +1,4 @@
 use Rattle.samples.proofs.Places.{size_three, size_seven, size_eight, size_one, size_two, size_none}
-use Rattle.samples.proofs.numbers_size.Reads as reads
-use Rattle.samples.proofs.numbers_size.Lts as lts
 use Rattle.samples.proofs.numbers_size.Goals as goal
 
 pub returns-then-op-eq3 : goal.returns-then-op-eq3

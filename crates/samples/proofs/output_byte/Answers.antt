@@ -1,7 +1,4 @@
 use Rattle.samples.proofs.Filling.{output_written, output_past}
-use Rattle.samples.proofs.output_byte.Reads as reads
-use Rattle.samples.proofs.output_byte.Lts as lts
-use Rattle.samples.proofs.untouched.Reads as untouched_reads
 use Rattle.samples.proofs.output_byte.Goals as goal
 
 pub returns-then-i-written : goal.returns-then-i-written

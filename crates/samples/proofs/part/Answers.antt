@@ -1,6 +1,4 @@
 use Rattle.samples.proofs.Places.{part_past, part_short, part_there}
-use Rattle.samples.proofs.part.Reads as reads
-use Rattle.samples.proofs.part.Lts as lts
 use Rattle.samples.proofs.part.Goals as goal
 
 pub returns-then-n-at : goal.returns-then-n-at

@@ -1,13 +1,4 @@
 use Rattle.samples.proofs.Places.{answer_read}
-use Rattle.samples.proofs.read_answer.Reads as reads
-use Rattle.samples.proofs.read_answer.Lts as lts
-use Rattle.samples.proofs.byte.Reads as byte_reads
-use Rattle.samples.proofs.read_counted.Reads as read_counted_reads
-use Rattle.samples.proofs.sum.Reads as sum_reads
-use Rattle.samples.proofs.value_bytes.Reads as value_bytes_reads
-use Rattle.samples.proofs.word.Reads as word_reads
-use Rattle.words.proofs.wide.Reads as wide_reads
-use Rattle.words.proofs.wide32.Reads as wide32_reads
 use Rattle.samples.proofs.read_answer.Goals as goal
 
 pub returns : goal.returns

@@ -1,7 +1,4 @@
 use Rattle.samples.proofs.Places.{second_there, second_none}
-use Rattle.samples.proofs.read_second.Reads as reads
-use Rattle.samples.proofs.read_second.Lts as lts
-use Rattle.samples.proofs.read_counted.Reads as read_counted_reads
 use Rattle.samples.proofs.read_second.Goals as goal
 
 pub returns-then-op-eq5 : goal.returns-then-op-eq5

@@ -1,6 +1,4 @@
 use Rattle.samples.proofs.Places.{capped_most, capped_sum}
-use Rattle.samples.proofs.sum.Reads as reads
-use Rattle.samples.proofs.sum.Lts as lts
 use Rattle.samples.proofs.sum.Goals as goal
 
 pub returns-then-b-a : goal.returns-then-b-a

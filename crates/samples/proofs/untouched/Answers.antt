@@ -1,7 +1,5 @@
 use Rattle.samples.specs.Samples.{untouched_of}
 use borrow.Author.Rules.{rules}
-use Rattle.samples.proofs.untouched.Reads as reads
-use Rattle.samples.proofs.untouched.Lts as lts
 use Rattle.samples.proofs.untouched.Goals as goal
 
 pub returns : goal.returns

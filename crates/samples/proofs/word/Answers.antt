@@ -1,7 +1,4 @@
 use Rattle.samples.proofs.Places.{word_few, word_past, word_there}
-use Rattle.samples.proofs.word.Reads as reads
-use Rattle.samples.proofs.word.Lts as lts
-use Rattle.words.proofs.get_le32.Reads as get_le32_reads
 use Rattle.samples.proofs.word.Goals as goal
 
 pub returns-then-n-lt4 : goal.returns-then-n-lt4

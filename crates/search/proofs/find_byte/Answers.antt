@@ -1,10 +1,4 @@
 use Rattle.search.proofs.Searching.{among_part, passed_none}
-use Rattle.search.proofs.find_byte.Reads as reads
-use Rattle.search.proofs.find_byte.Lts as lts
-use Rattle.search.proofs.find_in_32.Reads as find_in_32_reads
-use Rattle.search.proofs.find_short.Reads as find_short_reads
-use Rattle.search.proofs.is_without.Reads as is_without_reads
-use Rattle.search.proofs.pass_blocks.Reads as pass_blocks_reads
 use Rattle.search.proofs.find_byte.Goals as goal
 
 pub returns-then-is_without : goal.returns-then-is_without

@@ -1,7 +1,4 @@
-use Prim.Native.Nat.{◌-◌}
 use Rattle.search.proofs.Searching.{seeking_hit, seeking_miss, seeking_end, seeking_start}
-use Rattle.search.proofs.find_few.Reads as reads
-use Rattle.search.proofs.find_few.Lts as lts
 use Rattle.search.proofs.find_few.Goals as goal
 
 pub loop-i-init : goal.loop-i-init

@@ -1,8 +1,6 @@
 use lib.ListN.{length}
 use Prim.Native.Nat.{◌-◌}
 use Rattle.search.proofs.Searching.{Seeking}
-use Rattle.search.proofs.find_few.Reads as reads
-use Rattle.search.proofs.find_few.Lts as lts
 use Rattle.search.proofs.find_few.Given as goal
 
 abbrev pub invariant-loop-i : goal.invariant-loop-i

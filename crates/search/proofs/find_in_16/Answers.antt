@@ -1,8 +1,5 @@
 use Rattle.search.proofs.Searching.{placed_room, placed_sought}
 use native.Mathlib.Omega.{arith}
-use Rattle.search.proofs.find_in_16.Reads as reads
-use Rattle.search.proofs.find_in_16.Lts as lts
-use Rattle.search.proofs.place_of.Reads as place_of_reads
 use Rattle.search.proofs.find_in_16.Goals as goal
 
 pub overflow_add-result : goal.overflow_add-result

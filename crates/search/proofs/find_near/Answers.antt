@@ -1,4 +1,3 @@
-use Prim.Native.Nat.{◌-◌}
 use Rattle.search.proofs.Searching.{seeking_start, seeking_hit, seeking_miss, seeking_found}
 use native.Mathlib.Omega.{arith}
 use Rattle.search.proofs.find_near.Goals as goal

@@ -1,11 +1,5 @@
 use Rattle.search.proofs.Searching.{among_part, short_room, short_none, short_found}
 use native.Mathlib.Omega.{arith}
-use Rattle.search.proofs.find_short.Reads as reads
-use Rattle.search.proofs.find_short.Lts as lts
-use Rattle.search.proofs.either.Reads as either_reads
-use Rattle.search.proofs.find_few.Reads as find_few_reads
-use Rattle.search.proofs.find_in_16.Reads as find_in_16_reads
-use Rattle.search.proofs.is_without.Reads as is_without_reads
 use Rattle.search.proofs.find_short.Goals as goal
 
 pub overflow_add-end : goal.overflow_add-end

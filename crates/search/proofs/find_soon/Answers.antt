@@ -1,8 +1,5 @@
 use Rattle.search.proofs.Searching.{soon_first, soon_second}
 use native.Mathlib.Omega.{arith}
-use Rattle.search.proofs.find_soon.Reads as reads
-use Rattle.search.proofs.find_soon.Lts as lts
-use Rattle.search.proofs.find_byte.Reads as find_byte_reads
 use Rattle.search.proofs.find_soon.Goals as goal
 
 pub returns-then-s-from : goal.returns-then-s-from

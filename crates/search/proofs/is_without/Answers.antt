@@ -1,8 +1,4 @@
-use Prim.Native.Nat.{◌-◌}
 use Rattle.search.proofs.Searching.{lacking_start, lacking_more, lacking_same, lacking_end}
-use Rattle.search.proofs.is_without.Reads as reads
-use Rattle.search.proofs.is_without.Lts as lts
-use Rattle.search.proofs.one_if.Reads as one_if_reads
 use Rattle.search.proofs.is_without.Goals as goal
 
 pub loop-i-init : goal.loop-i-init

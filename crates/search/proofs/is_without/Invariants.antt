@@ -1,9 +1,6 @@
 use Prim.Native.Nat.{◌-◌}
 use lib.ListN.{length}
 use Rattle.search.proofs.Searching.{Lacking}
-use Rattle.search.proofs.is_without.Reads as reads
-use Rattle.search.proofs.is_without.Lts as lts
-use Rattle.search.proofs.one_if.Reads as one_if_reads
 use Rattle.search.proofs.is_without.Given as goal
 
 abbrev pub invariant-loop-i : goal.invariant-loop-i

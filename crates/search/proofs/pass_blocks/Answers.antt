@@ -1,9 +1,5 @@
-use Prim.Native.Nat.{◌-◌}
 use Rattle.search.proofs.Searching.{seeking_start, seeking_part, passed_block, passed_last}
 use native.Mathlib.Omega.{arith}
-use Rattle.search.proofs.pass_blocks.Reads as reads
-use Rattle.search.proofs.pass_blocks.Lts as lts
-use Rattle.search.proofs.is_without.Reads as is_without_reads
 use Rattle.search.proofs.pass_blocks.Goals as goal
 
 pub loop-i-init : goal.loop-i-init

@@ -1,9 +1,6 @@
 use Prim.Native.Nat.{◌-◌}
 use lib.ListN.{length}
 use Rattle.search.proofs.Searching.{Seeking}
-use Rattle.search.proofs.pass_blocks.Reads as reads
-use Rattle.search.proofs.pass_blocks.Lts as lts
-use Rattle.search.proofs.is_without.Reads as is_without_reads
 use Rattle.search.proofs.pass_blocks.Given as goal
 
 abbrev pub invariant-loop-i : goal.invariant-loop-i

@@ -1,6 +1,4 @@
 use Rattle.search.proofs.Searching.{placing_start, placing_hit, placing_miss, placing_end}
-use Rattle.search.proofs.place_of.Reads as reads
-use Rattle.search.proofs.place_of.Lts as lts
 use Rattle.search.proofs.place_of.Goals as goal
 
 pub loop-i-init : goal.loop-i-init

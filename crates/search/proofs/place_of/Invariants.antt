@@ -1,6 +1,4 @@
 use Rattle.search.proofs.Searching.{Placing}
-use Rattle.search.proofs.place_of.Reads as reads
-use Rattle.search.proofs.place_of.Lts as lts
 use Rattle.search.proofs.place_of.Given as goal
 
 abbrev pub invariant-loop-i : goal.invariant-loop-i

@@ -1,6 +1,4 @@
 use Rattle.signs.proofs.Acl.{before_h4, before_plain, before_directed}
-use Rattle.signs.proofs.before_packet.Reads as reads
-use Rattle.signs.proofs.before_packet.Lts as lts
 use Rattle.signs.proofs.before_packet.Goals as goal
 
 pub returns-then-datalink-eq1002 : goal.returns-then-datalink-eq1002

@@ -1,8 +1,4 @@
 use Rattle.signs.proofs.Acl.{flagged_pre, directed_pre, acl_flagged, acl_directed}
-use Rattle.signs.proofs.is_acl.Reads as reads
-use Rattle.signs.proofs.is_acl.Lts as lts
-use Rattle.signs.proofs.is_directed_acl.Reads as is_directed_acl_reads
-use Rattle.signs.proofs.is_flagged_acl.Reads as is_flagged_acl_reads
 use Rattle.signs.proofs.is_acl.Goals as goal
 
 pub is_flagged_acl-requires : goal.is_flagged_acl-requires

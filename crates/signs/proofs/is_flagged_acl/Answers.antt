@@ -1,9 +1,4 @@
 use Rattle.signs.proofs.Acl.{acl_monitor, acl_not, acl_h4, acl_plain}
-use Rattle.signs.proofs.is_flagged_acl.Reads as reads
-use Rattle.signs.proofs.is_flagged_acl.Lts as lts
-use Rattle.signs.proofs.is_h4_acl.Reads as is_h4_acl_reads
-use Rattle.signs.proofs.is_monitor_acl.Reads as is_monitor_acl_reads
-use Rattle.words.proofs.get_be32.Reads as get_be32_reads
 use Rattle.signs.proofs.is_flagged_acl.Goals as goal
 
 pub returns-then-datalink-eq2001 : goal.returns-then-datalink-eq2001

@@ -1,6 +1,4 @@
 use Rattle.signs.proofs.Acl.{h4_some, h4_none}
-use Rattle.signs.proofs.is_h4_acl.Reads as reads
-use Rattle.signs.proofs.is_h4_acl.Lts as lts
 use Rattle.signs.proofs.is_h4_acl.Goals as goal
 
 pub returns-then-lo-end : goal.returns-then-lo-end

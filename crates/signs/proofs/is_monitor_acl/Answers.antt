@@ -1,6 +1,4 @@
 use Rattle.signs.proofs.Acl.{monitor_sent, monitor_else}
-use Rattle.signs.proofs.is_monitor_acl.Reads as reads
-use Rattle.signs.proofs.is_monitor_acl.Lts as lts
 use Rattle.signs.proofs.is_monitor_acl.Goals as goal
 
 pub returns-then-op-eq4 : goal.returns-then-op-eq4

@@ -1,9 +1,4 @@
 use Rattle.signs.proofs.Acl.{packet_lies, packet_lacks, packet_none, packet_fits}
-use Rattle.signs.proofs.lacks_packet.Reads as reads
-use Rattle.signs.proofs.lacks_packet.Lts as lts
-use Rattle.signs.proofs.before_packet.Reads as before_packet_reads
-use Rattle.signs.proofs.is_acl.Reads as is_acl_reads
-use Rattle.signs.proofs.lacks_data.Reads as lacks_data_reads
 use Rattle.signs.proofs.lacks_packet.Goals as goal
 
 pub overflow_add-at : goal.overflow_add-at

@@ -1,6 +1,4 @@
 use Rattle.signs.proofs.Counting.{note_first, note_more}
-use Rattle.signs.proofs.note.Reads as reads
-use Rattle.signs.proofs.note.Lts as lts
 use Rattle.signs.proofs.note.Goals as goal
 
 pub returns-then-g-eq0 : goal.returns-then-g-eq0

@@ -1,4 +1,3 @@
-use Prim.Native.Nat.{◌-◌}
 use Rattle.sorting.proofs.Places.{copying_start, copying_turn, copying_end}
 use Rattle.sorting.proofs.copy_words.Goals as goal
 

@@ -1,5 +1,4 @@
 use Rattle.sorting.proofs.Places.{merging_start, merging_left, merging_right, merging_end, merging_below}
-use Prim.Native.Nat.{◌-◌}
 use native.Mathlib.Omega.{arith}
 use Rattle.sorting.proofs.merge_words.Goals as goal
 

@@ -1,8 +1,4 @@
 use Rattle.spans.proofs.Scans.{one_first, one_known}
-use Rattle.spans.proofs.add_span.Reads as reads
-use Rattle.spans.proofs.add_span.Lts as lts
-use Rattle.unpacking.proofs.unpacks.Reads as unpacks_reads
-use Rattle.spans.proofs.bit_of.Reads as bit_of_reads
 use Rattle.spans.proofs.add_span.Goals as goal
 
 pub returns-then-t-eq0 : goal.returns-then-t-eq0

@@ -1,6 +1,4 @@
 use Rattle.spans.proofs.Scans.{up_to_last, up_to_all}
-use Rattle.spans.proofs.before_end.Reads as reads
-use Rattle.spans.proofs.before_end.Lts as lts
 use Rattle.spans.proofs.before_end.Goals as goal
 
 pub returns-then-s-last-eq60 : goal.returns-then-s-last-eq60

@@ -1,6 +1,4 @@
 use Rattle.spans.proofs.Scans.{begins_held, begins_self}
-use Rattle.spans.proofs.begins.Reads as reads
-use Rattle.spans.proofs.begins.Lts as lts
 use Rattle.spans.proofs.begins.Goals as goal
 
 pub returns-then-h-gt0 : goal.returns-then-h-gt0

@@ -1,7 +1,4 @@
 use Rattle.spans.proofs.Scans.{from_none, from_room, from_part}
-use Rattle.spans.proofs.count_from.Reads as reads
-use Rattle.spans.proofs.count_from.Lts as lts
-use Rattle.spans.proofs.count_part.Reads as count_part_reads
 use Rattle.spans.proofs.count_from.Goals as goal
 
 pub returns-then-skip-part : goal.returns-then-skip-part

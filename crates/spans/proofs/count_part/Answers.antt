@@ -1,10 +1,5 @@
-use Prim.Native.Nat.{◌-◌}
 use Rattle.spans.proofs.Buffers.{counting_start, counting_room, counting_turn, counting_end, span_at_law, rest_high}
 use native.Mathlib.Omega.{arith}
-use Rattle.spans.proofs.count_part.Reads as reads
-use Rattle.spans.proofs.count_part.Lts as lts
-use Rattle.spans.proofs.add_span.Reads as add_span_reads
-use Rattle.spans.proofs.next_span.Reads as next_span_reads
 use Rattle.spans.proofs.count_part.Goals as goal
 
 pub loop-start-init : goal.loop-start-init

@@ -1,10 +1,6 @@
 use lib.ListN.{length}
 use Prim.Native.Nat.{◌-◌}
 use Rattle.spans.proofs.Buffers.{Counting}
-use Rattle.spans.proofs.count_part.Reads as reads
-use Rattle.spans.proofs.count_part.Lts as lts
-use Rattle.spans.proofs.add_span.Reads as add_span_reads
-use Rattle.spans.proofs.next_span.Reads as next_span_reads
 use Rattle.spans.proofs.count_part.Given as goal
 
 abbrev pub invariant-loop-start : goal.invariant-loop-start

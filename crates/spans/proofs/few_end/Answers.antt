@@ -1,7 +1,4 @@
-use Prim.Native.Nat.{◌-◌}
 use Rattle.spans.proofs.Scans.{ending_start, ending_hit, ending_miss, ending_end}
-use Rattle.spans.proofs.few_end.Reads as reads
-use Rattle.spans.proofs.few_end.Lts as lts
 use Rattle.spans.proofs.few_end.Goals as goal
 
 pub loop-i-init : goal.loop-i-init

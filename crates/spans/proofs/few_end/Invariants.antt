@@ -1,8 +1,6 @@
 use lib.ListN.{length}
 use Prim.Native.Nat.{◌-◌}
 use Rattle.spans.proofs.Scans.{Ending}
-use Rattle.spans.proofs.few_end.Reads as reads
-use Rattle.spans.proofs.few_end.Lts as lts
 use Rattle.spans.proofs.few_end.Given as goal
 
 abbrev pub invariant-loop-i : goal.invariant-loop-i

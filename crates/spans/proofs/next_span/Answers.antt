@@ -1,7 +1,4 @@
 use Rattle.spans.proofs.Buffers.{next_is_span, next_is_rest}
-use Rattle.spans.proofs.next_span.Reads as reads
-use Rattle.spans.proofs.next_span.Lts as lts
-use Rattle.search.proofs.find_soon.Reads as find_soon_reads
 use Rattle.spans.proofs.next_span.Goals as goal
 
 pub returns-then-end-buffer : goal.returns-then-end-buffer

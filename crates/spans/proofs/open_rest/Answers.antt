@@ -1,7 +1,4 @@
 use Rattle.spans.proofs.Scans.{open_held, open_self}
-use Rattle.spans.proofs.open_rest.Reads as reads
-use Rattle.spans.proofs.open_rest.Lts as lts
-use Rattle.search.proofs.find_soon.Reads as find_soon_reads
 use Rattle.spans.proofs.open_rest.Goals as goal
 
 pub returns-then-h-gt0 : goal.returns-then-h-gt0

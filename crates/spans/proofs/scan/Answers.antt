@@ -1,10 +1,4 @@
 use Rattle.spans.proofs.Scans.{scanned_open, scan_first, scanned}
-use Rattle.spans.proofs.scan.Reads as reads
-use Rattle.spans.proofs.scan.Lts as lts
-use Rattle.spans.proofs.count_first.Reads as count_first_reads
-use Rattle.spans.proofs.count_from.Reads as count_from_reads
-use Rattle.spans.proofs.first_end.Reads as first_end_reads
-use Rattle.spans.proofs.open_rest.Reads as open_rest_reads
 use Rattle.spans.proofs.scan.Goals as goal
 
 pub returns-then-e-part : goal.returns-then-e-part

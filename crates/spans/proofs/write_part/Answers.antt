@@ -1,10 +1,5 @@
-use Prim.Native.Nat.{◌-◌}
 use Rattle.spans.proofs.Buffers.{writing_start, writing_room, writing_turn, writing_end, span_at_law, rest_high}
 use native.Mathlib.Omega.{arith}
-use Rattle.spans.proofs.write_part.Reads as reads
-use Rattle.spans.proofs.write_part.Lts as lts
-use Rattle.items.proofs.put_span.Reads as put_span_reads
-use Rattle.spans.proofs.next_span.Reads as next_span_reads
 use Rattle.spans.proofs.write_part.Goals as goal
 
 pub loop-start-init : goal.loop-start-init

@@ -2,10 +2,6 @@ use lib.ListN.{length}
 use Prim.Native.Nat.{◌-◌}
 use Rattle.items.specs.Items.{rx_of}
 use Rattle.spans.proofs.Buffers.{Writing}
-use Rattle.spans.proofs.write_part.Reads as reads
-use Rattle.spans.proofs.write_part.Lts as lts
-use Rattle.items.proofs.put_span.Reads as put_span_reads
-use Rattle.spans.proofs.next_span.Reads as next_span_reads
 use Rattle.spans.proofs.write_part.Given as goal
 
 abbrev pub invariant-loop-start : goal.invariant-loop-start

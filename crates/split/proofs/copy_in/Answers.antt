@@ -1,7 +1,4 @@
 use Rattle.split.proofs.Gathers.{moving_start, moving_turn, moving_end}
-use Prim.Native.Nat.{◌-◌}
-use Rattle.split.proofs.copy_in.Reads as reads
-use Rattle.split.proofs.copy_in.Lts as lts
 use Rattle.split.proofs.copy_in.Goals as goal
 
 pub loop-i-init : goal.loop-i-init

@@ -1,7 +1,5 @@
 use Rattle.split.proofs.Gathers.{Moving}
 use Prim.Native.Nat.{◌-◌}
-use Rattle.split.proofs.copy_in.Reads as reads
-use Rattle.split.proofs.copy_in.Lts as lts
 use Rattle.split.proofs.copy_in.Given as goal
 
 abbrev pub invariant-loop-i : goal.invariant-loop-i

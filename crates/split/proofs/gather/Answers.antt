@@ -1,12 +1,6 @@
 use Rattle.split.proofs.Tables.{laid_chain}
 use Rattle.split.proofs.Gathers.{gathering_start, gathering_more, gathering_room, gathering_row, gathering_chain, gathering_put, gathering_turn, gathering_end}
 use native.Mathlib.Omega.{arith}
-use Rattle.split.proofs.gather.Reads as reads
-use Rattle.split.proofs.gather.Lts as lts
-use Rattle.split.proofs.earlier.Reads as earlier_reads
-use Rattle.words.proofs.least.Reads as least_reads
-use Rattle.split.proofs.length_of.Reads as length_of_reads
-use Rattle.split.proofs.put_bytes.Reads as put_bytes_reads
 use Rattle.split.proofs.gather.Goals as goal
 
 pub earlier-j-requires : goal.earlier-j-requires

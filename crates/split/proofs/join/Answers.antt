@@ -1,10 +1,5 @@
 use Rattle.split.proofs.Steps.{join_put, join_done}
 use native.Mathlib.Omega.{arith}
-use Rattle.split.proofs.join.Reads as reads
-use Rattle.split.proofs.join.Lts as lts
-use Rattle.split.proofs.gather.Reads as gather_reads
-use Rattle.split.proofs.length_of.Reads as length_of_reads
-use Rattle.split.proofs.put_bytes.Reads as put_bytes_reads
 use Rattle.split.proofs.join.Goals as goal
 
 pub overflow_add-p : goal.overflow_add-p

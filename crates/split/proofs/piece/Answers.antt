@@ -1,11 +1,5 @@
 use Rattle.split.proofs.Gathers.{within_work, within_file, whole_work, whole_file}
 use native.Mathlib.Omega.{arith}
-use Rattle.split.proofs.piece.Reads as reads
-use Rattle.split.proofs.piece.Lts as lts
-use Rattle.split.proofs.is_joined.Reads as is_joined_reads
-use Rattle.split.proofs.length_of.Reads as length_of_reads
-use Rattle.words.proofs.part.Reads as part_reads
-use Rattle.split.proofs.start_of.Reads as start_of_reads
 use Rattle.split.proofs.piece.Goals as goal
 
 pub part-requires : goal.part-requires

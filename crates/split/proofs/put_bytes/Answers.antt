@@ -1,11 +1,5 @@
 use Rattle.split.proofs.Gathers.{within_work, within_file, put_work, put_file}
 use native.Mathlib.Omega.{arith}
-use Rattle.split.proofs.put_bytes.Reads as reads
-use Rattle.split.proofs.put_bytes.Lts as lts
-use Rattle.split.proofs.copy_in.Reads as copy_in_reads
-use Rattle.split.proofs.is_joined.Reads as is_joined_reads
-use Rattle.split.proofs.start_of.Reads as start_of_reads
-use Rattle.words.proofs.copy_to.Reads as copy_to_reads
 use Rattle.split.proofs.put_bytes.Goals as goal
 
 pub overflow_add-start : goal.overflow_add-start

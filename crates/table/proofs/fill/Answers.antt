@@ -1,8 +1,4 @@
 use Rattle.table.proofs.Chain.{fill_start, fill_put, fill_turn, fill_end}
-use Prim.Native.Nat.{◌-◌}
-use Rattle.table.proofs.fill.Reads as reads
-use Rattle.table.proofs.fill.Lts as lts
-use Rattle.words.proofs.put32.Reads as put32_reads
 use Rattle.table.proofs.fill.Goals as goal
 
 pub loop-i-init : goal.loop-i-init

@@ -1,8 +1,5 @@
 use Rattle.table.specs.Chain.{Filling}
 use Prim.Native.Nat.{◌-◌}
-use Rattle.table.proofs.fill.Reads as reads
-use Rattle.table.proofs.fill.Lts as lts
-use Rattle.words.proofs.put32.Reads as put32_reads
 use Rattle.table.proofs.fill.Given as goal
 
 abbrev pub invariant-loop-i : goal.invariant-loop-i

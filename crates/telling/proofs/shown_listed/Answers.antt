@@ -1,9 +1,5 @@
 use Rattle.trace.specs.Listing.{told_listed}
 use Rattle.telling.proofs.TellLaws.{shows_as}
-use Rattle.telling.proofs.shown_listed.Reads as reads
-use Rattle.telling.proofs.shown_listed.Lts as lts
-use Rattle.telling.proofs.shown_refusal.Reads as shown_refusal_reads
-use Rattle.telling.proofs.with_two.Reads as with_two_reads
 use Rattle.telling.proofs.shown_listed.Goals as goal
 
 pub returns-in-Records : goal.returns-in-Records

@@ -1,9 +1,5 @@
 use Rattle.trace.specs.Headers.{told_refusal}
 use Rattle.telling.proofs.TellLaws.{shows_as}
-use Rattle.telling.proofs.shown_refusal.Reads as reads
-use Rattle.telling.proofs.shown_refusal.Lts as lts
-use Rattle.telling.proofs.alone.Reads as alone_reads
-use Rattle.telling.proofs.with_one.Reads as with_one_reads
 use Rattle.telling.proofs.shown_refusal.Goals as goal
 
 pub returns-in-FileLong : goal.returns-in-FileLong

@@ -1,8 +1,4 @@
-use Prim.Native.Nat.{◌-◌}
 use Rattle.telling.proofs.TellLaws.{store_start, store_turn, store_end}
-use Rattle.telling.proofs.store.Reads as reads
-use Rattle.telling.proofs.store.Lts as lts
-use Rattle.telling.proofs.put.Reads as put_reads
 use Rattle.telling.proofs.store.Goals as goal
 
 pub loop-i-init : goal.loop-i-init

@@ -1,8 +1,5 @@
 use Prim.Native.Nat.{◌-◌}
 use Rattle.telling.proofs.TellLaws.{Storing}
-use Rattle.telling.proofs.store.Reads as reads
-use Rattle.telling.proofs.store.Lts as lts
-use Rattle.telling.proofs.put.Reads as put_reads
 use Rattle.telling.proofs.store.Given as goal
 
 abbrev pub invariant-loop-i : goal.invariant-loop-i

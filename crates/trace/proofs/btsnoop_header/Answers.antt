@@ -1,7 +1,4 @@
 use Rattle.trace.proofs.Headers.{btsnoop_known, btsnoop_none, btsnoop_other}
-use Rattle.trace.proofs.btsnoop_header.Reads as reads
-use Rattle.trace.proofs.btsnoop_header.Lts as lts
-use Rattle.btsnoop.proofs.read_header.Reads as read_header_reads
 use Rattle.trace.proofs.btsnoop_header.Goals as goal
 
 pub returns-in-Datalink : goal.returns-in-Datalink

@@ -1,6 +1,4 @@
 use Rattle.trace.proofs.Formats.{file_head_btsnoop, file_head_pcap}
-use Rattle.trace.proofs.file_head.Reads as reads
-use Rattle.trace.proofs.file_head.Lts as lts
 use Rattle.trace.proofs.file_head.Goals as goal
 
 pub returns-in-Btsnoop : goal.returns-in-Btsnoop

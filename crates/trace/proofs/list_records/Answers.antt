@@ -1,8 +1,4 @@
 use Rattle.trace.proofs.Listings.{lists_long, lists_refused, lists_all}
-use Rattle.trace.proofs.list_records.Reads as reads
-use Rattle.trace.proofs.list_records.Lts as lts
-use Rattle.trace.proofs.read_header.Reads as read_header_reads
-use Rattle.trace.proofs.walk_records.Reads as walk_records_reads
 use Rattle.trace.proofs.list_records.Goals as goal
 
 pub returns-then-file-gt1048576 : goal.returns-then-file-gt1048576

@@ -1,7 +1,4 @@
 use Rattle.trace.proofs.Headers.{pcap_known, pcap_none, pcap_other}
-use Rattle.trace.proofs.pcap_header.Reads as reads
-use Rattle.trace.proofs.pcap_header.Lts as lts
-use Rattle.pcap.proofs.read_header.Reads as read_header_reads
 use Rattle.trace.proofs.pcap_header.Goals as goal
 
 pub returns-in-Read : goal.returns-in-Read

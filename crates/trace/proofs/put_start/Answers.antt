@@ -1,7 +1,5 @@
 use mathlib.Core.Path.{sym}
 use lib.Seq.{set_out}
-use Rattle.trace.proofs.put_start.Reads as reads
-use Rattle.trace.proofs.put_start.Lts as lts
 use Rattle.trace.proofs.put_start.Goals as goal
 
 pub returns-else-i-starts : goal.returns-else-i-starts

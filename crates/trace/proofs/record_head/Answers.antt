@@ -1,6 +1,4 @@
 use Rattle.trace.proofs.Formats.{record_head_btsnoop, record_head_pcap}
-use Rattle.trace.proofs.record_head.Reads as reads
-use Rattle.trace.proofs.record_head.Lts as lts
 use Rattle.trace.proofs.record_head.Goals as goal
 
 pub returns-in-Btsnoop : goal.returns-in-Btsnoop

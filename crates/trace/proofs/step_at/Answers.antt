@@ -1,7 +1,4 @@
 use Rattle.trace.proofs.ReaderLaws.{step_end, step_short, step_cut, step_whole}
-use Rattle.trace.proofs.step_at.Reads as reads
-use Rattle.trace.proofs.step_at.Lts as lts
-use Rattle.trace.proofs.size_at.Reads as size_at_reads
 use Rattle.trace.proofs.step_at.Goals as goal
 
 pub returns-then-n-at : goal.returns-then-n-at

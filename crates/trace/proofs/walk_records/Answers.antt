@@ -1,9 +1,4 @@
 use Rattle.trace.proofs.Listings.{listing_start, listing_less, listing_turn, listing_cut, listing_end}
-use Prim.Native.Nat.{◌-◌}
-use Rattle.trace.proofs.walk_records.Reads as reads
-use Rattle.trace.proofs.walk_records.Lts as lts
-use Rattle.trace.proofs.put_start.Reads as put_start_reads
-use Rattle.trace.proofs.read_at.Reads as read_at_reads
 use Rattle.trace.proofs.walk_records.Goals as goal
 
 pub loop-end-init : goal.loop-end-init

@@ -1,10 +1,6 @@
 use Rattle.trace.specs.Listings.{Listing}
 use Prim.Native.Nat.{◌-◌}
 use lib.ListN.{length}
-use Rattle.trace.proofs.walk_records.Reads as reads
-use Rattle.trace.proofs.walk_records.Lts as lts
-use Rattle.trace.proofs.put_start.Reads as put_start_reads
-use Rattle.trace.proofs.read_at.Reads as read_at_reads
 use Rattle.trace.proofs.walk_records.Given as goal
 
 abbrev pub invariant-loop-end : goal.invariant-loop-end

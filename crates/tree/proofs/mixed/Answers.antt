@@ -1,7 +1,5 @@
 use mathlib.Core.Path.{refl}
 use Rattle.tree.specs.Tree.{mix_of}
-use Rattle.tree.proofs.mixed.Reads as reads
-use Rattle.tree.proofs.mixed.Lts as lts
 use Rattle.tree.proofs.mixed.Goals as goal
 
 pub returns : goal.returns

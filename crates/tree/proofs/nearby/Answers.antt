@@ -1,7 +1,4 @@
 use Rattle.tree.proofs.Seats.{near_row, near_none}
-use Rattle.tree.proofs.nearby.Reads as reads
-use Rattle.tree.proofs.nearby.Lts as lts
-use Rattle.tree.proofs.sits.Reads as sits_reads
 use Rattle.tree.proofs.nearby.Goals as goal
 
 pub returns-then-sits : goal.returns-then-sits

@@ -1,7 +1,4 @@
 use Rattle.tree.proofs.Index.{seek_none, seek_taken, seek_free}
-use Rattle.tree.proofs.seek.Reads as reads
-use Rattle.tree.proofs.seek.Lts as lts
-use Rattle.tree.proofs.place.Reads as place_reads
 use Rattle.tree.proofs.seek.Goals as goal
 
 pub returns-then-count-eq0 : goal.returns-then-count-eq0

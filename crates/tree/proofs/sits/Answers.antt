@@ -1,7 +1,4 @@
 use Rattle.tree.proofs.Seats.{sits_is, sits_past}
-use Rattle.tree.proofs.sits.Reads as reads
-use Rattle.tree.proofs.sits.Lts as lts
-use Rattle.words.proofs.get64.Reads as get64_reads
 use Rattle.tree.proofs.sits.Goals as goal
 
 pub returns-then-i-count : goal.returns-then-i-count

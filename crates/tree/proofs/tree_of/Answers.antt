@@ -1,6 +1,4 @@
 use Rattle.tree.proofs.Index.{tree_fits, tree_is}
-use Rattle.tree.proofs.tree_of.Reads as reads
-use Rattle.tree.proofs.tree_of.Lts as lts
 use Rattle.tree.proofs.tree_of.Goals as goal
 
 pub overflow_mul-result : goal.overflow_mul-result

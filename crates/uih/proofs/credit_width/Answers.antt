@@ -1,7 +1,5 @@
 use borrow.Author.Tests.{eq-eqb, ne_eqb}
 use native.Mathlib.Omega.{arith}
-use Rattle.uih.proofs.credit_width.Reads as reads
-use Rattle.uih.proofs.credit_width.Lts as lts
 use Rattle.uih.proofs.credit_width.Goals as goal
 
 pub returns-then-control-eq255 : goal.returns-then-control-eq255

@@ -1,7 +1,4 @@
 use Rattle.uih.proofs.Fcs.{fcs_final, fcs_plain}
-use Rattle.uih.proofs.fcs_of.Reads as reads
-use Rattle.uih.proofs.fcs_of.Lts as lts
-use Rattle.words.proofs.wide.Reads as wide_reads
 use Rattle.uih.proofs.fcs_of.Goals as goal
 
 pub returns-then-control-eq255 : goal.returns-then-control-eq255

@@ -1,6 +1,4 @@
 use Rattle.uih.proofs.Reading.{sabm_first, sabm_second}
-use Rattle.uih.proofs.is_sabm.Reads as reads
-use Rattle.uih.proofs.is_sabm.Lts as lts
 use Rattle.uih.proofs.is_sabm.Goals as goal
 
 pub returns-then-control-eq47 : goal.returns-then-control-eq47

@@ -1,6 +1,4 @@
 use Rattle.uih.proofs.Reading.{uih_first, uih_second}
-use Rattle.uih.proofs.is_uih.Reads as reads
-use Rattle.uih.proofs.is_uih.Lts as lts
 use Rattle.uih.proofs.is_uih.Goals as goal
 
 pub returns-then-control-eq239 : goal.returns-then-control-eq239

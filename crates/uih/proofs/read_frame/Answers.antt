@@ -1,10 +1,4 @@
 use Rattle.uih.proofs.Reading.{frame_short, frame_sabm, frame_other, uih_pre}
-use Rattle.uih.proofs.read_frame.Reads as reads
-use Rattle.uih.proofs.read_frame.Lts as lts
-use Rattle.uih.proofs.dlci_of.Reads as dlci_of_reads
-use Rattle.uih.proofs.is_sabm.Reads as is_sabm_reads
-use Rattle.uih.proofs.is_uih.Reads as is_uih_reads
-use Rattle.uih.proofs.read_uih.Reads as read_uih_reads
 use Rattle.uih.proofs.read_frame.Goals as goal
 
 pub returns-then-p-lt2 : goal.returns-then-p-lt2

@@ -1,7 +1,4 @@
 use Rattle.uih.proofs.Reading.{length_short, length_long}
-use Rattle.uih.proofs.read_length.Reads as reads
-use Rattle.uih.proofs.read_length.Lts as lts
-use Rattle.words.proofs.wide.Reads as wide_reads
 use Rattle.uih.proofs.read_length.Goals as goal
 
 pub returns-then-first-eq1 : goal.returns-then-first-eq1

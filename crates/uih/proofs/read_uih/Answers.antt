@@ -1,11 +1,4 @@
 use Rattle.uih.proofs.Reading.{uih_short, uih_missing, uih_right, uih_wrong, uih_unchecked}
-use Rattle.uih.proofs.read_uih.Reads as reads
-use Rattle.uih.proofs.read_uih.Lts as lts
-use Rattle.uih.proofs.credit_width.Reads as credit_width_reads
-use Rattle.uih.proofs.dlci_of.Reads as dlci_of_reads
-use Rattle.uih.proofs.fcs_of.Reads as fcs_of_reads
-use Rattle.uih.proofs.read_length.Reads as read_length_reads
-use Rattle.words.proofs.wide.Reads as wide_reads
 use Rattle.uih.proofs.read_uih.Goals as goal
 
 pub returns-then-p-lt4 : goal.returns-then-p-lt4

@@ -1,5 +1,4 @@
 use Rattle.unescaping.proofs.Flaws.{break_start, break_turn, break_end}
-use Rattle.std.proofs.Common.{◌-◌}
 use Rattle.unescaping.proofs.count_breaks.Goals as goal
 
 pub loop-i-init : goal.loop-i-init

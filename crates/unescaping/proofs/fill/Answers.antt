@@ -1,5 +1,4 @@
 use Rattle.unescaping.proofs.Filling.{fill_start, fill_block_turn, fill_last}
-use Rattle.std.proofs.Common.{◌-◌}
 use Rattle.unescaping.proofs.fill.Goals as goal
 
 pub loop-k-init : goal.loop-k-init

@@ -1,4 +1,3 @@
-use Rattle.std.proofs.Common.{◌-◌}
 use Rattle.unescaping.proofs.Filling.{fill_start, fill_turn, fill_end}
 use Rattle.unescaping.proofs.fill_few.Goals as goal
 

@@ -1,4 +1,3 @@
-use Rattle.std.proofs.Common.{◌-◌}
 use Rattle.unescaping.proofs.Flaws.{clean_plain, clean_pair, flaw_trailing, flaw_bad, flaw_end}
 use Rattle.unescaping.proofs.first_flaw.Goals as goal
 

@@ -1,5 +1,4 @@
 use Rattle.unescaping.proofs.Pairs.{pairing_start, pairing_turn, pairing_end}
-use Rattle.std.proofs.Common.{◌-◌}
 use Rattle.unescaping.proofs.is_paired.Goals as goal
 
 pub loop-i-init : goal.loop-i-init

@@ -1,5 +1,4 @@
 use Rattle.unescaping.proofs.Flaws.{scan_start, scan_front, scan_kept, scan_broken, scan_last, scan_sound, scan_open}
-use Rattle.std.proofs.Common.{◌-◌}
 use Rattle.unescaping.proofs.scan.Goals as goal
 
 pub loop-i-init : goal.loop-i-init

@@ -1,5 +1,4 @@
 use Rattle.unescaping.proofs.Pairs.{unpair_start, pair_here, unpair_turn, unpair_end}
-use Rattle.std.proofs.Common.{◌-◌}
 use Rattle.unescaping.proofs.unpair.Goals as goal
 
 pub loop-i-init : goal.loop-i-init

@@ -1,8 +1,4 @@
-use Prim.Native.Nat.{◌-◌}
 use Rattle.words.proofs.Parts.{parts_start, parts_turn, parts_end}
-use Rattle.words.proofs.copy_long.Reads as reads
-use Rattle.words.proofs.copy_long.Lts as lts
-use Rattle.words.proofs.copy_part.Reads as copy_part_reads
 use Rattle.words.proofs.copy_long.Goals as goal
 
 pub loop-i-init : goal.loop-i-init

@@ -1,8 +1,5 @@
 use Prim.Native.Nat.{◌-◌}
 use Rattle.words.proofs.Parts.{Parts}
-use Rattle.words.proofs.copy_long.Reads as reads
-use Rattle.words.proofs.copy_long.Lts as lts
-use Rattle.words.proofs.copy_part.Reads as copy_part_reads
 use Rattle.words.proofs.copy_long.Given as goal
 
 abbrev pub invariant-loop-i : goal.invariant-loop-i

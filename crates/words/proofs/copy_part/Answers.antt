@@ -1,7 +1,4 @@
-use Prim.Native.Nat.{◌-◌}
 use Rattle.words.proofs.Parts.{copying_start, copying_room, copying_turn, copying_end}
-use Rattle.words.proofs.copy_part.Reads as reads
-use Rattle.words.proofs.copy_part.Lts as lts
 use Rattle.words.proofs.copy_part.Goals as goal
 
 pub loop-i-init : goal.loop-i-init

@@ -1,7 +1,5 @@
 use Prim.Native.Nat.{◌-◌}
 use Rattle.words.proofs.Parts.{Copying}
-use Rattle.words.proofs.copy_part.Reads as reads
-use Rattle.words.proofs.copy_part.Lts as lts
 use Rattle.words.proofs.copy_part.Given as goal
 
 abbrev pub invariant-loop-i : goal.invariant-loop-i

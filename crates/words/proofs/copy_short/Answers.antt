@@ -1,7 +1,4 @@
 use Rattle.words.proofs.Parts.{two_parts}
-use Rattle.words.proofs.copy_short.Reads as reads
-use Rattle.words.proofs.copy_short.Lts as lts
-use Rattle.words.proofs.copy_part.Reads as copy_part_reads
 use Rattle.words.proofs.copy_short.Goals as goal
 
 pub returns-then-n-lt8 : goal.returns-then-n-lt8

@@ -1,8 +1,5 @@
 use Rattle.words.proofs.Fields.{field_there, field_missing}
 use native.Mathlib.Omega.{arith}
-use Rattle.words.proofs.field16.Reads as reads
-use Rattle.words.proofs.field16.Lts as lts
-use Rattle.words.proofs.get_le16.Reads as get_le16_reads
 use Rattle.words.proofs.field16.Goals as goal
 
 pub returns-then-n-lt2 : goal.returns-then-n-lt2

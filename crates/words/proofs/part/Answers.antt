@@ -1,8 +1,6 @@
 use mathlib.Core.Path.{◌≡◌}
 use Prim.Native.Nat.{◌+◌, ◌-◌}
 use native.Mathlib.Omega.{arith}
-use Rattle.words.proofs.part.Reads as reads
-use Rattle.words.proofs.part.Lts as lts
 use Rattle.words.proofs.part.Goals as goal
 
 pub returns : goal.returns

@@ -2,8 +2,6 @@ use Rattle.words.specs.Words.{put_word}
 use lib.ListN.{length-set}
 use native.Mathlib.Omega.{arith}
 use borrow.Author.Rules.{rules}
-use Rattle.words.proofs.put32.Reads as reads
-use Rattle.words.proofs.put32.Lts as lts
 use Rattle.words.proofs.put32.Goals as goal
 
 pub bounds-w-at-2 : goal.bounds-w-at-2

@@ -1,8 +1,5 @@
 use Rattle.words.proofs.Copies.{numbering_start, numbering_turn, numbering_end}
-use Prim.Native.Nat.{◌-◌}
 use native.Mathlib.Omega.{arith}
-use Rattle.words.proofs.put_le.Reads as reads
-use Rattle.words.proofs.put_le.Lts as lts
 use Rattle.words.proofs.put_le.Goals as goal
 
 pub loop-to-init : goal.loop-to-init

@@ -1,7 +1,5 @@
 use Rattle.words.specs.Copies.{Numbering}
 use Prim.Native.Nat.{◌-◌, ◌+◌}
-use Rattle.words.proofs.put_le.Reads as reads
-use Rattle.words.proofs.put_le.Lts as lts
 use Rattle.words.proofs.put_le.Given as goal
 
 abbrev pub invariant-loop-to : goal.invariant-loop-to

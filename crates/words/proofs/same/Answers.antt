@@ -1,5 +1,3 @@
-use Prim.Native.Nat.{◌-◌}
-use lib.ListN.{length}
 use Rattle.words.proofs.Fields.{same_lengths, same_start, eight_turn, eight_not}
 use native.Mathlib.Omega.{arith}
 use Rattle.words.proofs.same.Goals as goal

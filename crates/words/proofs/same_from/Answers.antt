@@ -1,4 +1,3 @@
-use Prim.Native.Nat.{◌-◌}
 use Rattle.words.proofs.Fields.{same_turn, same_not, same_end}
 use Rattle.words.proofs.same_from.Goals as goal
 

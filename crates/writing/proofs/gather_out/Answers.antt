@@ -1,12 +1,6 @@
 use Rattle.split.proofs.Tables.{laid_chain}
 use Rattle.writing.proofs.Gathers.{reaching_start, reaching_more, reaching_room, reaching_row, reaching_chain, reaching_put, reaching_turn, reaching_end}
 use native.Mathlib.Omega.{arith}
-use Rattle.writing.proofs.gather_out.Reads as reads
-use Rattle.writing.proofs.gather_out.Lts as lts
-use Rattle.split.proofs.earlier.Reads as earlier_reads
-use Rattle.words.proofs.least.Reads as least_reads
-use Rattle.split.proofs.length_of.Reads as length_of_reads
-use Rattle.writing.proofs.put_out.Reads as put_out_reads
 use Rattle.writing.proofs.gather_out.Goals as goal
 
 pub earlier-j-requires : goal.earlier-j-requires

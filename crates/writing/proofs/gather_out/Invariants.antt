@@ -1,10 +1,4 @@
 use Rattle.writing.proofs.Gathers.{Reaching}
-use Rattle.writing.proofs.gather_out.Reads as reads
-use Rattle.writing.proofs.gather_out.Lts as lts
-use Rattle.split.proofs.earlier.Reads as earlier_reads
-use Rattle.words.proofs.least.Reads as least_reads
-use Rattle.split.proofs.length_of.Reads as length_of_reads
-use Rattle.writing.proofs.put_out.Reads as put_out_reads
 use Rattle.writing.proofs.gather_out.Given as goal
 
 abbrev pub invariant-loop-left : goal.invariant-loop-left

@@ -1,9 +1,4 @@
 use Rattle.writing.proofs.Gathers.{out_part, out_fits, out_put}
-use Rattle.writing.proofs.put_out.Reads as reads
-use Rattle.writing.proofs.put_out.Lts as lts
-use Rattle.words.proofs.part.Reads as part_reads
-use Rattle.split.proofs.piece.Reads as piece_reads
-use Rattle.words.proofs.copy_to.Reads as copy_to_reads
 use Rattle.writing.proofs.put_out.Goals as goal
 
 pub part-requires : goal.part-requires

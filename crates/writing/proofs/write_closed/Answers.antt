@@ -1,14 +1,5 @@
 use Rattle.writing.proofs.Writing.{close_time, close_sum, close_gather, close_put, close_written}
 use native.Mathlib.Omega.{arith}
-use Rattle.writing.proofs.write_closed.Reads as reads
-use Rattle.writing.proofs.write_closed.Lts as lts
-use Rattle.items.proofs.put_head.Reads as put_head_reads
-use Rattle.writing.proofs.gather_out.Reads as gather_out_reads
-use Rattle.writing.proofs.kind_of.Reads as kind_of_reads
-use Rattle.writing.proofs.put_out.Reads as put_out_reads
-use Rattle.words.proofs.get32.Reads as get32_reads
-use Rattle.words.proofs.get64.Reads as get64_reads
-use Rattle.words.proofs.put_le.Reads as put_le_reads
 use Rattle.writing.proofs.write_closed.Goals as goal
 
 pub put_le-body-requires : goal.put_le-body-requires

@@ -1,10 +1,4 @@
 use Rattle.writing.proofs.Writing.{first_some, first_pre, first_wrote, first_none}
-use Rattle.writing.proofs.write_first.Reads as reads
-use Rattle.writing.proofs.write_first.Lts as lts
-use Rattle.spans.proofs.begins.Reads as begins_reads
-use Rattle.split.proofs.held_before.Reads as held_before_reads
-use Rattle.split.proofs.piece.Reads as piece_reads
-use Rattle.writing.proofs.write_closed.Reads as write_closed_reads
 use Rattle.writing.proofs.write_first.Goals as goal
 
 pub begins-requires : goal.begins-requires

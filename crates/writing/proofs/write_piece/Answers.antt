@@ -1,10 +1,4 @@
 use Rattle.writing.proofs.Writing.{write_none, write_first, write_rest, write_wrote}
-use Rattle.writing.proofs.write_piece.Reads as reads
-use Rattle.writing.proofs.write_piece.Lts as lts
-use Rattle.split.proofs.length_of.Reads as length_of_reads
-use Rattle.writing.proofs.write_first.Reads as write_first_reads
-use Rattle.writing.proofs.write_rest.Reads as write_rest_reads
-use Rattle.words.proofs.get32.Reads as get32_reads
 use Rattle.writing.proofs.write_piece.Goals as goal
 
 pub returns-then-e-length_of : goal.returns-then-e-length_of

@@ -1,10 +1,5 @@
-use Prim.Native.Nat.{◌-◌}
 use Rattle.writing.proofs.Writing.{writing_start, writing_pre, writing_turn, writing_skip, writing_end}
 use native.Mathlib.Omega.{arith}
-use Rattle.writing.proofs.write_spans.Reads as reads
-use Rattle.writing.proofs.write_spans.Lts as lts
-use Rattle.writing.proofs.write_piece.Reads as write_piece_reads
-use Rattle.words.proofs.get32.Reads as get32_reads
 use Rattle.writing.proofs.write_spans.Goals as goal
 
 pub loop-i-init : goal.loop-i-init

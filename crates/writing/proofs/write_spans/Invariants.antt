@@ -1,9 +1,5 @@
 use Prim.Native.Nat.{◌-◌}
 use Rattle.writing.proofs.Writing.{WritingTo}
-use Rattle.writing.proofs.write_spans.Reads as reads
-use Rattle.writing.proofs.write_spans.Lts as lts
-use Rattle.writing.proofs.write_piece.Reads as write_piece_reads
-use Rattle.words.proofs.get32.Reads as get32_reads
 use Rattle.writing.proofs.write_spans.Given as goal
 
 abbrev pub invariant-loop-i : goal.invariant-loop-i
