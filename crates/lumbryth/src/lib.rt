@@ -34,13 +34,7 @@ pub fn lumbryth_unpack(wire: &[u8], out: &mut [u8], values: &mut [u64]) -> u32
 }
 
 // Writes a frame to the front of out. Value: the wire's length.
-pub fn lumbryth_pack(
-    kind: u8,
-    seq: u8,
-    payload: &[u8],
-    out: &mut [u8],
-    values: &mut [u64],
-) -> u32
+pub fn lumbryth_pack(kind: u8, seq: u8, payload: &[u8], out: &mut [u8], values: &mut [u64]) -> u32
     ensures { Calls (pack_of kind seq payload.now) out.old out.new values.old result values.new }
 {
     pack_told(kind, seq, payload, out, values)
@@ -68,12 +62,7 @@ pub fn lumbryth_is_command_name(name: &[u8]) -> u32
 }
 
 // Writes the plan of a list of spans, but for the excluded commands, to the front of out. Values: fixtures, bytes.
-pub fn lumbryth_plan(
-    spans: &[u8],
-    excluded: &[u8],
-    out: &mut [u8],
-    values: &mut [u64],
-) -> u32
+pub fn lumbryth_plan(spans: &[u8], excluded: &[u8], out: &mut [u8], values: &mut [u64]) -> u32
     ensures { Calls (plan_of spans.now excluded.now) out.old out.new values.old result values.new }
 {
     plan_told(spans, excluded, out, values)
@@ -154,24 +143,14 @@ pub fn lumbryth_records_with(
 // 5. Values, for each sign how many and at which byte the record starts that shows the first, 0 if none does: records stored
 // short, packets that the recorder dropped, ACL packets skipped because data is not there, records of zeros, continuations
 // with nothing open, partial PDUs given up because another starts, PDUs open at the end.
-pub fn lumbryth_gaps(
-    file: &[u8],
-    work: &mut [u8],
-    tolerant: u32,
-    values: &mut [u64],
-) -> u32
+pub fn lumbryth_gaps(file: &[u8], work: &mut [u8], tolerant: u32, values: &mut [u64]) -> u32
     ensures { GapsCalls Btsnoop file.now work.old (tail_number tolerant) values.old result work.new values.new }
 {
     gaps_told(file, work, tolerant, values)
 }
 
 // The same by a list of options, of which the tail rule and the container count.
-pub fn lumbryth_gaps_with(
-    file: &[u8],
-    work: &mut [u8],
-    options: &[u64],
-    values: &mut [u64],
-) -> u32
+pub fn lumbryth_gaps_with(file: &[u8], work: &mut [u8], options: &[u64], values: &mut [u64]) -> u32
     ensures { GapsCalls (container_in options.now) file.now work.old (tail_in options.now) values.old result work.new values.new }
 {
     gaps_with(file, work, options, values)

@@ -1,7 +1,4 @@
 use Rattle.capture.proofs.CallLaws.{told_none, told_short, told_spans}
-use Rattle.capture.proofs.answer_of.Reads as reads
-use Rattle.capture.proofs.answer_of.Lts as lts
-use Rattle.capture.proofs.wrong_on.Reads as wrong_on_reads
 use Rattle.capture.proofs.answer_of.Goals as goal
 
 pub returns-in-NoStream : goal.returns-in-NoStream

@@ -1,9 +1,4 @@
 use Rattle.capture.proofs.CallLaws.{import_needs, import_meets, import_refused}
-use Rattle.capture.proofs.import_found.Reads as reads
-use Rattle.capture.proofs.import_found.Lts as lts
-use Rattle.capture.proofs.import_packets.Reads as import_packets_reads
-use Rattle.capture.proofs.refused.Reads as refused_reads
-use Rattle.opening.proofs.open_trace.Reads as open_trace_reads
 use Rattle.capture.proofs.import_found.Goals as goal
 
 pub import_packets-requires : goal.import_packets-requires

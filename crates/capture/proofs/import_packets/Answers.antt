@@ -1,13 +1,6 @@
 use Rattle.channels.proofs.Passing.{reassembled_own}
 use Rattle.capture.proofs.CallLaws.{packets_read}
 use Rattle.capture.proofs.PassLaws.{reassemble_needs, pieces_need, spans_need}
-use Rattle.capture.proofs.import_packets.Reads as reads
-use Rattle.capture.proofs.import_packets.Lts as lts
-use Rattle.capture.proofs.answer_of.Reads as answer_of_reads
-use Rattle.channels.proofs.read_channels.Reads as read_channels_reads
-use Rattle.l2cap.proofs.reassemble.Reads as reassemble_reads
-use Rattle.gathering.proofs.read_pieces.Reads as read_pieces_reads
-use Rattle.streams.proofs.list_spans.Reads as list_spans_reads
 use Rattle.capture.proofs.import_packets.Goals as goal
 
 pub reassemble-t-requires : goal.reassemble-t-requires

@@ -1,8 +1,4 @@
 use Rattle.gaps.proofs.Finding.{find_packets, find_found, find_refused}
-use Rattle.gaps.proofs.find_gaps.Reads as reads
-use Rattle.gaps.proofs.find_gaps.Lts as lts
-use Rattle.gaps.proofs.find_signs.Reads as find_signs_reads
-use Rattle.opening.proofs.open_trace.Reads as open_trace_reads
 use Rattle.gaps.proofs.find_gaps.Goals as goal
 
 pub find_signs-requires : goal.find_signs-requires

@@ -1,9 +1,4 @@
 use Rattle.gaps.proofs.Finding.{find_readable, find_followed, find_all}
-use Rattle.gaps.proofs.find_signs.Reads as reads
-use Rattle.gaps.proofs.find_signs.Lts as lts
-use Rattle.following.proofs.follow_packets.Reads as follow_packets_reads
-use Rattle.leftover.proofs.left_open.Reads as left_open_reads
-use Rattle.recorded.proofs.record_signs.Reads as record_signs_reads
 use Rattle.gaps.proofs.find_signs.Goals as goal
 
 pub record_signs-recorded-requires : goal.record_signs-recorded-requires

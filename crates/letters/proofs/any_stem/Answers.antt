@@ -1,4 +1,3 @@
-use Prim.Native.Nat.{◌-◌}
 use Rattle.letters.proofs.Stems.{trying_start, trying_yes, trying_turn, trying_end}
 use Rattle.letters.proofs.any_stem.Goals as goal
 

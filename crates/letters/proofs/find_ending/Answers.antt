@@ -1,4 +1,3 @@
-use Prim.Native.Nat.{◌-◌}
 use Rattle.letters.proofs.Stems.{ending_start, ending_found, ending_turn, ending_none}
 use Rattle.letters.proofs.find_ending.Goals as goal
 

@@ -1,4 +1,3 @@
-use Prim.Native.Nat.{◌-◌}
 use Rattle.letters.proofs.Stems.{pair_reach, pairing_start, pairing_found, pairing_other, pairing_end}
 use Rattle.letters.proofs.has_pair.Goals as goal
 

@@ -1,10 +1,5 @@
 use Rattle.streams.proofs.Listing.{lists_none, lists_short, lists_pre, lists_all}
 use native.Mathlib.Omega.{arith}
-use Rattle.streams.proofs.list_linked.Reads as reads
-use Rattle.streams.proofs.list_linked.Lts as lts
-use Rattle.writing.proofs.write_spans.Reads as write_spans_reads
-use Rattle.streams.proofs.choose_dlci.Reads as choose_dlci_reads
-use Rattle.streams.proofs.plan.Reads as plan_reads
 use Rattle.streams.proofs.list_linked.Goals as goal
 
 pub returns-then-out-s : goal.returns-then-out-s

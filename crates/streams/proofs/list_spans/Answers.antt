@@ -1,10 +1,5 @@
 use Rattle.streams.proofs.Listing.{link_room, link_ready, link_lists}
 use native.Mathlib.Omega.{arith}
-use Rattle.streams.proofs.list_spans.Reads as reads
-use Rattle.streams.proofs.list_spans.Lts as lts
-use Rattle.split.proofs.link_pieces.Reads as link_pieces_reads
-use Rattle.streams.proofs.list_linked.Reads as list_linked_reads
-use Rattle.streams.proofs.plan.Reads as plan_reads
 use Rattle.streams.proofs.list_spans.Goals as goal
 
 pub plan-p-requires : goal.plan-p-requires

@@ -1,7 +1,5 @@
 use lib.Seq.{set_out}
 use mathlib.Core.Path.{sym}
-use Rattle.streams.proofs.mark.Reads as reads
-use Rattle.streams.proofs.mark.Lts as lts
 use Rattle.streams.proofs.mark.Goals as goal
 
 pub returns-else-k-tried : goal.returns-else-k-tried

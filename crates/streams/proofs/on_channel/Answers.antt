@@ -1,7 +1,5 @@
 use Rattle.streams.specs.Streams.{channel_of}
 use Rattle.outcome.specs.Import.{on_channel}
-use Rattle.streams.proofs.on_channel.Reads as reads
-use Rattle.streams.proofs.on_channel.Lts as lts
 use Rattle.streams.proofs.on_channel.Goals as goal
 
 pub returns-in-Any : goal.returns-in-Any

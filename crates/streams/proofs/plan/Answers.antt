@@ -1,7 +1,5 @@
 use Rattle.streams.specs.Streams.{plan_of}
 use mathlib.Core.Path.{refl}
-use Rattle.streams.proofs.plan.Reads as reads
-use Rattle.streams.proofs.plan.Lts as lts
 use Rattle.streams.proofs.plan.Goals as goal
 
 pub returns : goal.returns

@@ -1,7 +1,5 @@
 use Rattle.streams.specs.Streams.{stream_summed}
 use mathlib.Core.Path.{refl}
-use Rattle.streams.proofs.stream_of.Reads as reads
-use Rattle.streams.proofs.stream_of.Lts as lts
 use Rattle.streams.proofs.stream_of.Goals as goal
 
 pub returns : goal.returns

@@ -1,6 +1,4 @@
 use Rattle.streams.proofs.Choosing.{get_d_out}
-use Rattle.streams.proofs.was_tried.Reads as reads
-use Rattle.streams.proofs.was_tried.Lts as lts
 use Rattle.streams.proofs.was_tried.Goals as goal
 
 pub returns : goal.returns

@@ -1,5 +1,5 @@
 use Rattle.std.proofs.Common.{◌<◌, length, add-one, arith}
-use Rattle.stretches.specs.Filled.{stretch_at, filled}
+use Rattle.stretches.specs.Filled.{stretch_at}
 use Rattle.stretches.proofs.Filling.{filled_more}
 use Rattle.stretches.proofs.fill.Goals as goal
 

@@ -1,7 +1,4 @@
 use Rattle.stretches.proofs.Listing.{open_other, open_later, open_first}
-use Rattle.stretches.proofs.is_open.Reads as reads
-use Rattle.stretches.proofs.is_open.Lts as lts
-use Rattle.words.proofs.get32.Reads as get32_reads
 use Rattle.stretches.proofs.is_open.Goals as goal
 
 pub returns-then-get32-p : goal.returns-then-get32-p

@@ -1,8 +1,4 @@
-use Prim.Native.Nat.{◌-◌}
 use Rattle.stretches.proofs.Listing.{listing_start, listing_pre, listing_turn, listing_end}
-use Rattle.stretches.proofs.list_spread.Reads as reads
-use Rattle.stretches.proofs.list_spread.Lts as lts
-use Rattle.stretches.proofs.add_open.Reads as add_open_reads
 use Rattle.stretches.proofs.list_spread.Goals as goal
 
 pub loop-i-init : goal.loop-i-init

@@ -1,8 +1,5 @@
 use Prim.Native.Nat.{◌-◌}
 use Rattle.stretches.proofs.Listing.{Listing}
-use Rattle.stretches.proofs.list_spread.Reads as reads
-use Rattle.stretches.proofs.list_spread.Lts as lts
-use Rattle.stretches.proofs.add_open.Reads as add_open_reads
 use Rattle.stretches.proofs.list_spread.Given as goal
 
 abbrev pub invariant-loop-i : goal.invariant-loop-i

@@ -1,7 +1,4 @@
 use Rattle.stretches.proofs.Listing.{put_is}
-use Rattle.stretches.proofs.put_stretch.Reads as reads
-use Rattle.stretches.proofs.put_stretch.Lts as lts
-use Rattle.words.proofs.put32.Reads as put32_reads
 use Rattle.stretches.proofs.put_stretch.Goals as goal
 
 pub returns : goal.returns

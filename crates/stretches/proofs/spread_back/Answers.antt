@@ -1,7 +1,4 @@
 use Rattle.stretches.proofs.Spreading.{spreading_start, spreading_pre, spreading_turn, spreading_end}
-use Rattle.stretches.proofs.spread_back.Reads as reads
-use Rattle.stretches.proofs.spread_back.Lts as lts
-use Rattle.stretches.proofs.hand_back.Reads as hand_back_reads
 use Rattle.stretches.proofs.spread_back.Goals as goal
 
 pub loop-i-init : goal.loop-i-init

@@ -1,7 +1,4 @@
 use Rattle.stretches.proofs.Spreading.{Spreading}
-use Rattle.stretches.proofs.spread_back.Reads as reads
-use Rattle.stretches.proofs.spread_back.Lts as lts
-use Rattle.stretches.proofs.hand_back.Reads as hand_back_reads
 use Rattle.stretches.proofs.spread_back.Given as goal
 
 abbrev pub invariant-loop-i : goal.invariant-loop-i

@@ -1,7 +1,4 @@
 use Rattle.stretches.proofs.Filling.{stretch_there, stretch_none}
-use Rattle.stretches.proofs.stretch_at.Reads as reads
-use Rattle.stretches.proofs.stretch_at.Lts as lts
-use Rattle.words.proofs.get32.Reads as get32_reads
 use Rattle.stretches.proofs.stretch_at.Goals as goal
 
 pub returns-then-i-w : goal.returns-then-i-w
