@@ -3,10 +3,17 @@
 //
 // data/GROUP.bin is what `compare sample GROUP FILE` writes: the answers of the source that was ported to the calls of a
 // group. compare/README.md says how to make it again, and how the file is laid out.
+#![tactic(auto)]
 
-use libc::STDOUT_FILENO;
-use samples::part;
-use search::find_byte;
+ghost use Rattle.std.specs.Prelude.{◌≤◌, length, OnOk};
+ghost use Rattle.std.specs.Io.KnownBytes.{Appends};
+ghost use Rattle.replay.specs.Lines.{sample_line};
+
+use reading::read_full;
+use std::fs::File;
+use std::io::{Eprint, Print, Write};
+use std::rt::Files;
+use std::{env, io};
 
 #[derive(Clone, Copy)]
 struct Totals {
@@ -15,7 +22,10 @@ struct Totals {
 }
 
 // A case that is cut short is a difference.
-fn replay(s: &[u8], work: &mut [u8], space: &mut [u8]) -> Totals {
+fn replay(s: &[u8], work: &mut [u8], space: &mut [u8]) -> Totals
+    ensures cases { result.cases ≤ length s.now }
+    ensures differences { result.differences ≤ result.cases }
+{
     let mut cases: u64 = 0;
     let mut differences: u64 = 0;
     let mut at: usize = 0;
@@ -28,49 +38,46 @@ fn replay(s: &[u8], work: &mut [u8], space: &mut [u8]) -> Totals {
     Totals { cases, differences }
 }
 
-// A number, and the words after it.
-fn print_count(n: u64, words: &[u8]) {
-    io::print_decimal(STDOUT_FILENO, n);
-    io::write_all(STDOUT_FILENO, words);
+// A name up to its first dot.
+fn stem(name: &str) -> &str {
+    match name.split_once('.') {
+        Some((stem, _)) => stem,
+        None => name,
+    }
 }
 
 // The line of a sample: its name up to the dot, how many cases were replayed, and how many differ.
-fn print(name: &[u8], t: Totals) {
-    let stem = find_byte(name, 0, b'.');
-    io::write_all(STDOUT_FILENO, part(name, 0, stem));
-    io::write_all(STDOUT_FILENO, b": ");
-    print_count(t.cases, b" cases replayed, ");
-    print_count(t.differences, b" differences\n");
+fn print<W: Write>(out: &mut W, stem: &str, t: Totals) -> io::Result<()>
+    ensures { OnOk result (Appends (W.contents out.old) (W.contents out.new) (sample_line stem.now t.cases t.differences)) }
+{
+    writeln!(
+        out,
+        "{stem}: {} cases replayed, {} differences",
+        t.cases, t.differences
+    )
 }
 
 // Replays an open file, and prints its line under a name.
-fn replay_open(name: &[u8], fd: i32) {
+fn replay_open<R: Files + Print>(rt: &R, name: &str, mut open: R::File) -> io::Result<()> {
     let mut file = samples::room();
-    let got = io::read_full(fd, &mut file);
-    libc::close(fd);
-    let mut work = io::large_buffer();
-    let mut space = io::large_buffer();
+    let got = read_full(&mut open, &mut file)?;
+    let mut work = [0u8; 65536];
+    let mut space = [0u8; 65536];
     let t = replay(&file[..got], &mut work, &mut space);
-    print(name, t);
+    print(&mut io::writer(rt), stem(name), t)
 }
 
-// Replays the file that an argument names. A file that is not there has no line.
-fn replay_file(i: usize) {
-    let mut name = io::buffer();
-    let n = os::arg(i, &mut name);
-    let fd = os::open_read(&name[..n]);
-    if fd < 0 {
-        os::fail(&name[..n]);
-        return;
+// Replays the file of a name. One that cannot be opened has no line, but a message on standard error.
+fn replay_file<R: Files + Print + Eprint>(rt: &R, name: &str) -> io::Result<()> {
+    match File::open(rt, name) {
+        Ok(open) => replay_open(rt, name, open),
+        Err(e) => eprintln!(rt; "{name}: {e}"),
     }
-    replay_open(&name[..n], fd);
 }
 
-fn main() {
-    let count = os::arg_count();
-    let mut i: usize = 1;
-    while i < count {
-        replay_file(i);
-        i += 1;
+fn main(rt: HostRuntime) -> io::Result<()> {
+    for name in env::args(&rt)?.skip(1) {
+        replay_file(&rt, name.as_str())?;
     }
+    Ok(())
 }

@@ -1,10 +1,8 @@
 -- What lies within a list: an item that is read there, and the bytes that a call says it wrote.
-use Prim.Native.Nat.{ℕ, ◌+◌, ◌-◌, ◌<◌, ◌≤◌}
-use mathlib.Core.Path.{◌≡◌, sym, ◌∙◌}
-use mathlib.Core.List.{List, [], ◌∷◌, ◌++◌}
-use native.Mathlib.Omega.{arith}
+use Rattle.std.proofs.Common.{ℕ, ◌+◌, ◌-◌, ◌<◌, ◌≤◌, ◌≡◌, refl, sym, List, [], ◌∷◌, ◌++◌, length, take, drop, arith}
 use lib.Dec.{leb}
-use lib.ListN.{length, drop, length-append}
+use lib.ListN.{length-append}
+use lib.Seq.{take-append_seam}
 use borrow.Author.Tests.{leb-true}
 use Rattle.laws.proofs.Choice.{split_b}
 use Rattle.laws.specs.Answers.{accepted, refused, Outcome, gives, refuses, answer, output, Meets}
@@ -12,18 +10,16 @@ use Rattle.laws.specs.Stores.{filled}
 use Rattle.items.specs.Items.{Listed, well_formed, ill_formed, Span, spans_in, names_in, item_at, end_at}
 use Rattle.items.specs.Walks.{step_at}
 use Rattle.items.proofs.Walks.{end_past}
-use Rattle.items.specs.declared.Step.{Step}
 use Rattle.items.specs.declared.Step.TheVariants.{Whole, Passes, End}
+use Rattle.fixtures.specs.Plan.{plans, plan_of}
+use Rattle.fixtures.specs.Plan as plan
+use Rattle.fixtures.specs.Told.{told_planned}
+use Rattle.fixtures.specs.declared.Planned.TheVariants.{Wrote}
 use Rattle.container.specs.Container as container
 use Rattle.trace.specs.Formats.{container_of}
 use Rattle.trace.specs.declared.Container.{Container}
 use Rattle.outcome.specs.Import.{Found, found, missing, Options, fits, work_suffices, outcome, imported}
 use Rattle.outcome.specs.Import as import
-use Rattle.fixtures.specs.Plan.{plans, plan_of}
-use Rattle.fixtures.specs.Plan as plan
-use Rattle.fixtures.specs.Told.{told_planned}
-use Rattle.fixtures.specs.declared.Planned.{Planned}
-use Rattle.fixtures.specs.declared.Planned.TheVariants.{Wrote}
 use Rattle.capture.specs.Calls.{Imports}
 use Rattle.capture.specs.declared.Summary.{Summary}
 use Rattle.capture.specs.declared.Imported.{Imported}
@@ -37,21 +33,21 @@ record Within (l : List ℕ) (at start end : ℕ) : Type 0 where
   order : start ≤ end
   last : end ≤ length l
 
-module _ (l : List ℕ) (at : ℕ) (r : Step) (p : r ≡ step_at l at) (kind start end : ℕ) (e : r ≡ Whole kind start end) where
+module _ (l : List ℕ) (at kind start end : ℕ) (p : Whole kind start end ≡ step_at l at) where
   whole : Within l at start end
   unfolding step_at
   whole =
       split_b (leb (length l) at)
-      (λ h. let q : End ≡ Whole kind start end = rw h at (sym p ∙ e) in let z : ◌≡◌ {A = ℕ} 0 1 = cc in absurd (omega arith))
+      (λ h. let q : End ≡ Whole kind start end = rw h at (sym p) in let z : ◌≡◌ {A = ℕ} 0 1 = cc in absurd (omega arith))
       (λ h. split_b (leb (end_at l at) (length l))
       (λ g.
-      let q : Whole (item_at l at).kind (at + 6) (end_at l at) ≡ Whole kind start end = rw (h, g) at (sym p ∙ e) in
+      let q : Whole (item_at l at).kind (at + 6) (end_at l at) ≡ Whole kind start end = rw (h, g) at (sym p) in
       let a : at + 6 ≡ start = cc in
       let b : end_at l at ≡ end = cc in
       let o = end_past l at in
       let m = leb-true (end_at l at) (length l) g in
       record { past = omega arith; order = omega arith; last = omega arith })
-      (λ g. let q : Passes ≡ Whole kind start end = rw (h, g) at (sym p ∙ e) in let z : ◌≡◌ {A = ℕ} 0 1 = cc in absurd (omega arith)))
+      (λ g. let q : Passes ≡ Whole kind start end = rw (h, g) at (sym p) in let z : ◌≡◌ {A = ℕ} 0 1 = cc in absurd (omega arith)))
 
   pub whole_order : start ≤ end
   whole_order = whole.order
@@ -64,32 +60,33 @@ module _ (l : List ℕ) (at : ℕ) (r : Step) (p : r ≡ step_at l at) (kind sta
 
 -- ---- the bytes that a call wrote
 
-not_accepted : {G : Type 0} {n : ℕ} {us vs : List ℕ} → accepted vs ≡ refused n us → G
+pub not_accepted : {G : Type 0} {n : ℕ} {us vs : List ℕ} → accepted vs ≡ refused n us → G
 not_accepted e = let z : ◌≡◌ {A = ℕ} 0 1 = cc in absurd (omega arith)
 
-not_given : {G : Type 0} {n : ℕ} {us vs w : List ℕ} → refuses n us ≡ gives vs w → G
+pub not_given : {G : Type 0} {n : ℕ} {us vs w : List ℕ} → refuses n us ≡ gives vs w → G
 not_given e = let z : ◌≡◌ {A = ℕ} 0 1 = cc in absurd (omega arith)
 
 -- a call that accepts was given bytes to write, and its output has room for them
-record Given (o : Outcome) (vs out : List ℕ) : Type 0 where
-  bytes : List ℕ
-  gift : o ≡ gives vs bytes
-  room : length bytes ≤ length out
+pub record Given (o : Outcome) (vs out : List ℕ) : Type 0 where
+  pub bytes : List ℕ
+  pub gift : o ≡ gives vs bytes
+  pub room : length bytes ≤ length out
+  pub front : take (length bytes) out ≡ bytes
 
-accepts : (o : Outcome) (d vs e : List ℕ) → Meets o d (accepted vs) e → Given o vs e
+pub accepts : (o : Outcome) (d vs e : List ℕ) → Meets o d (accepted vs) e → Given o vs e
 unfolding answer output filled
 accepts (gives us w) d vs e m =
     split_b (leb (length w) (length d))
     (λ h.
     let q : accepted vs ≡ accepted us = rw h at m.answers in
     let a : e ≡ w ++ drop (length w) d = rw h at m.writes in
-    record { bytes = w; gift = cc; room = rw a (omega (arith, length-append w (drop (length w) d))) })
+    record { bytes = w; gift = cc; room = rw a (omega (arith, length-append w (drop (length w) d))); front = rw a (take-append_seam w (drop (length w) d)) })
     (λ h. not_accepted (rw h at m.answers))
 accepts (refuses n us) d vs e m = not_accepted m.answers
 
 -- their number is among the values that import answers
 
-abbrev values_of : Summary → List ℕ
+abbrev pub values_of : Summary → List ℕ
 values_of s = s.dlci ∷ s.frames ∷ s.unfinished ∷ s.tail ∷ s.written ∷ s.wrong ∷ s.in_spans ∷ s.dropped ∷ s.cleared ∷ s.left ∷ []
 
 found_written : (x : Found) (s : Summary) (w : List ℕ) → import.given x ≡ gives (values_of s) w → s.written ≡ length w
@@ -97,7 +94,7 @@ unfolding import.given
 found_written (found y) s w e = cc
 found_written (missing m vs) s w e = not_given e
 
-imported_written : (C : container.Container) (f : List ℕ) (work : ℕ) (o : Options) (s : Summary) (w : List ℕ) → imported C f work o ≡ gives (values_of s) w → s.written ≡ length w
+pub imported_written : (C : container.Container) (f : List ℕ) (work : ℕ) (o : Options) (s : Summary) (w : List ℕ) → imported C f work o ≡ gives (values_of s) w → s.written ≡ length w
 unfolding imported
 imported_written C f work o s w e =
     split_b (fits f)
@@ -114,20 +111,20 @@ import_lies b f work o out r work' out' i = record {
       omega (arith, g.room));
 }
 
-pub lies_within : (r : Imported) (out : List ℕ) → Lies r out → (s : Summary) → r ≡ Spans s → s.written ≤ length out
-lies_within r out l = l.within
+pub lies_within : (s : Summary) (out : List ℕ) → Lies (Spans s) out → s.written ≤ length out
+lies_within s out l = l.within s refl
 
 -- and the last that planning answers
 
-plans_last : (ss : Listed Span) (ns : Listed (List ℕ)) (n k : ℕ) (w : List ℕ) → plans ss ns ≡ gives (n ∷ k ∷ []) w → k ≡ length w
+pub plans_last : (ss : Listed Span) (ns : Listed (List ℕ)) (n k : ℕ) (w : List ℕ) → plans ss ns ≡ gives (n ∷ k ∷ []) w → k ≡ length w
 unfolding plan.given
 plans_last (ill_formed m) ns n k w e = not_given e
 plans_last (well_formed ss) (ill_formed m) n k w e = not_given e
 plans_last (well_formed ss) (well_formed ns) n k w e = cc
 
-pub plan_within : (spans excluded out : List ℕ) (r : Planned) (out' : List ℕ) → Meets (plan_of spans excluded) out (told_planned r) out' → (n k : ℕ) → r ≡ Wrote n k → k ≤ length out'
+pub plan_within : (spans excluded out out' : List ℕ) (n k : ℕ) → Meets (plan_of spans excluded) out (told_planned (Wrote n k)) out' → k ≤ length out'
 unfolding plan_of
-plan_within spans excluded out r out' p n k e =
-    let g = accepts (plan_of spans excluded) out (n ∷ k ∷ []) out' (rw e at p) in
+plan_within spans excluded out out' n k p =
+    let g = accepts (plan_of spans excluded) out (n ∷ k ∷ []) out' p in
     let q = plans_last (spans_in spans) (names_in excluded) n k g.bytes g.gift in
     omega (arith, g.room)

@@ -1,1 +1,2 @@
 pub mod Lies
+pub mod Lines

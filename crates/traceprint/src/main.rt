@@ -1,87 +1,109 @@
 // Prints a trace: reads standard input, its first 4,096 bytes and no more, and prints the DLCI, frames and unfinished that
 // import gives, then the names of the fixtures, one to a line; or the number of a refusal, with the values it carries.
+#![tactic(auto)]
+
+ghost use Rattle.std.specs.Prelude.{[], ◌∷◌, OnOk};
+ghost use Rattle.std.proofs.Math.Option.{none};
+ghost use Rattle.laws.specs.Answers.{Meets};
+ghost use Rattle.items.specs.Walks.{Walks, items_from};
+ghost use Rattle.trace.specs.Formats.{container_of};
+ghost use Rattle.trace.specs.declared.Container.TheVariants.{Btsnoop};
+ghost use Rattle.outcome.specs.Import.{strict, by_source, imported};
+ghost use Rattle.std.specs.Io.KnownBytes.{Appends};
+ghost use Rattle.trace.specs.Headers.{told_refusal};
+ghost use Rattle.capture.specs.Calls.{told_imported};
 ghost use Rattle.traceprint.specs.Lies.{Lies};
+ghost use Rattle.traceprint.specs.Lines.{any_item, counts_line, name_lines, refusal_line, refusal_of, spans_lines, trace_lines};
 
 use capture::{Imported, Options, import};
 use fixtures::{Planned, plan};
 use items::{Step, item_at};
-use libc::{STDIN_FILENO, STDOUT_FILENO};
 use opening::Tail;
+use reading::read_full;
+use std::io;
+use std::io::Write;
 use streams::Channel;
 use trace::{Container, Refusal};
 
 // ---- text
 
-fn print(text: &[u8]) {
-    io::write_all(STDOUT_FILENO, text);
-}
-
-// A word and the number after it.
-fn print_count(word: &[u8], n: usize) {
-    print(word);
-    io::print_decimal(STDOUT_FILENO, n as u64);
-}
-
 // A refusal that carries nothing.
-fn refuse(number: usize) {
-    print_count(b"refused ", number);
-    print(b"\n");
+fn refuse<W: Write>(out: &mut W, number: usize) -> io::Result<()>
+    ensures { OnOk result (Appends (W.contents out.old) (W.contents out.new) (refusal_line number [])) }
+{
+    writeln!(out, "refused {number}")
 }
 
 // A refusal that carries a value.
-fn refuse_with(number: usize, value: usize) {
-    print_count(b"refused ", number);
-    print_count(b" ", value);
-    print(b"\n");
+fn refuse_with<W: Write>(out: &mut W, number: usize, value: usize) -> io::Result<()>
+    ensures { OnOk result (Appends (W.contents out.old) (W.contents out.new) (refusal_line number (value ∷ []))) }
+{
+    writeln!(out, "refused {number} {value}")
 }
 
 // The first line of a trace.
-fn print_counts(dlci: usize, frames: usize, unfinished: usize) {
-    print_count(b"dlci ", dlci);
-    print_count(b" frames ", frames);
-    print_count(b" unfinished ", unfinished);
-    print(b"\n");
+fn print_counts<W: Write>(
+    out: &mut W,
+    dlci: usize,
+    frames: usize,
+    unfinished: usize,
+) -> io::Result<()>
+    ensures { OnOk result (Appends (W.contents out.old) (W.contents out.new) (counts_line dlci frames unfinished)) }
+{
+    writeln!(out, "dlci {dlci} frames {frames} unfinished {unfinished}")
 }
 
 // The names in a list of fixtures, one to a line; other items are passed over.
-fn print_names(list: &[u8]) {
+fn print_names<W: Write>(out: &mut W, list: &[u8]) -> io::Result<()>
+    ensures { Walks any_item list.now 0 → OnOk result (Appends (W.contents out.old) (W.contents out.new) (name_lines (items_from any_item list.now 0))) }
+{
     let mut at = 0;
     while at < list.len() {
         let s = item_at(list, at);
         let Step::Whole(kind, start, end) = s else {
-            return;
+            return Ok(());
         };
         if kind == 3 {
-            print(&list[start..end]);
-            print(b"\n");
+            out.write_all(&list[start..end])?;
+            out.write_all(b"\n")?;
         }
         at = end;
     }
+    Ok(())
 }
 
 // ---- the trace
 
 // The counts of a list of spans, and the names of its fixtures with nothing excluded. 65,536 bytes hold the plan: in a
 // trace of 4,096 at most 455 spans unpack, of at least 9 bytes each, and a fixture takes at most 130 beside its wire.
-fn print_spans(spans: &[u8], dlci: usize, frames: usize, unfinished: usize) {
-    let mut fixtures = io::large_buffer();
+fn print_spans<W: Write>(
+    out: &mut W,
+    spans: &[u8],
+    dlci: usize,
+    frames: usize,
+    unfinished: usize,
+) -> io::Result<()>
+    ensures { OnOk result (Appends (W.contents out.old) (W.contents out.new) (spans_lines (counts_line dlci frames unfinished) spans.now)) }
+{
+    let mut fixtures = [0u8; 65536];
     let p = plan(spans, b"", &mut fixtures);
     match p {
         Planned::Wrote(_, bytes) => {
-            print_counts(dlci, frames, unfinished);
-            print_names(&fixtures[..bytes]);
+            print_counts(out, dlci, frames, unfinished)?;
+            print_names(out, &fixtures[..bytes])
         }
-        Planned::SpansIll(offset) => refuse_with(19, offset),
-        Planned::NamesIll(offset) => refuse_with(20, offset),
-        Planned::OutShort(needed) => refuse_with(7, needed),
+        Planned::SpansIll(offset) => refuse_with(out, 19, offset),
+        Planned::NamesIll(offset) => refuse_with(out, 20, offset),
+        Planned::OutShort(needed) => refuse_with(out, 7, needed),
     }
 }
 
 // Import of a btsnoop file, strictly and on any channel, FCS unchecked. 65,536 bytes of work are more than the 8 times 4,096 that it asks.
 fn import_any(file: &[u8], spans: &mut [u8]) -> Imported
-    ensures { Lies result spans.new }
+    ensures lies { Lies result spans.new }
+    ensures meets { Meets (imported (container_of Btsnoop) file.now 65536 (by_source none strict)) spans.old (told_imported result) spans.new }
 {
-    let mut work = io::large_buffer();
+    let mut work = [0u8; 65536];
     let options = Options {
         container: Container::Btsnoop,
         channel: Channel::Any,
@@ -92,42 +114,55 @@ fn import_any(file: &[u8], spans: &mut [u8]) -> Imported
 }
 
 // Why the trace is not read.
-fn print_unread(x: Refusal) {
+fn print_unread<W: Write>(out: &mut W, x: Refusal) -> io::Result<()>
+    ensures { OnOk result (Appends (W.contents out.old) (W.contents out.new) (refusal_of (told_refusal x))) }
+{
     match x {
-        Refusal::FileLong => refuse(1),
-        Refusal::WorkShort => refuse(2),
-        Refusal::NotBtsnoop => refuse(3),
-        Refusal::Datalink(n) => refuse_with(4, n as usize),
-        Refusal::NotPcap => refuse(21),
-        Refusal::LinkType(n) => refuse_with(22, n as usize),
-        Refusal::Truncated(offset) => refuse_with(5, offset),
+        Refusal::FileLong => refuse(out, 1),
+        Refusal::WorkShort => refuse(out, 2),
+        Refusal::NotBtsnoop => refuse(out, 3),
+        Refusal::Datalink(n) => refuse_with(out, 4, n as usize),
+        Refusal::NotPcap => refuse(out, 21),
+        Refusal::LinkType(n) => refuse_with(out, 22, n as usize),
+        Refusal::Truncated(offset) => refuse_with(out, 5, offset),
     }
 }
 
 // Why import gives no spans.
-fn print_refusal(a: Imported) {
+fn print_refusal<W: Write>(out: &mut W, a: Imported) -> io::Result<()>
+    ensures { OnOk result (Appends (W.contents out.old) (W.contents out.new) (refusal_of (told_imported a))) }
+{
     match a {
-        Imported::Spans(_) => {}
-        Imported::Refused(x) => print_unread(x),
-        Imported::NoStream => refuse(6),
-        Imported::OutShort(needed) => refuse_with(7, needed),
+        Imported::Spans(_) => Ok(()),
+        Imported::Refused(x) => print_unread(out, x),
+        Imported::NoStream => refuse(out, 6),
+        Imported::OutShort(needed) => refuse_with(out, 7, needed),
     }
 }
 
 // What import gives of a trace. Its list takes less than 8 times the trace.
-fn print_trace(file: &[u8]) {
-    let mut spans = io::large_buffer();
+fn print_trace<W: Write>(out: &mut W, file: &[u8]) -> io::Result<()>
+    ensures { OnOk result (Appends (W.contents out.old) (W.contents out.new) (trace_lines file.now)) }
+{
+    let mut spans = [0u8; 65536];
     let a = import_any(file, &mut spans);
     let Imported::Spans(s) = a else {
-        print_refusal(a);
-        return;
+        return print_refusal(out, a);
     };
     let bytes = s.written;
-    print_spans(&spans[..bytes], s.dlci as usize, s.frames, s.unfinished);
+    print_spans(
+        out,
+        &spans[..bytes],
+        s.dlci as usize,
+        s.frames,
+        s.unfinished,
+    )
 }
 
-fn main() {
-    let mut file = io::buffer();
-    let n = io::read_full(STDIN_FILENO, &mut file);
-    print_trace(&file[..n]);
+fn main(rt: HostRuntime) -> io::Result<()> {
+    let mut file = [0u8; 4096];
+    let mut input = rt.reader();
+    let n = read_full(&mut input, &mut file)?;
+    let mut out = io::writer(&rt);
+    print_trace(&mut out, &file[..n])
 }
