@@ -2,7 +2,7 @@
  * Lumbryth: the MDR frames that a headset and a phone exchanged, from a recorded
  * Bluetooth trace (a btsnoop or a pcap file).
  *
- * Link with target/staticlib/liblumbryth.a, which `rt staticlib lumbryth` makes
+ * Link with target/staticlib/liblumbryth.a, which `tools/library` makes
  * (x86-64 Linux). `examples/import.c` shows an import from reading the file to
  * printing the frames.
  *

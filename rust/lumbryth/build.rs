@@ -15,7 +15,7 @@ fn main() {
     println!("cargo:rerun-if-changed={}", library.display());
     if !library.is_file() {
         eprintln!("The proved library is not there: {}", library.display());
-        eprintln!("Run `rt staticlib lumbryth` in the root of the project, which proves it and takes some minutes,");
+        eprintln!("Run `tools/library` in the root of the project, which proves it and takes some minutes,");
         eprintln!("or set LUMBRYTH_LIB_DIR to the directory that has liblumbryth.a.");
         exit(1);
     }

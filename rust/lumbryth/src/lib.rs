@@ -4,7 +4,7 @@
 //! The work is done by a library whose calls are proved to do what their definitions say, and
 //! this crate makes them safe to call from Rust: it lends the memory that they need, and turns
 //! their numbers into enums and structs. It has no dependencies. The library has to be built
-//! first, by `rt staticlib lumbryth`; the build says so if it is missing.
+//! first, by `tools/library`; the build says so if it is missing.
 //!
 //! ```
 //! use lumbryth::{import, plan, Direction, TailRule};
