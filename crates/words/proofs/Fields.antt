@@ -4,7 +4,7 @@ use mathlib.Core.Path.{◌≡◌, refl, sym, ap, ◌∙◌}
 use mathlib.Core.Bool.{true, false}
 use mathlib.Core.List.{List}
 use native.Mathlib.Omega.{arith}
-use lib.ListN.{length, get_or}
+use lib.ListN.{length, get_or, drop}
 use lib.Dec.{leb}
 use borrow.Author.Tests.{le-leb, lt-leb, leb-true, leb-false, eq-eqb, ne_eqb}
 use Rattle.laws.proofs.Choice.{split_b}
@@ -46,25 +46,33 @@ field_none b i r p q =
 pub same_lengths : (a b : Key) → (length a ≡ length b → ⊥) → false ≡ eq_k a b
 same_lengths a b n = split_b (eq_k a b) (λ e. absurd (n (ap length (eq_k_true a b e)))) (λ e. sym e)
 
+module _ (a b : List ℕ) (i : ℕ) (l : length a ≡ length b) (h : i < length a) where
+  pub same_turn : get_or a i 0 ≡ get_or b i 0 → eq_k (drop i a) (drop i b) ≡ eq_k a b → eq_k (drop (i + 1) a) (drop (i + 1) b) ≡ eq_k a b
+  unfolding eq_k
+  same_turn e inv = rw (drop_step a i h, drop_step b i (omega arith), eq-eqb (get_or a i 0) (get_or b i 0) e) at inv
+
+  pub same_not : (get_or a i 0 ≡ get_or b i 0 → ⊥) → eq_k (drop i a) (drop i b) ≡ eq_k a b → false ≡ eq_k a b
+  unfolding eq_k
+  same_not e inv = rw (drop_step a i h, drop_step b i (omega arith), ne_eqb (get_or a i 0) (get_or b i 0) e) at inv
+
+pub same_end : (a b : List ℕ) (i : ℕ) → length a ≡ length b → length a ≤ i → eq_k (drop i a) (drop i b) ≡ eq_k a b → true ≡ eq_k a b
+unfolding eq_k
+same_end a b i l h inv = rw (drop_end a i h, drop_end b i (omega arith)) at inv
+
+-- the same as a record
+
 pub same_start : (a b : List ℕ) → length a ≡ length b → SameTo a b 0
 same_start a b l = record { long = l; within = omega arith; same = refl }
 
 module _ (a b : List ℕ) (i : ℕ) (s : SameTo a b i) where
-  pub same_turn : i < length a → get_or a i 0 ≡ get_or b i 0 → SameTo a b (i + 1)
-  unfolding eq_k
-  same_turn h e = record {
-    long = s.long;
-    within = omega arith;
-    same = rw (drop_step a i h, drop_step b i (omega (arith, s.long)), eq-eqb (get_or a i 0) (get_or b i 0) e) at s.same;
-  }
+  pub same_to_turn : i < length a → get_or a i 0 ≡ get_or b i 0 → SameTo a b (i + 1)
+  same_to_turn h e = record { long = s.long; within = omega arith; same = same_turn a b i s.long h e s.same }
 
-  pub same_not : i < length a → (get_or a i 0 ≡ get_or b i 0 → ⊥) → false ≡ eq_k a b
-  unfolding eq_k
-  same_not h e = rw (drop_step a i h, drop_step b i (omega (arith, s.long)), ne_eqb (get_or a i 0) (get_or b i 0) e) at s.same
+  pub same_to_not : i < length a → (get_or a i 0 ≡ get_or b i 0 → ⊥) → false ≡ eq_k a b
+  same_to_not h e = same_not a b i s.long h e s.same
 
-  pub same_end : length a ≤ i → true ≡ eq_k a b
-  unfolding eq_k
-  same_end h = rw (drop_end a i h, drop_end b i (omega (arith, s.long))) at s.same
+  pub same_to_end : length a ≤ i → true ≡ eq_k a b
+  same_to_end h = same_end a b i s.long h s.same
 
 -- ---- eight bytes at once, as numbers
 
@@ -83,10 +91,10 @@ module _ (a b : List ℕ) (bytes : (k : ℕ) → get_or a k 0 < 256) (bytes' : (
       let n2 : i + 1 + 1 ≡ i + 2 = omega arith in
       let n3 : i + 2 + 1 ≡ i + 3 = omega arith in
       let n4 : i + 3 + 1 ≡ i + 4 = omega arith in
-      let s1 : SameTo a b (i + 1) = same_turn a b i s (omega arith) (omega arith) in
-      let s2 : SameTo a b (i + 2) = rw n2 at (same_turn a b (i + 1) s1 (omega arith) (omega arith)) in
-      let s3 : SameTo a b (i + 3) = rw n3 at (same_turn a b (i + 2) s2 (omega arith) (omega arith)) in
-      rw n4 at (same_turn a b (i + 3) s3 (omega arith) (omega arith))
+      let s1 : SameTo a b (i + 1) = same_to_turn a b i s (omega arith) (omega arith) in
+      let s2 : SameTo a b (i + 2) = rw n2 at (same_to_turn a b (i + 1) s1 (omega arith) (omega arith)) in
+      let s3 : SameTo a b (i + 3) = rw n3 at (same_to_turn a b (i + 2) s2 (omega arith) (omega arith)) in
+      rw n4 at (same_to_turn a b (i + 3) s3 (omega arith) (omega arith))
 
   small : (l : List ℕ) (i : ℕ) → ((k : ℕ) → get_or l k 0 < 256) → le32 l i < 4294967296
   unfolding le32
