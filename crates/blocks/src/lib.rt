@@ -1,11 +1,11 @@
 // Some bytes at once: their sum, how many lie between two values, whether none or all do, storing them elsewhere.
 #![tactic(auto)]
 
-ghost use Rattle.std.specs.Prelude.{◌≡◌, ◌+◌, ◌≤◌, not, length};
+ghost use Rattle.std.specs.Prelude.{◌≡◌, ◌+◌, ◌≤◌, length};
 ghost use Rattle.laws.specs.Stores.{Writes};
 ghost use Rattle.mdr.specs.Sum.{checksum_of};
 ghost use Rattle.mdr.specs.Escape.{within};
-ghost use Rattle.blocks.specs.Blocks.{OneIf, Minus, Tallied, Bare, Full, Joined};
+ghost use Rattle.blocks.specs.Blocks.{Minus, Tallied, AllAre, Bare, Full};
 
 // ---- sums and counts
 
@@ -14,13 +14,6 @@ pub fn is_within(b: u8, lo: u8, hi: u8) -> bool
     ensures { result ≡ within lo hi b }
 {
     lo <= b && b <= hi
-}
-
-// 1 for a byte between the two values, else 0.
-pub fn one_within(b: u8, lo: u8, hi: u8) -> u8
-    ensures { OneIf (within lo hi b) result }
-{
-    if is_within(b, lo, hi) { 1 } else { 0 }
 }
 
 // The sum of some bytes, wrapping in eight bits, and how many of them lie between two values.
@@ -37,12 +30,9 @@ pub fn tally_few(part: &[u8], lo: u8, hi: u8) -> Totals
 {
     let mut sum: u8 = 0;
     let mut hits: u8 = 0;
-    let mut i: usize = 0;
-    while i < part.len() {
-        let b = part[i];
-        sum = std::num::wrapping_add_u8(sum, b);
-        hits += one_within(b, lo, hi);
-        i += 1;
+    for &b in part {
+        sum = sum.wrapping_add(b);
+        hits += u8::from(is_within(b, lo, hi));
     }
     Totals {
         sum,
@@ -54,68 +44,47 @@ pub fn tally_few(part: &[u8], lo: u8, hi: u8) -> Totals
 pub fn tally(s: &[u8], lo: u8, hi: u8) -> Totals
     ensures { Tallied s.now lo hi result }
 {
-    let n = s.len();
     let mut sum: u8 = 0;
     let mut hits: usize = 0;
-    let mut i: usize = 0;
-    while 192 < n - i {
-        let j = i + 192;
-        let t = tally_few(&s[i..j], lo, hi);
-        sum = std::num::wrapping_add_u8(sum, t.sum);
+    for part in s.chunks(192) {
+        let t = tally_few(part, lo, hi);
+        sum = sum.wrapping_add(t.sum);
         hits += t.hits;
-        i = j;
     }
-    let t = tally_few(&s[i..n], lo, hi);
-    Totals {
-        sum: std::num::wrapping_add_u8(sum, t.sum),
-        hits: hits + t.hits,
-    }
+    Totals { sum, hits }
 }
 
-// Whether no byte lies between two values. There is no early way out, so that the loop runs on many bytes at once.
+// Whether all bytes are as asked: between two values, or not. There is no early way out, so that the loop runs on many
+// bytes at once.
+fn all_are(part: &[u8], lo: u8, hi: u8, inside: bool) -> bool
+    ensures { AllAre inside lo hi part.now result }
+{
+    let mut all = true;
+    for &b in part {
+        all &= is_within(b, lo, hi) == inside;
+    }
+    all
+}
+
+// Whether no byte lies between two values.
 pub fn is_bare(part: &[u8], lo: u8, hi: u8) -> bool
     ensures { Bare lo hi part.now result }
 {
-    let mut most: u8 = 0;
-    let mut i: usize = 0;
-    while i < part.len() {
-        let x = one_within(part[i], lo, hi);
-        i += 1;
-        if most < x {
-            most = x;
-        }
-    }
-    most == 0
-}
-
-// 0 for a byte between the two values, else 1.
-fn one_without(b: u8, lo: u8, hi: u8) -> u8
-    ensures { OneIf (not (within lo hi b)) result }
-{
-    if is_within(b, lo, hi) { 0 } else { 1 }
+    all_are(part, lo, hi, false)
 }
 
 // Whether every byte lies between two values.
 pub fn is_full(part: &[u8], lo: u8, hi: u8) -> bool
     ensures { Full lo hi part.now result }
 {
-    let mut most: u8 = 0;
-    let mut i: usize = 0;
-    while i < part.len() {
-        let x = one_without(part[i], lo, hi);
-        i += 1;
-        if most < x {
-            most = x;
-        }
-    }
-    most == 0
+    all_are(part, lo, hi, true)
 }
 
 // a less b, wrapping in eight bits.
 pub fn minus(a: u8, b: u8) -> u8
     ensures { Minus a b result }
 {
-    std::num::wrapping_sub_u8(a, b)
+    a.wrapping_sub(b)
 }
 
 // The sum of the bytes, wrapping in eight bits.
@@ -123,10 +92,8 @@ pub fn checksum(bytes: &[u8]) -> u8
     ensures { result ≡ checksum_of bytes.now }
 {
     let mut sum: u8 = 0;
-    let mut i: usize = 0;
-    while i < bytes.len() {
-        sum = std::num::wrapping_add_u8(sum, bytes[i]);
-        i += 1;
+    for &b in bytes {
+        sum = sum.wrapping_add(b);
     }
     sum
 }
@@ -138,12 +105,9 @@ pub fn copy(part: &[u8], out: &mut [u8], at: usize) -> usize
     requires { at + length part.now ≤ length out.old }
     ensures { Writes out.old at part.now result out.new }
 {
-    let mut i: usize = 0;
-    while i < part.len() {
-        out[at + i] = part[i];
-        i += 1;
-    }
-    at + i
+    let end = at + part.len();
+    out[at..end].copy_from_slice(part);
+    end
 }
 
 // Sixteen bytes at once: all are loaded before the first is stored.
@@ -155,11 +119,4 @@ pub fn copy_block(part: &[u8], out: &mut [u8], at: usize) -> usize
     let mut block = [0u8; 16];
     copy(part, &mut block, 0);
     copy(&block, out, at)
-}
-
-// Two bytes as a number, the lowest first.
-pub fn join_two(a: u8, b: u8) -> u16
-    ensures { Joined a b result }
-{
-    (a as u16) + 256 * (b as u16)
 }

@@ -1,4 +1,5 @@
 -- What reading the header answers.
+use Rattle.std.specs.Prelude.{Ok, Err}
 use Prim.Native.Nat.{ℕ, ◌<◌, ◌≤◌}
 use mathlib.Core.Path.{◌≡◌, refl, sym, ◌∙◌}
 use mathlib.Core.Bool.{Bool, true, false}
@@ -6,12 +7,12 @@ use mathlib.Core.List.{List}
 use native.Mathlib.Omega.{arith}
 use lib.ListN.{length, take}
 use lib.Dec.{leb, eqb}
-use borrow.Author.Tests.{le-leb, lt-leb, leb-true, eq-eqb, ne_eqb}
+use borrow.Author.Tests.{le-leb, lt-leb, leb-true}
 use Rattle.laws.proofs.Choice.{split_b, no_way}
 use Rattle.laws.specs.Keys.{eq_k}
 use Rattle.laws.specs.Numbers.{be32}
 use Rattle.btsnoop.specs.Header.{magic, is_btsnoop, datalink, is_datalink}
-use Rattle.btsnoop.specs.declared.Header.TheVariants.{Datalink, NotBtsnoop, Other}
+use Rattle.btsnoop.specs.declared.HeaderError.TheVariants.{NotBtsnoop, Datalink}
 use Rattle.btsnoop.specs.Headers.{header_of}
 
 module _ (f : List ℕ) where
@@ -19,9 +20,9 @@ module _ (f : List ℕ) where
   unfolding is_btsnoop
   begins_short h = rw (lt-leb 16 (length f) h)
 
-  pub begins_not : 16 ≤ length f → (t : Bool) → t ≡ eq_k (take 8 f) magic → t ≡ false → false ≡ is_btsnoop f
+  pub begins_not : 16 ≤ length f → (t : Bool) → t ≡ eq_k (take 8 f) magic → t ≡ false → t ≡ is_btsnoop f
   unfolding is_btsnoop
-  begins_not h t e q = rw (le-leb 16 (length f) h, sym e ∙ q)
+  begins_not h t e q = q ∙ rw (le-leb 16 (length f) h, sym e ∙ q)
 
   pub begins_version : 16 ≤ length f → (t : Bool) → t ≡ eq_k (take 8 f) magic → t ≡ true → (n : ℕ) → n ≡ be32 f 8 → eqb n 1 ≡ is_btsnoop f
   unfolding is_btsnoop
@@ -32,39 +33,26 @@ module _ (f : List ℕ) where
   unfolding is_btsnoop
   begins_long e = split_b (leb 16 (length f)) (λ q. leb-true 16 (length f) q) (λ q. no_way (rw q at e) refl)
 
-module _ (n : ℕ) where
-  pub read_1001 : n ≡ 1001 → true ≡ is_datalink n
-  unfolding is_datalink
-  read_1001 e = rw (eq-eqb n 1001 e)
-
-  pub read_1002 : (n ≡ 1001 → ⊥) → n ≡ 1002 → true ≡ is_datalink n
-  unfolding is_datalink
-  read_1002 d e = rw (ne_eqb n 1001 d, eq-eqb n 1002 e)
-
-  pub read_2001 : (n ≡ 1001 → ⊥) → (n ≡ 1002 → ⊥) → eqb n 2001 ≡ is_datalink n
-  unfolding is_datalink
-  read_2001 d e = rw (ne_eqb n 1001 d, ne_eqb n 1002 e)
-
 module _ (f : List ℕ) (t : Bool) (e : t ≡ is_btsnoop f) where
   pub header_room : t ≡ true → 16 ≤ length f
   header_room q = begins_long f (sym e ∙ q)
 
-  pub header_not : t ≡ false → NotBtsnoop ≡ header_of f
+  pub header_not : t ≡ false → Err NotBtsnoop ≡ header_of f
   unfolding header_of
   header_not q = rw (sym e ∙ q)
 
   module _ (q : t ≡ true) (n : ℕ) (m : n ≡ be32 f 12) (s : Bool) (d : s ≡ is_datalink n) where
-    pub header_datalink : s ≡ true → Datalink n ≡ header_of f
+    pub header_datalink : s ≡ true → Ok n ≡ header_of f
     unfolding header_of datalink
     header_datalink z = rw (sym e ∙ q, ← m, sym d ∙ z)
 
-    pub header_other : s ≡ false → Other n ≡ header_of f
+    pub header_other : s ≡ false → Err (Datalink n) ≡ header_of f
     unfolding header_of datalink
     header_other z = rw (sym e ∙ q, ← m, sym d ∙ z)
 
 -- ---- what a header that was read tells
 
-pub no_header : (f : List ℕ) → header_of f ≡ NotBtsnoop → is_btsnoop f ≡ false
+pub no_header : (f : List ℕ) → header_of f ≡ Err NotBtsnoop → is_btsnoop f ≡ false
 unfolding header_of
 no_header f e =
     split_b (is_btsnoop f)
@@ -73,7 +61,7 @@ no_header f e =
     (λ b. let q = rw (a, b) at e in let z : ◌≡◌ {A = ℕ} 0 1 = cc in absurd (omega arith)))
     (λ a. a)
 
-pub other_link : (f : List ℕ) (n : ℕ) → header_of f ≡ Other n → (is_btsnoop f ≡ true) × (is_datalink (datalink f) ≡ false) × (n ≡ datalink f)
+pub other_link : (f : List ℕ) (n : ℕ) → header_of f ≡ Err (Datalink n) → (is_btsnoop f ≡ true) × (is_datalink (datalink f) ≡ false) × (n ≡ datalink f)
 unfolding header_of
 other_link f n e =
     split_b (is_btsnoop f)
@@ -82,7 +70,7 @@ other_link f n e =
     (λ b. let q = rw (a, b) at e in (a, b, (let z : n ≡ datalink f = cc in z))))
     (λ a. let q = rw a at e in let z : ◌≡◌ {A = ℕ} 0 1 = cc in absurd (omega arith))
 
-pub known_link : (f : List ℕ) (n : ℕ) → header_of f ≡ Datalink n → (is_btsnoop f ≡ true) × (is_datalink (datalink f) ≡ true) × (n ≡ datalink f)
+pub known_link : (f : List ℕ) (n : ℕ) → header_of f ≡ Ok n → (is_btsnoop f ≡ true) × (is_datalink (datalink f) ≡ true) × (n ≡ datalink f)
 unfolding header_of
 known_link f n e =
     split_b (is_btsnoop f)

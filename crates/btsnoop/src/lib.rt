@@ -9,15 +9,21 @@ ghost use Rattle.btsnoop.specs.Records.{record_size};
 ghost use Rattle.btsnoop.specs.Packets.{milliseconds};
 ghost use Rattle.btsnoop.specs.Reading.{MonitorIs, HciIs, RecordPre, RecordIs};
 
-use acl::{Acl, read_fragment, read_h4};
-use words::{get_be32, get_be64, same, wide32};
+use acl::{Fragment, read_fragment, read_h4};
+use words::{get_be32, get_be64, same};
 
-// What the header says: a datalink that is read here, refusal 3, or refusal 4 with the number.
+// Datalinks that are read here: HCI packets by their flags, H4 packets, and packets of a monitor.
+const HCI: u32 = 1001;
+
+pub const H4: u32 = 1002;
+
+pub const MONITOR: u32 = 2001;
+
+// Why a header is not taken: it is none of btsnoop, or its datalink is another.
 #[derive(Clone, Copy)]
-pub enum Header {
-    Datalink(u32),
+pub enum HeaderError {
     NotBtsnoop,
-    Other(u32),
+    Datalink(u32),
 }
 
 // Whether the file begins as a btsnoop file does.
@@ -27,37 +33,28 @@ fn is_btsnoop(file: &[u8]) -> bool
     if file.len() < 16 {
         return false;
     }
-    if same(&file[..8], b"btsnoop\0") {
-        return get_be32(file, 8) == 1;
-    }
-    false
+    same(&file[..8], b"btsnoop\0") && get_be32(file, 8) == 1
 }
 
 // Whether the datalink is one that is read.
 fn is_datalink(n: u32) -> bool
     ensures { result ≡ is_datalink n }
 {
-    if n == 1001 {
-        return true;
-    }
-    if n == 1002 {
-        return true;
-    }
-    n == 2001
+    n == HCI || n == H4 || n == MONITOR
 }
 
-// Reads the header.
-pub fn read_header(file: &[u8]) -> Header
+// Reads the header: the datalink.
+pub fn read_header(file: &[u8]) -> Result<u32, HeaderError>
     ensures { result ≡ header_of file.now }
 {
-    if is_btsnoop(file) {
-        let n = get_be32(file, 12);
-        if is_datalink(n) {
-            return Header::Datalink(n);
-        }
-        return Header::Other(n);
+    if !is_btsnoop(file) {
+        return Err(HeaderError::NotBtsnoop);
     }
-    Header::NotBtsnoop
+    let n = get_be32(file, 12);
+    if !is_datalink(n) {
+        return Err(HeaderError::Datalink(n));
+    }
+    Ok(n)
 }
 
 // The size of the record at a place, from its front.
@@ -65,17 +62,14 @@ pub fn record_size(file: &[u8], at: usize) -> usize
     requires { at + 8 ≤ length file.now }
     ensures { result ≡ record_size (drop at file.now) }
 {
-    24 + wide32(get_be32(file, at + 4))
+    24 + get_be32(file, at + 4) as usize
 }
 
 // The microseconds of a timestamp, in milliseconds.
 fn to_ms(stamp: u64) -> u64
     ensures { result ≡ (stamp - 0x00dcddb30f2f8000) / 1000 }
 {
-    if stamp < 0x00dcddb30f2f8000 {
-        return 0;
-    }
-    (stamp - 0x00dcddb30f2f8000) / 1000
+    stamp.saturating_sub(0x00dcddb30f2f8000) / 1000
 }
 
 // The adapter's index in a monitor's flags: the upper 16 bits.
@@ -86,42 +80,40 @@ fn index_of(flags: u32) -> u32
 }
 
 // The packet of a monitor's record.
-fn read_monitor(file: &[u8], lo: usize, end: usize, flags: u32) -> Acl
+fn read_monitor(file: &[u8], lo: usize, end: usize, flags: u32) -> Option<Fragment>
     requires { AclPre file.now lo end 0 0 }
     ensures { MonitorIs file.now lo end flags result }
 {
     let op = flags % 65536;
     let index = index_of(flags);
-    if op == 4 {
-        return read_fragment(file, lo, end, index, 0);
+    match op {
+        4 => read_fragment(file, lo, end, index, 0),
+        5 => read_fragment(file, lo, end, index, 1),
+        _ => None,
     }
-    if op == 5 {
-        return read_fragment(file, lo, end, index, 1);
-    }
-    Acl::Skipped
 }
 
 // The packet of an HCI record.
-fn read_hci(file: &[u8], lo: usize, end: usize, datalink: u32, flags: u32) -> Acl
+fn read_hci(file: &[u8], lo: usize, end: usize, datalink: u32, flags: u32) -> Option<Fragment>
     requires { AclPre file.now lo end 0 0 }
     ensures { HciIs file.now lo end datalink flags result }
 {
     if flags / 2 % 2 == 1 {
-        return Acl::Skipped;
+        return None;
     }
-    if datalink == 1002 {
+    if datalink == H4 {
         return read_h4(file, lo, end, flags % 2);
     }
     read_fragment(file, lo, end, 0, flags % 2)
 }
 
 // The packet of the record from one place up to another.
-pub fn read_packet(file: &[u8], at: usize, end: usize, datalink: u32) -> Acl
+pub fn read_packet(file: &[u8], at: usize, end: usize, datalink: u32) -> Option<Fragment>
     requires { RecordPre file.now at end }
     ensures { RecordIs file.now at end datalink result }
 {
     let flags = get_be32(file, at + 8);
-    if datalink == 2001 {
+    if datalink == MONITOR {
         return read_monitor(file, at + 24, end, flags);
     }
     read_hci(file, at + 24, end, datalink, flags)

@@ -1,6 +1,7 @@
 -- From the passes to the call: each refusal, and what is read where none is met.
+use Rattle.std.specs.Prelude.{Result, Ok, Err}
 use Prim.Native.Nat.{ℕ}
-use mathlib.Core.Path.{◌≡◌, refl, sym, ap, ◌∙◌}
+use mathlib.Core.Path.{◌≡◌, refl, sym, ◌∙◌}
 use mathlib.Core.Bool.{false, ◌&&◌}
 use mathlib.Core.List.{List, [], ◌∷◌}
 use native.Mathlib.Omega.{arith}
@@ -23,9 +24,10 @@ use Rattle.l2cap.specs.PduTable.{Reassembled}
 use Rattle.channels.specs.Passing.{ReadChannels}
 use Rattle.gathering.specs.Gathering.{ReadPieces}
 use Rattle.gathering.specs.declared.Gathered.{Gathered}
-use Rattle.streams.specs.Streams.{told, ListsSpans}
-use Rattle.streams.specs.declared.Listed.{Listed}
-use Rattle.streams.specs.declared.Listed.TheVariants.{NoStream as NoneListed, OutShort as ListShort, Spans as SpansListed}
+use Rattle.std.specs.Prelude.{Ok, Err, IsErrAnd}
+use Rattle.streams.specs.Streams.{told, ListsSpans, Listed}
+use Rattle.streams.specs.declared.ListError.{ListError}
+use Rattle.streams.specs.declared.ListError.TheVariants.{NoStream as NoneListed, OutShort as ListShort}
 use Rattle.streams.specs.declared.Stream.{Stream}
 use Rattle.outcome.specs.Import.{read, given, fits, work_suffices, imported}
 use Rattle.outcome.specs.Import as import
@@ -33,14 +35,11 @@ use Rattle.cut.proofs.Theorem.{cut_claim}
 use Rattle.opening.specs.Opening.{opened, Opens}
 use Rattle.opening.proofs.AsImport.{or_given, import_opened, opened_sized}
 use Rattle.opening.specs.declared.Opened.{Opened}
-use Rattle.opening.specs.declared.Opened.TheVariants.{Read, Refused as Unread}
 use Rattle.capture.specs.Options.{options_of}
-use Rattle.capture.specs.Calls.{told_imported, Imports, Left, ImportsFound, PacketsMeet}
+use Rattle.capture.specs.Calls.{told_imported, unlisted, Imported, Imports, Left, PacketsMeet}
 use Rattle.capture.specs.Passes.{count_of, Passes}
-use Rattle.capture.specs.declared.Found.{Found}
-use Rattle.capture.specs.declared.Summary.{Summary}
-use Rattle.capture.specs.declared.Imported.{Imported}
-use Rattle.capture.specs.declared.Imported.TheVariants.{Spans, Refused, NoStream, OutShort}
+use Rattle.capture.specs.declared.ImportError.{ImportError}
+use Rattle.capture.specs.declared.ImportError.TheVariants.{Refused}
 use Rattle.capture.specs.declared.Options.{Options}
 use Rattle.capture.proofs.PassLaws.{composed, left_file}
 
@@ -49,87 +48,70 @@ use Rattle.capture.proofs.PassLaws.{composed, left_file}
 no_list : {G : Type 0} → ◌≡◌ {A = ℕ} 0 1 → G
 no_list z = absurd (omega arith)
 
-left_none : (b : Container) (f : List ℕ) (o : import.Options) (r : Imported) (n : ℕ) (u : List ℕ) → ((s : Summary) → r ≡ Spans s → ⊥) → Left b f o (record { answer = r; pieces = n }) u
-left_none b f o r n u x = record { at = λ s g. absurd (x s g) }
-
--- a list that is told by values
-record Back (tail : ℕ) (wrongs : ℕ → ℕ) (l : Listed) (vs : List ℕ) : Type 0 where
-  pub stream : Stream
-  pub is : l ≡ SpansListed stream
-  pub values : stream.dlci ∷ stream.spans ∷ stream.unfinished ∷ tail ∷ stream.bytes ∷ wrongs stream.dlci ∷ stream.in_spans ∷ stream.dropped ∷ stream.cleared ∷ stream.left ∷ [] ≡ vs
-
-told_back : (tail : ℕ) (wrongs : ℕ → ℕ) (l : Listed) (vs : List ℕ) → told tail wrongs l ≡ accepted vs → Back tail wrongs l vs
-unfolding told
-told_back tail wrongs NoneListed vs e = no_list cc
-told_back tail wrongs (ListShort n) vs e = no_list cc
-told_back tail wrongs (SpansListed s) vs e = record { stream = s; is = refl; values = cc }
+left_none : (b : Container) (f : List ℕ) (o : import.Options) (e : ImportError) (u : List ℕ) → Left b f o (Err e) u
+left_none b f o e u = record { at = λ s g. no_list cc }
 
 -- ---- from the packets on
 
-module _ (tail : ℕ) (wrong : List ℕ) (l : Listed) where
-  pub told_none : l ≡ NoneListed → told_imported NoStream ≡ told tail (count_of wrong) l
-  unfolding told
-  told_none e = rw e
+told_none : (tail : ℕ) (wrongs : ℕ → ℕ) (e : ListError) → told_imported (Err (unlisted e)) ≡ told tail wrongs (Err e)
+unfolding told
+told_none tail wrongs NoneListed = refl
+told_none tail wrongs (ListShort n) = refl
 
-  pub told_short : (n : ℕ) → l ≡ ListShort n → told_imported (OutShort n) ≡ told tail (count_of wrong) l
-  unfolding told
-  told_short n e = rw e
+module _
+    (f w : List ℕ) (p : Packets) (o : Options) (rp : ReadTo (format_of o.container f) f w p) (v : List ℕ) (made : ℕ) (ra : Reassembled f v made (pdus (packets_from f w 0 p.count)))
+    (x : List ℕ) (rows : ℕ) (rc : ReadChannels f v made x rows) (u : List ℕ) (g : Gathered) (rps : ReadPieces o.fcs f x made u g)
+    (out : List ℕ) (l : Listed) (y out' : List ℕ) (ls : ListsSpans f u g.pieces o.channel out l y out') where
+  passes : Passes f o p out g l out'
+  passes = record {
+    w₁ = w;
+    w₂ = v;
+    w₃ = x;
+    w₄ = u;
+    w₅ = y;
+    made = made;
+    rows = rows;
+    read_packets = rp;
+    reassemble = ra;
+    read_channels = rc;
+    read_pieces = rps;
+    list_spans = ls;
+  }
 
-  pub told_spans :
-      (s : Stream) → l ≡ SpansListed s → (n : ℕ) → n ≡ get_or wrong s.dlci 0 →
-      told_imported (Spans (record { dlci = s.dlci; frames = s.spans; unfinished = s.unfinished; tail = tail; written = s.bytes; wrong = n; in_spans = s.in_spans; dropped = s.dropped; cleared = s.cleared; left = s.left })) ≡ told tail (count_of wrong) l
-  unfolding told
-  told_spans s e n en = rw (e, en)
+  pub packets_none : (e : ListError) → l ≡ Err e → (r : Imported) → IsErrAnd r (λ z. z ≡ unlisted e) → PacketsMeet o.container f (options_of o) out r y out'
+  packets_none e q (Ok s) k = absurd k
+  packets_none e q (Err z) k =
+      rw k (record {
+        meets = rw (told_none p.tail (count_of g.wrong) e, ← q) (composed f o p out g l out' passes).meets;
+        left = left_none o.container f (options_of o) (unlisted e) y;
+      })
 
-pub packets_read :
-    (f w : List ℕ) (p : Packets) (o : Options) → ReadTo (format_of o.container f) f w p → (v : List ℕ) (made : ℕ) → Reassembled f v made (pdus (packets_from f w 0 p.count)) →
-    (x : List ℕ) (rows : ℕ) → ReadChannels f v made x rows → (u : List ℕ) (g : Gathered) → ReadPieces o.fcs f x made u g →
-    (out : List ℕ) (l : Listed) (y out' : List ℕ) → ListsSpans f u g.pieces o.channel out l y out' →
-    (r : Imported) → told_imported r ≡ told p.tail (count_of g.wrong) l → PacketsMeet o.container f (options_of o) out (record { answer = r; pieces = g.pieces }) y out'
-packets_read f w p o rp v made ra x rows rc u g rps out l y out' ls r e =
-    let s : Passes f o p out g l out' = record {
-      w₁ = w;
-      w₂ = v;
-      w₃ = x;
-      w₄ = u;
-      w₅ = y;
-      made = made;
-      rows = rows;
-      read_packets = rp;
-      reassemble = ra;
-      read_channels = rc;
-      read_pieces = rps;
-      list_spans = ls;
-    } in
-    record {
-      meets = rw e (composed f o p out g l out' s).meets;
-      left = record {
-        at = λ t k.
-            let h = told_back p.tail (count_of g.wrong) l _ (sym e ∙ ap told_imported k) in
-            let i : h.stream.dlci ≡ t.dlci = cc in
-            rw i at (left_file f o p out g l out' s h.stream h.is);
-      };
-    }
+  pub packets_read : (s : Stream) → l ≡ Ok s → (n : ℕ) → n ≡ get_or g.wrong s.dlci 0 → PacketsMeet o.container f (options_of o) out (Ok (record { stream = s; pieces = g.pieces; tail = p.tail; wrong = n })) y out'
+  unfolding told passes
+  packets_read s q n en = record {
+    meets = rw en (rw q at (composed f o p out g l out' passes).meets);
+    left = record { at = λ t k. (let i : t.stream ≡ s = cc in let h : t.pieces ≡ g.pieces = cc in rw (i, h) (left_file f o p out g l out' passes s q)) };
+  }
 
 -- ---- the call
 
-pub import_needs : (b : Container) (f w : List ℕ) (t : import.Tail) (x : Opened) (v : List ℕ) → Opens b f w t x v → (g : Format) (p : Packets) → x ≡ Read g p → ReadTo (format_of b f) f v p
-import_needs b f w t x v op g p e = let r = op.read g p e in rw r.says at r.reads
+pub import_needs : (b : Container) (f w : List ℕ) (t : import.Tail) (x : Result Opened Refusal) (v : List ℕ) → Opens b f w t x v → (o : Opened) → x ≡ Ok o → ReadTo (format_of b f) f v o.packets
+import_needs b f w t x v op o e = let r = op.read o e in rw r.says at r.reads
 
 -- a trace opened so
-module _ (b : Container) (f w : List ℕ) (o : import.Options) (out : List ℕ) (x : Opened) (v : List ℕ) (op : Opens b f w o.tail x v) where
+module _ (b : Container) (f w : List ℕ) (o : import.Options) (out : List ℕ) (x : Result Opened Refusal) (v : List ℕ) (op : Opens b f w o.tail x v) where
   imports_by :
       (r : Imported) (w' out' : List ℕ) → Meets (imported (container_of b) f (length w) o) out (told_imported r) out' →
-      ((fits f && work_suffices f (length w)) ≡ false → w' ≡ w) → Imports b f w o out r w' out'
-  imports_by r w' out' m s = record { meets = m; spared = s; cut = cut_claim (lawful b) f (length w) o out (told_imported r) out' m }
+      ((fits f && work_suffices f (length w)) ≡ false → w' ≡ w) → Left b f o r w' → Imports b f w o out r w' out'
+  imports_by r w' out' m s t = record { meets = m; spared = s; left = t; cut = cut_claim (lawful b) f (length w) o out (told_imported r) out' m }
 
   -- it is refused, and import in the same words
-  by_refusal : (y : Refusal) (n : ℕ) (vs : List ℕ) → x ≡ Unread y → told_refusal y ≡ refused n vs → Meets (imported (container_of b) f (length w) o) out (told_refusal y) out
+  by_refusal : (y : Refusal) (n : ℕ) (vs : List ℕ) → x ≡ Err y → told_refusal y ≡ refused n vs → Meets (imported (container_of b) f (length w) o) out (told_refusal y) out
   unfolding or_given
   by_refusal y n vs e q =
       rw q (meets_refused (imported (container_of b) f (length w) o) out n vs (import_opened (container_of b) f (length w) o ∙ rw (← op.answers, e, q)))
 
-  refusal_meets : (y : Refusal) → x ≡ Unread y → Meets (imported (container_of b) f (length w) o) out (told_refusal y) out
+  refusal_meets : (y : Refusal) → x ≡ Err y → Meets (imported (container_of b) f (length w) o) out (told_refusal y) out
   refusal_meets FileLong e = by_refusal FileLong 1 [] e refl
   refusal_meets WorkShort e = by_refusal WorkShort 2 [] e refl
   refusal_meets NotBtsnoop e = by_refusal NotBtsnoop 3 [] e refl
@@ -138,23 +120,18 @@ module _ (b : Container) (f w : List ℕ) (o : import.Options) (out : List ℕ) 
   refusal_meets (LinkType n) e = by_refusal (LinkType n) 22 (n ∷ []) e refl
   refusal_meets (Truncated n) e = by_refusal (Truncated n) 5 (n ∷ []) e refl
 
-  pub import_refused : (y : Refusal) → x ≡ Unread y → (z : Found) → z ≡ record { answer = Refused y; pieces = 0 } → ImportsFound b f w o out z v out
-  import_refused y e z ez = rw ez (record {
-    imports = imports_by (Refused y) v out (refusal_meets y e) op.spared;
-    left = left_none b f o (Refused y) 0 v (λ s g. no_list cc);
-  })
+  pub import_refused : (y : Refusal) → x ≡ Err y → Imports b f w o out (Err (Refused y)) v out
+  import_refused y e = imports_by (Err (Refused y)) v out (refusal_meets y e) op.spared (left_none b f o (Refused y) v)
 
   -- it is read
-  module _ (g : Format) (p : Packets) (e : x ≡ Read g p) where
+  module _ (t : Opened) (e : x ≡ Ok t) where
     reads : opened (container_of b) f (length w) o.tail ≡ accepted []
     reads = sym op.answers ∙ rw e
 
-    pub import_meets : (r : Found) (w' out' : List ℕ) → PacketsMeet b f o out r w' out' → ImportsFound b f w o out r w' out'
+    pub import_meets : (r : Imported) (w' out' : List ℕ) → PacketsMeet b f o out r w' out' → Imports b f w o out r w' out'
     unfolding or_given
-    import_meets r w' out' m = record {
-      imports =
-          imports_by r.answer w' out'
-          (meets_as (imported (container_of b) f (length w) o) (given (read (container_of b) f o)) out (import_opened (container_of b) f (length w) o ∙ rw reads) m.meets)
-          (λ h. no_way (opened_sized (container_of b) f (length w) o.tail [] reads) h);
-      left = m.left;
-    }
+    import_meets r w' out' m =
+        imports_by r w' out'
+        (meets_as (imported (container_of b) f (length w) o) (given (read (container_of b) f o)) out (import_opened (container_of b) f (length w) o ∙ rw reads) m.meets)
+        (λ h. no_way (opened_sized (container_of b) f (length w) o.tail [] reads) h)
+        m.left

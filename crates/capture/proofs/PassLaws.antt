@@ -18,12 +18,12 @@ use Rattle.rfcomm.specs.Pieces.{judged}
 use Rattle.gathering.specs.Gathering.{PiecesPre, ReadPieces}
 use Rattle.gathering.specs.declared.Gathered.{Gathered}
 use Rattle.outcome.specs.Import.{file_pieces, file_wrong, read}
-use Rattle.streams.specs.Streams.{channel_of, table_pieces, told, Leaves}
+use Rattle.streams.specs.Streams.{channel_of, table_pieces, told, Leaves, Listed}
 use Rattle.streams.proofs.Streams.{tabled}
 use Rattle.streams.specs.Streams as streams
-use Rattle.streams.specs.declared.Listed.{Listed}
-use Rattle.streams.specs.declared.Listed.TheVariants.{NoStream, OutShort, Spans}
+use Rattle.std.specs.Prelude.{Ok, Err}
 use Rattle.streams.specs.declared.Stream.{Stream}
+use Rattle.streams.specs.declared.ListError.TheVariants.{NoStream, OutShort}
 use Rattle.capture.specs.Options.{options_of}
 use Rattle.capture.specs.Passes.{count_of, Passes, Composed}
 use Rattle.capture.specs.declared.Options.{Options}
@@ -46,11 +46,11 @@ spans_need fcs f x made u g rp = tabled f u g.pieces _ rp.pieced
 -- ---- together
 
 -- a list is told by the wrong frames of its DLCI alone
-told_by : (tail : ℕ) (a b : ℕ → ℕ) (l : Listed) → ((s : Stream) → l ≡ Spans s → a s.dlci ≡ b s.dlci) → told tail a l ≡ told tail b l
+told_by : (tail : ℕ) (a b : ℕ → ℕ) (l : Listed) → ((s : Stream) → l ≡ Ok s → a s.dlci ≡ b s.dlci) → told tail a l ≡ told tail b l
 unfolding told
-told_by tail a b NoStream h = refl
-told_by tail a b (OutShort n) h = refl
-told_by tail a b (Spans s) h = rw (h s refl)
+told_by tail a b (Err NoStream) h = refl
+told_by tail a b (Err (OutShort n)) h = refl
+told_by tail a b (Ok s) h = rw (h s refl)
 
 module _ (f : List ℕ) (o : Options) (p : Packets) (out : List ℕ) (g : Gathered) (l : Listed) (out' : List ℕ) (s : Passes f o p out g l out') where
   -- the PDUs in the table are the file's
@@ -76,5 +76,5 @@ module _ (f : List ℕ) (o : Options) (p : Packets) (out : List ℕ) (g : Gather
       record { meets = rw (same, t) (rw (file_pieces_law, t) at (s.list_spans.meets p.tail wrongs)) }
 
   -- what the last pass leaves of the DLCI chosen is of the file's pieces
-  pub left_file : (t : Stream) → l ≡ Spans t → Leaves f (file_pieces (container_of o.container) (options_of o).judging f) (channel_of o.channel) g.pieces s.w₅ t.dlci
+  pub left_file : (t : Stream) → l ≡ Ok t → Leaves f (file_pieces (container_of o.container) (options_of o).judging f) (channel_of o.channel) g.pieces s.w₅ t.dlci
   left_file t e = rw file_pieces_law at (s.list_spans.left t e)

@@ -11,8 +11,7 @@ use Rattle.channels.specs.Passing.{ReadChannels}
 use Rattle.gathering.specs.Gathering.{ReadPieces}
 use Rattle.gathering.specs.declared.Gathered.{Gathered}
 use Rattle.outcome.specs.Import.{read, given}
-use Rattle.streams.specs.Streams.{told, ListsSpans}
-use Rattle.streams.specs.declared.Listed.{Listed}
+use Rattle.streams.specs.Streams.{told, ListsSpans, Listed}
 use Rattle.capture.specs.Options.{options_of}
 use Rattle.capture.specs.declared.Options.{Options}
 

@@ -4,93 +4,78 @@
 ghost use Rattle.std.specs.Prelude.{◌≡◌, get_or};
 ghost use Rattle.trace.specs.Formats.{format_of};
 ghost use Rattle.packets.specs.Adding.{ReadTo};
-ghost use Rattle.streams.specs.Streams.{told};
 ghost use Rattle.capture.specs.Options.{options_of};
-ghost use Rattle.capture.specs.declared.Imported.TheVariants.{Refused};
-ghost use Rattle.capture.specs.Calls.{told_imported, PacketsMeet, Imports, ImportsFound};
-ghost use Rattle.capture.specs.Passes.{count_of};
+ghost use Rattle.capture.specs.declared.ImportError.TheVariants.{Refused};
+ghost use Rattle.capture.specs.Calls.{unlisted, PacketsMeet, Imports};
 
 use channels::read_channels;
 use gathering::read_pieces;
 use l2cap::reassemble;
-use opening::{Opened, Tail, open_trace};
+use opening::{Tail, open_trace};
 use packets::Packets;
-use streams::{Channel, Listed, list_spans};
+use streams::{ListError, Stream, list_spans};
 use trace::{Container, Refusal};
-use words::wide32;
 
 // What a caller chooses, beside the file and the buffers.
 #[derive(Clone, Copy)]
 pub struct Options {
     pub container: Container,
-    pub channel: Channel,
+    pub channel: Option<u8>,
     pub tail: Tail,
     // whether FCS is checked
     pub fcs: bool,
 }
 
-// What import answers of the DLCI chosen: its frames, unfinished, the tail offset, bytes written, its UIH frames with a wrong FCS, and
-// where the bytes of its pieces went.
+// What import gives: the DLCI chosen, whose list it wrote; how many pieces stand in work's table, the tail offset, and the DLCI's UIH
+// frames with a wrong FCS.
 #[derive(Clone, Copy)]
 pub struct Summary {
-    pub dlci: u8,
-    pub frames: usize,
-    pub unfinished: usize,
+    pub stream: Stream,
+    pub pieces: usize,
     pub tail: usize,
-    pub written: usize,
     pub wrong: usize,
-    pub in_spans: usize,
-    pub dropped: usize,
-    pub cleared: usize,
-    pub left: usize,
 }
 
-// What import answers.
+// Why import gives nothing.
 #[derive(Clone, Copy)]
-pub enum Imported {
-    Spans(Summary),
+pub enum ImportError {
     // 1 to 5, and pcap's 21 and 22
     Refused(Refusal),
     NoStream,
     OutShort(usize),
 }
 
-// An answer, and how many pieces stand in work's table.
-#[derive(Clone, Copy)]
-pub struct Found {
-    pub answer: Imported,
-    pub pieces: usize,
+impl From<Refusal> for ImportError {
+    ghost from_gives = { λ x y. y ≡ Refused x };
+
+    fn from(x: Refusal) -> ImportError {
+        ImportError::Refused(x)
+    }
 }
 
-// Imports a trace: the spans of the first DLCI, on the channel if one is given, that has a span which unpacks.
-pub fn import(file: &[u8], work: &mut [u8], out: &mut [u8], options: Options) -> Imported
+impl From<ListError> for ImportError {
+    ghost from_gives = { λ x y. y ≡ unlisted x };
+
+    fn from(x: ListError) -> ImportError {
+        match x {
+            ListError::NoStream => ImportError::NoStream,
+            ListError::OutShort(needed) => ImportError::OutShort(needed),
+        }
+    }
+}
+
+// Imports a trace: the spans of the first DLCI, on the channel if one is given, that has a span which unpacks. Work keeps what was
+// counted of the DLCI chosen.
+pub fn import(
+    file: &[u8],
+    work: &mut [u8],
+    out: &mut [u8],
+    options: Options,
+) -> Result<Summary, ImportError>
     ensures { Imports options.container file.now work.old (options_of options) out.old result work.new out.new }
 {
-    let f = import_found(file, work, out, options);
-    f.answer
-}
-
-// The same, with the number of pieces; work keeps what was counted of the DLCI chosen.
-pub fn import_found(file: &[u8], work: &mut [u8], out: &mut [u8], options: Options) -> Found
-    ensures { ImportsFound options.container file.now work.old (options_of options) out.old result work.new out.new }
-{
-    let container = options.container;
-    let tail = options.tail;
-    let x = open_trace(file, work, container, tail);
-    match x {
-        Opened::Read(_, p) => import_packets(file, work, out, options, p),
-        Opened::Refused(x) => refused(x),
-    }
-}
-
-// A refusal, where no piece was looked for.
-fn refused(x: Refusal) -> Found
-    ensures { result ≡ record { answer = Refused x; pieces = 0 } }
-{
-    Found {
-        answer: Imported::Refused(x),
-        pieces: 0,
-    }
+    let opened = open_trace(file, work, options.container, options.tail)?;
+    import_packets(file, work, out, options, opened.packets)
 }
 
 // Imports a trace whose packets stand in work, by four passes over it.
@@ -100,22 +85,21 @@ fn import_packets(
     out: &mut [u8],
     options: Options,
     p: Packets,
-) -> Found
+) -> Result<Summary, ImportError>
     requires { ReadTo (format_of options.container file.now) file.now work.old p }
     ensures { PacketsMeet options.container file.now (options_of options) out.old result work.new out.new }
 {
-    let channel = options.channel;
-    let fcs = options.fcs;
     let t = reassemble(file, work, p.count);
     let made = t.made;
     let rows = read_channels(file, work, made);
-    let g = read_pieces(file, work, made, rows, fcs);
-    let wrong = g.wrong;
-    let l = list_spans(file, work, g.pieces, channel, out);
-    Found {
-        answer: answer_of(l, p.tail, &wrong),
+    let g = read_pieces(file, work, made, rows, options.fcs);
+    let stream = list_spans(file, work, g.pieces, options.channel, out)?;
+    Ok(Summary {
+        stream,
         pieces: g.pieces,
-    }
+        tail: p.tail,
+        wrong: wrong_on(&g.wrong, stream.dlci),
+    })
 }
 
 // How many of the frames with a wrong FCS came on a DLCI.
@@ -124,32 +108,8 @@ fn wrong_on(wrong: &[u32], dlci: u8) -> usize
 {
     let k = dlci as usize;
     if k < wrong.len() {
-        return wide32(wrong[k]);
-    }
-    0
-}
-
-// The answer of the list, with the tail offset, and with the frames on its DLCI that have a wrong FCS.
-fn answer_of(l: Listed, tail: usize, wrong: &[u32]) -> Imported
-    ensures { told_imported result ≡ told tail (count_of wrong.now) l }
-{
-    match l {
-        Listed::NoStream => Imported::NoStream,
-        Listed::OutShort(n) => Imported::OutShort(n),
-        Listed::Spans(s) => {
-            let summary = Summary {
-                dlci: s.dlci,
-                frames: s.spans,
-                unfinished: s.unfinished,
-                tail,
-                written: s.bytes,
-                wrong: wrong_on(wrong, s.dlci),
-                in_spans: s.in_spans,
-                dropped: s.dropped,
-                cleared: s.cleared,
-                left: s.left,
-            };
-            Imported::Spans(summary)
-        }
+        wrong[k] as usize
+    } else {
+        0
     }
 }

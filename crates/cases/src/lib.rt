@@ -3,7 +3,7 @@
 
 ghost use Rattle.std.specs.Prelude.{◌≡◌, true, ◌≤◌, length};
 
-use rerun::{NO_CALL, run_plain};
+use rerun::run_plain;
 use samples::{Answer, Call, UNTOUCHED, fill, is_answer, part, read_answer, read_call, word};
 
 fn import(
@@ -21,17 +21,24 @@ fn import(
 }
 
 // The work lent is 8 times the file's length, with what earlier cases left in it: no answer depends on that.
-fn run_import(s: &[u8], c: Call, work: &mut [u8], out: &mut [u8], values: &mut [u64]) -> u32 {
+fn run_import(
+    s: &[u8],
+    c: Call,
+    work: &mut [u8],
+    out: &mut [u8],
+    values: &mut [u64],
+) -> Option<u32> {
     let file = part(s, c.first, c.first_size);
     let channel = word(s, c.numbers);
     let n = file.len();
     if work.len() / 8 < n {
-        return NO_CALL;
+        return None;
     }
-    import(c.op == 8, file, &mut work[..8 * n], out, channel, values)
+    Some(import(c.op == 8, file, &mut work[..8 * n], out, channel, values))
 }
 
-fn run(s: &[u8], c: Call, work: &mut [u8], out: &mut [u8], values: &mut [u64]) -> u32 {
+// The number that the call answers, if one is run.
+fn run(s: &[u8], c: Call, work: &mut [u8], out: &mut [u8], values: &mut [u64]) -> Option<u32> {
     let op = c.op;
     match op {
         7 | 8 => run_import(s, c, work, out, values),
@@ -43,8 +50,10 @@ fn run(s: &[u8], c: Call, work: &mut [u8], out: &mut [u8], values: &mut [u64]) -
 fn is_same(s: &[u8], c: Call, a: Answer, work: &mut [u8], out: &mut [u8]) -> bool {
     fill(out);
     let mut values = [UNTOUCHED; 12];
-    let number = run(s, c, work, out, &mut values);
-    is_answer(s, a, number, &values, out)
+    match run(s, c, work, out, &mut values) {
+        Some(number) => is_answer(s, a, number, &values, out),
+        None => false,
+    }
 }
 
 // Whether a case's call answers what the case says, and the place after the case.

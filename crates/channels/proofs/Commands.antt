@@ -1,4 +1,5 @@
 -- What the code reads in a command, and the walk over the commands of a payload.
+use Rattle.std.specs.Prelude.{Option, Some, None}
 use Prim.Native.Nat.{ℕ, ◌+◌, ◌-◌, ◌<◌, ◌≤◌}
 use mathlib.Core.Path.{◌≡◌, refl, sym, ap, ◌∙◌}
 use mathlib.Core.Bool.{Bool, true, false, cond, ◌&&◌, ◌||◌, and-true, and-false}
@@ -13,8 +14,6 @@ use Rattle.laws.proofs.Chop.{chop_eq}
 use Rattle.laws.specs.Numbers.{le16}
 use Rattle.words.specs.Fields.{field_of}
 use Rattle.words.proofs.Fields.{field_value, field_none}
-use Rattle.words.specs.declared.Field.{Field}
-use Rattle.words.specs.declared.Field.TheVariants.{Value, Missing}
 use Rattle.items.specs.Items.{rx_of}
 use Rattle.items.specs.declared.Direction.{Direction}
 use Rattle.items.specs.declared.Direction.TheVariants.{Rx, Tx}
@@ -40,11 +39,11 @@ body_whole c h = rw (le-leb (command_size c) (length c) h)
 pub body_short : (c : List ℕ) → length c < 4 → body c ≡ []
 body_short c h = body_passes c (omega (arith, size_is c))
 
-module _ (c : List ℕ) (f : Field) (p : f ≡ field_of c 2) where
-  pub body_missing : f ≡ Missing → take (0 - 0) (drop 0 c) ≡ body c
+module _ (c : List ℕ) (f : Option ℕ) (p : f ≡ field_of c 2) where
+  pub body_missing : f ≡ None → take (0 - 0) (drop 0 c) ≡ body c
   body_missing q = sym (body_short c (field_none c 2 f p q))
 
-  module _ (x n : ℕ) (q : f ≡ Value x) (e : n ≡ x) where
+  module _ (x n : ℕ) (q : f ≡ Some x) (e : n ≡ x) where
     pub body_past : length c < 4 + n → take (length c - length c) (drop (length c) c) ≡ body c
     body_past h = rw (drop-length c) (take-nil (length c - length c)) ∙ sym (body_passes c (omega (arith, size_is c, (field_value c 2 x f p q).1)))
 
@@ -69,22 +68,22 @@ rx_one Rx = omega arith
 rx_one Tx = omega arith
 
 module _ (c b : List ℕ) (e : b ≡ body c) where
-  pub some_command : (f : Field) → f ≡ field_of b 0 → (x : ℕ) → f ≡ Value x → 0 < length c
+  pub some_command : (f : Option ℕ) → f ≡ field_of b 0 → (x : ℕ) → f ≡ Some x → 0 < length c
   some_command f p x q =
       let h : 0 + 2 ≤ length b = (field_value b 0 x f p q).0 in
       let g : length b ≡ length (body c) = ap length e in
       omega (arith, body_room c (omega arith))
 
-  module _ (f : Field) (p : f ≡ field_of b 0) where
-    pub asks_missing : f ≡ Missing → false ≡ asks_rfcomm c
+  module _ (f : Option ℕ) (p : f ≡ field_of b 0) where
+    pub asks_missing : f ≡ None → false ≡ asks_rfcomm c
     unfolding asks_rfcomm
     asks_missing q = rw (← e, lt-leb 2 (length b) (field_none b 0 f p q), and-false (eqb (code c) 2))
 
-    pub asks_other : (x : ℕ) → f ≡ Value x → (x ≡ 3 → ⊥) → false ≡ asks_rfcomm c
+    pub asks_other : (x : ℕ) → f ≡ Some x → (x ≡ 3 → ⊥) → false ≡ asks_rfcomm c
     unfolding asks_rfcomm
     asks_other x q n = rw (← e, ← (field_value b 0 x f p q).1, ne_eqb x 3 n, and-false (leb 2 (length b)), and-false (eqb (code c) 2))
 
-    pub asks_request : (x : ℕ) → f ≡ Value x → x ≡ 3 → eqb (get_or c 0 0) 2 ≡ asks_rfcomm c
+    pub asks_request : (x : ℕ) → f ≡ Some x → x ≡ 3 → eqb (get_or c 0 0) 2 ≡ asks_rfcomm c
     unfolding asks_rfcomm
     asks_request x q n = rw (← e, ← (field_value b 0 x f p q).1, eq-eqb x 3 n, le-leb 2 (length b) (field_value b 0 x f p q).0, and-true (eqb (code c) 2))
 
@@ -93,51 +92,52 @@ module _ (c b : List ℕ) (e : b ≡ body c) where
     unfolding signal_of
     says_short h = rw (← e, lt-leb 4 (length b) h)
 
-    pub says_missing : (f : Field) → f ≡ field_of b 0 → f ≡ Missing → told Other ≡ signal_of link rx c
+    pub says_missing : (f : Option ℕ) → f ≡ field_of b 0 → f ≡ None → told Other ≡ signal_of link rx c
     unfolding told
     says_missing f p q = says_short (omega (arith, field_none b 0 f p q))
 
-    module _ (f : Field) (p : f ≡ field_of b 2) where
-      pub says_missing₂ : f ≡ Missing → told Other ≡ signal_of link rx c
+    module _ (f : Option ℕ) (p : f ≡ field_of b 2) where
+      pub says_missing₂ : f ≡ None → told Other ≡ signal_of link rx c
       unfolding told
       says_missing₂ q = says_short (omega (arith, field_none b 2 f p q))
 
-      pub says_other : (y : ℕ) → f ≡ Value y → (get_or c 0 0 ≡ 2 → ⊥) → (get_or c 0 0 ≡ 3 → ⊥) → told Other ≡ signal_of link rx c
+      pub says_other : (y : ℕ) → f ≡ Some y → (get_or c 0 0 ≡ 2 → ⊥) → (get_or c 0 0 ≡ 3 → ⊥) → told Other ≡ signal_of link rx c
       unfolding told signal_of
       says_other y q m n = rw (← e, le-leb 4 (length b) (field_value b 2 y f p q).0, ne_eqb (get_or c 0 0) 2 m, ne_eqb (get_or c 0 0) 3 n)
 
-  module _ (link : ℕ) (d o : Direction) (k : rx_of o ≡ opposite (rx_of d)) (f g : Field) (p : f ≡ field_of b 0) (q : g ≡ field_of b 2) (x y : ℕ) (i : f ≡ Value x) (j : g ≡ Value y) where
+  module _ (link : ℕ) (d o : Direction) (k : rx_of o ≡ opposite (rx_of d)) (f g : Option ℕ) (p : f ≡ field_of b 0) (q : g ≡ field_of b 2) (x y : ℕ) (i : f ≡ Some x) (j : g ≡ Some y) where
     pub says_request : get_or c 0 0 ≡ 2 → told (Request (record { link = link; direction = o; cid = y }) x) ≡ signal_of link (rx_of d) c
     unfolding told signal_of triple_of
     says_request m =
         rw (← e, le-leb 4 (length b) (field_value b 2 y g q j).0, eq-eqb (get_or c 0 0) 2 m, ← (field_value b 0 x f p i).1, ← (field_value b 2 y g q j).1, k)
 
-    pub says_response : (ok : Bool) → ok ≡ (leb 6 (length b) && eqb (le16 b 4) 0) → (get_or c 0 0 ≡ 2 → ⊥) → get_or c 0 0 ≡ 3 → told (Response (record { link = link; direction = o; cid = x }) y ok) ≡ signal_of link (rx_of d) c
+    pub says_response : (ok : Bool) → ok ≡ (leb 6 (length b) && eqb (le16 b 4) 0) → get_or c 0 0 ≡ 3 → told (Response (record { link = link; direction = o; cid = x }) y ok) ≡ signal_of link (rx_of d) c
     unfolding told signal_of triple_of
-    says_response ok s m n =
+    says_response ok s n =
+        let m : get_or c 0 0 ≡ 2 → ⊥ = λ t. omega arith in
         let z : 1 - (1 - rx_of d) ≡ rx_of d = omega (arith, rx_one d) in
         rw (← e, le-leb 4 (length b) (field_value b 2 y g q j).0, ne_eqb (get_or c 0 0) 2 m, eq-eqb (get_or c 0 0) 3 n, ← (field_value b 0 x f p i).1, ← (field_value b 2 y g q j).1, k, z, s)
 
-pub no_success : (b : List ℕ) (f : Field) → f ≡ field_of b 4 → f ≡ Missing → false ≡ (leb 6 (length b) && eqb (le16 b 4) 0)
+pub no_success : (b : List ℕ) (f : Option ℕ) → f ≡ field_of b 4 → f ≡ None → false ≡ (leb 6 (length b) && eqb (le16 b 4) 0)
 no_success b f p q = rw (lt-leb 6 (length b) (field_none b 4 f p q))
 
-pub success_is : (b : List ℕ) (f : Field) → f ≡ field_of b 4 → (x : ℕ) → f ≡ Value x → eqb x 0 ≡ (leb 6 (length b) && eqb (le16 b 4) 0)
+pub success_is : (b : List ℕ) (f : Option ℕ) → f ≡ field_of b 4 → (x : ℕ) → f ≡ Some x → eqb x 0 ≡ (leb 6 (length b) && eqb (le16 b 4) 0)
 success_is b f p x q = rw (le-leb 6 (length b) (field_value b 4 x f p q).0, (field_value b 4 x f p q).1)
 
 -- ---- the first command
 
-module _ (b : List ℕ) (f : Field) (p : f ≡ field_of b 2) where
+module _ (b : List ℕ) (f : Option ℕ) (p : f ≡ field_of b 2) where
   all_bytes : length b ≤ command_size b → length b ≡ length (command_bytes b)
   unfolding command_bytes
   all_bytes h = ap length (sym (take_all (command_size b) b h))
 
-  pub bytes_missing : f ≡ Missing → length b ≡ length (command_bytes b)
+  pub bytes_missing : f ≡ None → length b ≡ length (command_bytes b)
   bytes_missing q = all_bytes (omega (arith, size_is b, field_none b 2 f p q))
 
-  pub bytes_past : (x n : ℕ) → f ≡ Value x → n ≡ x → length b < 4 + n → length b ≡ length (command_bytes b)
+  pub bytes_past : (x n : ℕ) → f ≡ Some x → n ≡ x → length b < 4 + n → length b ≡ length (command_bytes b)
   bytes_past x n q e h = all_bytes (omega (arith, size_is b, (field_value b 2 x f p q).1))
 
-  pub bytes_there : (x n : ℕ) → f ≡ Value x → n ≡ x → 4 + n ≤ length b → 4 + n ≡ length (command_bytes b)
+  pub bytes_there : (x n : ℕ) → f ≡ Some x → n ≡ x → 4 + n ≤ length b → 4 + n ≡ length (command_bytes b)
   unfolding command_bytes
   bytes_there x n q e h = let r : x ≡ le16 b 2 = (field_value b 2 x f p q).1 in omega (arith, size_is b, length-take-le (command_size b) b (omega (arith, size_is b)))
 

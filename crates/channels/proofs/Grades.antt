@@ -1,4 +1,5 @@
 -- Rows of the table of channels: what a raised grade does, and that what a signal says is told.
+use Rattle.std.specs.Prelude.{Option, Some, None}
 use Prim.Native.Nat.{ℕ, suc, ◌+◌, ◌*◌, ◌/◌, ◌%◌, ◌<◌, ◌≤◌, max}
 use mathlib.Core.Path.{◌≡◌, refl, sym, ap, ◌∙◌}
 use mathlib.Core.Bool.{Bool, true, false, cond, ◌&&◌, ◌||◌, or-true, or-false, or_assoc, or_comm}
@@ -18,8 +19,6 @@ use Rattle.tree.specs.Seats.{seat_of, Seated}
 use Rattle.tree.specs.declared.Tree.{Tree}
 use Rattle.tree.specs.declared.Seating.{Seating}
 use Rattle.tree.proofs.Seats.{seated_value, seat_first}
-use Rattle.table.specs.declared.Row.{Row}
-use Rattle.table.specs.declared.Row.TheVariants.{At, Nothing}
 use Rattle.items.specs.Items.{rx_of}
 use Rattle.items.specs.declared.Direction.{Direction}
 use Rattle.channels.specs.Signals.{Signal, request, response, triple, opposite}
@@ -28,8 +27,6 @@ use Rattle.channels.specs.ChannelTable.{channel_key, says_named, says_admitted, 
 use Rattle.channels.specs.Reading.{triple_of, told}
 use Rattle.channels.specs.Noting.{grade_of, standing_of, request_grade, response_grade, Raised, RaisedIn, Telling, Noted}
 use Rattle.channels.specs.declared.Triple.{Triple}
-use Rattle.channels.specs.declared.Standing.{Standing}
-use Rattle.channels.specs.declared.Standing.TheVariants.{Named, Unnamed}
 use Rattle.channels.specs.declared.Signal.{Signal as Said}
 use Rattle.channels.specs.declared.Signal.TheVariants.{Request, Response, Other}
 use Rattle.channels.proofs.Commands.{rx_one}
@@ -63,27 +60,27 @@ side_key side cid = omega arith
 
 -- ---- the grade of a row
 
-pub standing_none : (w : List ℕ) (b k n : ℕ) (f : Row) → f ≡ find_in w b k n → f ≡ Nothing → Unnamed ≡ standing_of (lookup w b n k)
+pub standing_none : (w : List ℕ) (b k n : ℕ) (f : Option ℕ) → f ≡ find_in w b k n → f ≡ None → None ≡ standing_of (lookup w b n k)
 unfolding standing_of
 standing_none w b k n f p q = rw (lookup_nothing w b k n (sym p ∙ q))
 
-pub standing_row : (w : List ℕ) (b k n i : ℕ) (f : Row) → f ≡ find_in w b k n → f ≡ At i → (x : ℕ) → x ≡ word w (b + 4 * i + 2) → Named x ≡ standing_of (lookup w b n k)
+pub standing_row : (w : List ℕ) (b k n i : ℕ) (f : Option ℕ) → f ≡ find_in w b k n → f ≡ Some i → (x : ℕ) → x ≡ word w (b + 4 * i + 2) → Some x ≡ standing_of (lookup w b n k)
 unfolding standing_of
 standing_row w b k n i f p q x e = rw (lookup_found w b k n i (sym p ∙ q), e)
 
 -- what an answer says
-module _ (s : Slot) (g : Standing) (p : g ≡ standing_of s) where
-  pub standing_unnamed : g ≡ Unnamed → s ≡ none
+module _ (s : Slot) (g : Option ℕ) (p : g ≡ standing_of s) where
+  pub standing_unnamed : g ≡ None → s ≡ none
   unfolding standing_of
   standing_unnamed q = go s (sym p ∙ q) where
-    go : (x : Slot) → standing_of x ≡ Unnamed → x ≡ none
+    go : (x : Slot) → standing_of x ≡ None → x ≡ none
     go none e = refl
     go (some v z) e = let y : ◌≡◌ {A = ℕ} 0 1 = cc in absurd (omega arith)
 
-  pub standing_named : (v : ℕ) → g ≡ Named v → (says_named s ≡ true) × (grade_of s ≡ v)
+  pub standing_named : (v : ℕ) → g ≡ Some v → (says_named s ≡ true) × (grade_of s ≡ v)
   unfolding standing_of says_named grade_of
   standing_named v q = go s (sym p ∙ q) where
-    go : (x : Slot) → standing_of x ≡ Named v → (says_named x ≡ true) × (grade_of x ≡ v)
+    go : (x : Slot) → standing_of x ≡ Some v → (says_named x ≡ true) × (grade_of x ≡ v)
     go none e = let y : ◌≡◌ {A = ℕ} 0 1 = cc in absurd (omega arith)
     go (some x z) e = (refl, cc)
 
@@ -100,16 +97,16 @@ module _ (ok : Bool) (s : Slot) where
   unfolding response_grade
   response_fails e = rw e
 
-  module _ (e : ok ≡ true) (g : Standing) (p : g ≡ standing_of s) where
-    pub response_unnamed : g ≡ Unnamed → 0 ≡ response_grade ok s
+  module _ (e : ok ≡ true) (g : Option ℕ) (p : g ≡ standing_of s) where
+    pub response_unnamed : g ≡ None → 0 ≡ response_grade ok s
     unfolding response_grade grade_of
     response_unnamed q = rw (e, standing_unnamed s g p q)
 
-    pub response_admits : (v : ℕ) → g ≡ Named v → 1 < v → 1 ≡ response_grade ok s
+    pub response_admits : (v : ℕ) → g ≡ Some v → 1 < v → 1 ≡ response_grade ok s
     unfolding response_grade
     response_admits v q h = rw (e, (standing_named s g p v q).1, lt-ltb 1 v h)
 
-    pub response_unasked : (v : ℕ) → g ≡ Named v → v ≤ 1 → 0 ≡ response_grade ok s
+    pub response_unasked : (v : ℕ) → g ≡ Some v → v ≤ 1 → 0 ≡ response_grade ok s
     unfolding response_grade
     response_unasked v q h = rw (e, (standing_named s g p v q).1, le-ltb 1 v h)
 

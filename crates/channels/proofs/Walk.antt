@@ -1,4 +1,5 @@
 -- The pass over the PDUs: one step, one PDU, all of them; and what becomes of a PDU.
+use Rattle.std.specs.Prelude.{Option, Some, None}
 use Prim.Native.Nat.{ℕ, ◌+◌, ◌-◌, ◌*◌, ◌/◌, ◌%◌, ◌<◌, ◌≤◌}
 use mathlib.Core.Path.{◌≡◌, refl, sym, ap, ◌∙◌}
 use mathlib.Core.Bool.{Bool, true, false, cond, not, ◌&&◌, ◌||◌, and-true, and-false, or-false}
@@ -27,8 +28,6 @@ use Rattle.channels.specs.ChannelTable.{channel_index, says_named, says_admitted
 use Rattle.channels.specs.Reading.{command_bytes, told}
 use Rattle.channels.specs.Noting.{standing_of, Telling, Noted}
 use Rattle.channels.specs.Passing.{StepIs, PduStepPre, NotePre, NotePreIn, PduNoted, PduNotedIn, NoneNoted, ReadChannels, Tries, Judged}
-use Rattle.channels.specs.declared.Standing.{Standing}
-use Rattle.channels.specs.declared.Standing.TheVariants.{Named, Unnamed}
 use Rattle.channels.specs.declared.Signal.{Signal as Said}
 use Rattle.channels.specs.declared.Step.{Step}
 use Rattle.channels.proofs.Passing.{reassembled_own}
@@ -285,12 +284,12 @@ module _ (w : List ℕ) (b n side cid : ℕ) where
         rw (l, x, c, ← (t.names (side / 2) (side % 2) cid (omega arith) h), ← (t.admits (side / 2) (side % 2) cid (omega arith) h), side_key side cid) e;
   }
 
-  module _ (g : Standing) (p : g ≡ standing_of (lookup w b n (side * 65536 + cid))) where
-    tried_unnamed : g ≡ Unnamed → Judged w b n side cid (leb 0x40 cid)
+  module _ (g : Option ℕ) (p : g ≡ standing_of (lookup w b n (side * 65536 + cid))) where
+    tried_unnamed : g ≡ None → Judged w b n side cid (leb 0x40 cid)
     unfolding says_named says_admitted
     tried_unnamed q = tried_by_law (leb 0x40 cid) (rw (standing_unnamed (lookup w b n (side * 65536 + cid)) g p q) (sym (and-true (leb 0x40 cid))))
 
-    tried_named : (v : ℕ) → g ≡ Named v → Judged w b n side cid (ltb 0 v)
+    tried_named : (v : ℕ) → g ≡ Some v → Judged w b n side cid (ltb 0 v)
     tried_named v q =
         tried_by_law (ltb 0 v)
         (rw (admits_grade (lookup w b n (side * 65536 + cid)), (standing_named (lookup w b n (side * 65536 + cid)) g p v q).0, (standing_named (lookup w b n (side * 65536 + cid)) g p v q).1, and-false (leb 0x40 cid))
@@ -300,12 +299,12 @@ module _ (w : List ℕ) (q n side cid : ℕ) (t : Tries w q n) (x : Tree) (ex : 
   pub tries_seek : SeekPre w x n
   tries_seek = rw ex (record { stands = t.stands; indexed = t.indexed })
 
-  module _ (g : Standing) (p : g ≡ standing_of (lookup w x.rows n (side * 65536 + cid))) where
-    pub tries_unnamed : g ≡ Unnamed → Judged w (3 * q) n side cid (leb 0x40 cid)
+  module _ (g : Option ℕ) (p : g ≡ standing_of (lookup w x.rows n (side * 65536 + cid))) where
+    pub tries_unnamed : g ≡ None → Judged w (3 * q) n side cid (leb 0x40 cid)
     unfolding channel_index
     tries_unnamed e = tried_unnamed w (3 * q) n side cid g (rw ex at p) e
 
-    pub tries_named : (v : ℕ) → g ≡ Named v → Judged w (3 * q) n side cid (ltb 0 v)
+    pub tries_named : (v : ℕ) → g ≡ Some v → Judged w (3 * q) n side cid (ltb 0 v)
     unfolding channel_index
     tries_named v e = tried_named w (3 * q) n side cid g (rw ex at p) v e
 

@@ -1,5 +1,5 @@
 -- The table of channels while signals are read: what a signal does to a row, and what the rows tell with some signals still to come.
-use Rattle.std.specs.Prelude.{ℕ, ◌+◌, ◌*◌, ◌<◌, ◌≤◌, max, ◌≡◌, Bool, cond, ◌&&◌, ◌||◌, List, ◌++◌, length, ltb, eqb}
+use Rattle.std.specs.Prelude.{ℕ, ◌+◌, ◌*◌, ◌<◌, ◌≤◌, max, ◌≡◌, Bool, cond, ◌&&◌, ◌||◌, List, ◌++◌, length, ltb, eqb, Option, Some, None}
 use Rattle.words.specs.Front.{Front}
 use Rattle.table.specs.Table.{Slot, none, some, lookup}
 use Rattle.tree.specs.Tree.{Indexed}
@@ -9,8 +9,6 @@ use Rattle.channels.specs.Channels.{any, named, asks_for, admitted, admitted_aft
 use Rattle.channels.specs.ChannelTable.{channel_key, says_named, says_admitted}
 use Rattle.channels.specs.Reading.{told}
 use Rattle.channels.specs.declared.Signal.{Signal as Said}
-use Rattle.channels.specs.declared.Standing.{Standing}
-use Rattle.channels.specs.declared.Standing.TheVariants.{Named, Unnamed}
 
 -- 2 if a PSM 3 request admitted the channel, 1 if a response did, else 0
 unfoldable pub grade_of : Slot → ℕ
@@ -18,9 +16,9 @@ grade_of none = 0
 grade_of (some v z) = v
 
 -- what the code reads of a row
-unfoldable pub standing_of : Slot → Standing
-standing_of none = Unnamed
-standing_of (some v z) = Named v
+unfoldable pub standing_of : Slot → Option ℕ
+standing_of none = None
+standing_of (some v z) = Some v
 
 unfoldable pub request_grade : ℕ → ℕ
 request_grade psm = cond (eqb psm 3) 2 0

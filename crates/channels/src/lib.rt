@@ -15,11 +15,10 @@ ghost use Rattle.channels.specs.Reading.{command_bytes, told};
 ghost use Rattle.channels.specs.Noting.{standing_of, request_grade, response_grade, RaisedIn, NotedIn};
 ghost use Rattle.channels.specs.Passing.{StepIs, PduStepPre, NotePreIn, PduNotedIn, NoneNoted, ReadChannels, Tries, Judged};
 
-use items::{Direction, direction_in};
+use items::Direction;
 use l2cap::payload;
-use table::Row;
 use tree::{Tree, clear, seat, seek_near};
-use words::{Field, field16, get32, put32, wide16, wide32};
+use words::{field16, get32, put32};
 
 // A channel: data with this CID in this direction of a link.
 #[derive(Clone, Copy)]
@@ -40,16 +39,22 @@ pub enum Signal {
 
 // ---- one command
 
+// The codes of a request to connect and of a response to one, and the PSM that RFCOMM is asked for by.
+const REQUEST: u8 = 2;
+
+const RESPONSE: u8 = 3;
+
+const RFCOMM: u16 = 3;
+
 // The body of a command; one passing the end reads as empty.
 fn body_of(c: &[u8]) -> &[u8]
     ensures { result.now ≡ body c.now }
 {
-    let field = field16(c, 2);
-    let Field::Value(size) = field else {
+    let Some(size) = field16(c, 2) else {
         return &c[0..0];
     };
     let n = c.len();
-    let end = 4 + wide16(size);
+    let end = 4 + usize::from(size);
     if n < end {
         return &c[n..n];
     }
@@ -70,8 +75,7 @@ fn flip(d: Direction) -> Direction
 fn is_success(b: &[u8]) -> bool
     ensures { result ≡ (leb 6 (length b.now) && eqb (le16 b.now 4) 0) }
 {
-    let field = field16(b, 4);
-    let Field::Value(result) = field else {
+    let Some(result) = field16(b, 4) else {
         return false;
     };
     result == 0
@@ -82,53 +86,43 @@ fn read_signal(c: &[u8], link: u32, direction: Direction) -> Signal
     ensures { told result ≡ signal_of link (rx_of direction) c.now }
 {
     let b = body_of(c);
-    let first = field16(b, 0);
-    let Field::Value(x) = first else {
+    let Some(x) = field16(b, 0) else {
         return Signal::Other;
     };
-    let second = field16(b, 2);
-    let Field::Value(y) = second else {
+    let Some(y) = field16(b, 2) else {
         return Signal::Other;
     };
     let other = flip(direction);
-    let code = c[0];
-    if code == 2 {
-        return Signal::Request(
+    match c[0] {
+        REQUEST => Signal::Request(
             Triple {
-                link: link,
+                link,
                 direction: other,
                 cid: y,
             },
             x,
-        );
-    }
-    if code == 3 {
-        let ok = is_success(b);
-        return Signal::Response(
+        ),
+        RESPONSE => Signal::Response(
             Triple {
-                link: link,
+                link,
                 direction: other,
                 cid: x,
             },
             y,
-            ok,
-        );
+            is_success(b),
+        ),
+        _ => Signal::Other,
     }
-    Signal::Other
 }
 
 // Whether a command is a PSM 3 request, even one of 2 body bytes.
 fn asks_rfcomm(c: &[u8]) -> bool
     ensures { result ≡ asks_rfcomm c.now }
 {
-    let first = field16(body_of(c), 0);
-    let Field::Value(psm) = first else {
+    let Some(psm) = field16(body_of(c), 0) else {
         return false;
     };
-    if psm == 3 {
-        return c[0] == 2;
-    }
-    false
+    psm == RFCOMM && c[0] == REQUEST
 }
 
 // ---- the commands of a payload
@@ -138,11 +132,10 @@ fn asks_rfcomm(c: &[u8]) -> bool
 fn command_len(s: &[u8]) -> usize
     ensures { result ≡ length (command_bytes s.now) }
 {
-    let field = field16(s, 2);
-    let Field::Value(size) = field else {
+    let Some(size) = field16(s, 2) else {
         return s.len();
     };
-    let n = 4 + wide16(size);
+    let n = 4 + usize::from(size);
     if s.len() < n {
         return s.len();
     }
@@ -177,42 +170,31 @@ fn key_of(link: u32, direction: Direction, cid: u16) -> u64
     }
 }
 
-// What the table says of a channel: it is named, with its grade, 2 if a PSM 3 request admitted it, 1 if a response did,
-// else 0; or nothing names it.
-#[derive(Clone, Copy)]
-enum Standing {
-    Named(u32),
-    Unnamed,
-}
+// The grade of a channel, a word of its row: 0, or one of these if a response admitted it or a PSM 3 request did.
+// Stays: grades are words that are compared and raised; an enum for them adds a conversion each way, and says no more.
+const ANSWERED: u32 = 1;
+
+const ASKED: u32 = 2;
 
 // The row last but one: a channel that is named or asked for is often one of the last two.
 fn last_but_one(rows: usize) -> usize {
-    if rows < 2 {
-        return 0;
-    }
-    rows - 2
+    rows.saturating_sub(2)
 }
 
-// What the table says of the channel of this key.
-fn look(w: &[u8], x: Tree, rows: usize, key: u64) -> Standing
+// The grade of the channel of this key, if anything names it.
+fn look(w: &[u8], x: Tree, rows: usize, key: u64) -> Option<u32>
     requires { SeekPre w.now x rows }
     ensures { result ≡ standing_of (lookup w.now x.rows rows key) }
 {
-    let found = seek_near(w, x, rows, key, last_but_one(rows));
-    let Row::At(i) = found else {
-        return Standing::Unnamed;
-    };
-    Standing::Named(get32(w, x.rows + 4 * i + 2))
+    let i = seek_near(w, x, rows, key, last_but_one(rows))?;
+    Some(get32(w, x.rows + 4 * i + 2))
 }
 
 // The grade that a request gives the channel that it names.
 fn request_grade(psm: u16) -> u32
     ensures { result ≡ request_grade psm }
 {
-    if psm == 3 {
-        return 2;
-    }
-    0
+    if psm == RFCOMM { ASKED } else { 0 }
 }
 
 // The grade that a response gives, of a success or not, to a request that named the channel of this key.
@@ -221,12 +203,11 @@ fn response_grade(w: &[u8], x: Tree, rows: usize, asked: u64, ok: bool) -> u32
     ensures { result ≡ response_grade ok (lookup w.now x.rows rows asked) }
 {
     if ok {
-        let standing = look(w, x, rows, asked);
-        let Standing::Named(grade) = standing else {
+        let Some(grade) = look(w, x, rows, asked) else {
             return 0;
         };
-        if 1 < grade {
-            return 1;
+        if ANSWERED < grade {
+            return ANSWERED;
         }
     }
     0
@@ -297,7 +278,12 @@ fn pdu_step<'a>(file: &'a [u8], w: &'a [u8], row: usize, at: usize) -> Step
     ensures { StepIs (pdu_at file.now w.now row).payload at (pdu_at file.now w.now row).link (pdu_at file.now w.now row).rx result }
 {
     let side = get32(w, row);
-    step_at(payload(file, w, row), at, side / 2, direction_in(side))
+    step_at(
+        payload(file, w, row),
+        at,
+        side / 2,
+        Direction::in_side(side),
+    )
 }
 
 // Notes what the PDU whose row is at word row says. Returns the count of rows.
@@ -308,7 +294,7 @@ fn note_pdu(file: &[u8], w: &mut [u8], row: usize, x: Tree, rows: usize) -> usiz
     if get32(w, row + 1) != 1 {
         return rows;
     }
-    let size = wide32(get32(w, row + 4));
+    let size = get32(w, row + 4) as usize;
     let mut n = rows;
     let mut at = 0;
     while at < size {
@@ -340,10 +326,8 @@ fn note_pdus(file: &[u8], w: &mut [u8], made: usize, q: usize) -> usize
 {
     let x = index_of(q);
     let mut rows = 0;
-    let mut i = 0;
-    while i < made {
+    for i in 0..made {
         rows = note_pdu(file, w, 2 * q + 7 * i, x, rows);
-        i += 1;
     }
     rows
 }
@@ -378,8 +362,7 @@ pub fn is_tried(w: &[u8], q: usize, rows: usize, side: u32, cid: u32) -> bool
     ensures { Judged w.now (3 * q) rows side cid result }
 {
     let x = index_of(q);
-    let standing = look(w, x, rows, (side as u64) * 65536 + (cid as u64));
-    let Standing::Named(grade) = standing else {
+    let Some(grade) = look(w, x, rows, (side as u64) * 65536 + (cid as u64)) else {
         return 0x40 <= cid;
     };
     0 < grade

@@ -1,12 +1,12 @@
 -- Laws of the keys of rows and of their bits.
 use mathlib.Core.Path.{◌≡◌, refl, sym, ◌∙◌}
 use mathlib.Core.List.{List}
-use mathlib.Core.Bool.{Bool, true, false}
+use mathlib.Core.Bool.{Bool, false}
 use Prim.Native.Nat.{ℕ, ◌+◌, ◌*◌, ◌/◌, ◌%◌, ◌<◌, ◌≤◌}
 use native.Mathlib.Omega.{arith}
 use native.Mathlib.Nat.{mod-lt}
-use lib.Dec.{eqb}
-use borrow.Author.Tests.{eq-eqb, ne_eqb, lt-ltb, le-ltb}
+use lib.Dec.{eqb, ltb}
+use borrow.Author.Tests.{eq-eqb, ne_eqb, lt-ltb, le-ltb, ltb-true}
 use Rattle.laws.proofs.Choice.{split≡, split≤}
 use Rattle.laws.specs.Keys.{Key, eq_k}
 use Rattle.laws.proofs.Keys.{eq_k_true, eq_eq_k, ne_eq_k}
@@ -37,16 +37,11 @@ module _ (w : List ℕ) (x : Rows) (i j a b c d e f : ℕ) where
       (λ z. rw (eq-eqb g h z) (sym (eq_eq_k (key_at w x i) (key_at w x j) (rw (sym ea ∙ ab ∙ eb, sym ec ∙ cd ∙ ed, sym ee ∙ q ∙ ef, sym eg ∙ z ∙ eh)))))
       (λ z. rw (ne_eqb g h z) (sym (ne_eq_k _ _ (λ k. z (eg ∙ (let r : word w (x.at + 8 * i) ≡ word w (x.at + 8 * j) = cc in r) ∙ sym eh)))))
 
-pub not_repeated : (w : List ℕ) (x : Rows) (i last : ℕ) → Repeats w x i last false
-not_repeated w x i last = record { some = λ e. absurd (never e); same = λ e. absurd (never e) } where
-  never : false ≡ true → ⊥
-  never e = let z : ◌≡◌ {A = ℕ} 0 1 = cc in omega arith
+pub not_repeated : (w : List ℕ) (x : Rows) (i last : ℕ) → i ≤ 0 → Repeats w x i last (ltb 0 i)
+not_repeated w x i last n = record { some = λ e. ltb-true 0 i e; same = λ e. absurd (omega (arith, ltb-true 0 i e)) }
 
-pub repeated : (w : List ℕ) (x : Rows) (i last : ℕ) → (i ≡ 0 → ⊥) → (r : Bool) → r ≡ eq_k (key_at w x last) (key_at w x i) → Repeats w x i last r
-repeated w x i last n r e = record {
-  some = λ h. split≡ i 0 (λ z. absurd (n z)) (λ z. omega arith);
-  same = λ h. eq_k_true _ _ (sym e ∙ h);
-}
+pub repeated : (w : List ℕ) (x : Rows) (i last : ℕ) → 0 < i → (r : Bool) → r ≡ eq_k (key_at w x last) (key_at w x i) → Repeats w x i last r
+repeated w x i last n r e = record { some = λ h. n; same = λ h. eq_k_true _ _ (sym e ∙ h) }
 
 -- ---- the bits of a key
 

@@ -21,8 +21,8 @@ use Rattle.classes.proofs.First.{class_key, class_most, class_new}
 use Rattle.classes.specs.Bits.{first_of, roots_of, turn_of, bits_of, Roots}
 use Rattle.classes.specs.Classes.{key_at, links_in, root_in, path_of, TwoRows, RowPre, MetAt, FreeAt, SpotIs, NotePre, Repeats, Classes, Known, Noted}
 use Rattle.classes.specs.declared.Rows.{Rows}
-use Rattle.classes.specs.declared.Spot.{Spot}
-use Rattle.classes.specs.declared.Spot.TheVariants.{Met, Free}
+use Rattle.tree.specs.declared.Spot.{Spot}
+use Rattle.tree.specs.declared.Spot.TheVariants.{Taken, Free}
 use Rattle.classes.proofs.Bits.{root_few}
 
 no_zero : {A : Type 0} (a : ℕ) → 0 ≡ suc a → A
@@ -87,7 +87,7 @@ module _ (w : List ℕ) (x : Rows) (i : ℕ) where
         seeking_two = record { rows = p.rows; room = omega (arith, p.room); first = omega (arith, seeking_row, some, p.row); second = p.row }
 
         module _ (t : Bool) (et : t ≡ eq_k (key_at w x (v - 1)) (key_at w x i)) where
-          pub seeking_hit : t ≡ true → SpotIs w x i (Met (v - 1))
+          pub seeking_hit : t ≡ true → SpotIs w x i (Taken (v - 1))
           seeking_hit h = record {
             met = λ k e. let y : v - 1 ≡ k = cc in rw (← y) (record { depth = q.depth; path = here ∙ sym row; few = omega (arith, seeking_row, some); same = eq_k_true _ _ (sym et ∙ h) });
             free = λ a e. let y : ◌≡◌ {A = ℕ} 0 1 = cc in absurd (omega arith);
@@ -209,7 +209,7 @@ module _ (w : List ℕ) (x : Rows) (i last : ℕ) (m : NotePre w x i last) where
       same = s.keys last (omega (arith, p.row, m.before)) ∙ o.same h ∙ sym (s.keys i p.row)
 
   module _ (o : Spot) (s : SpotIs w x i o) where
-    pub note_met : (j : ℕ) → o ≡ Met j → Noted w x i last w j
+    pub note_met : (j : ℕ) → o ≡ Taken j → Noted w x i last w j
     note_met j e = note_old j (omega (arith, c.few)) found where
       c : MetAt w x i j
       c = s.met j e

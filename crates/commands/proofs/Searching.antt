@@ -1,13 +1,17 @@
 -- Searching a table's codes, and comparing names.
+use Rattle.std.specs.Prelude.{Option, Some, None, Result, Ok, Err}
+use Rattle.std.specs.Ordering.{nat_cmp}
+use Rattle.std.specs.List.Sorted.{IsBinarySearchResult}
+use Rattle.std.proofs.lemmas.List.Sorted.{searched}
 use mathlib.Core.Path.{◌≡◌, refl, sym, ◌∙◌}
 use mathlib.Core.Bool.{Bool, true, false, cond}
 use mathlib.Core.List.{List, [], ◌∷◌, ◌++◌, map}
-use Prim.Native.Nat.{ℕ, zero, suc, ◌+◌, ◌-◌, ◌/◌, ◌<◌, ◌≤◌}
+use Prim.Native.Nat.{ℕ, zero, suc, ◌+◌, ◌-◌, ◌<◌, ◌≤◌}
 use native.Mathlib.Omega.{arith}
 use native.Mathlib.Numerals.{add-one}
 use lib.Dec.{ltb, eqb, lit<, lit≤}
-use lib.ListN.{length, get_or, take, drop, get_or-append, drop_of_length-le}
-use lib.Seq.{get_or-append-add, drop-cons}
+use lib.ListN.{length, get_or, take, drop, get_or-append, drop_of_length-le, length-drop}
+use lib.Seq.{get_or-append-add, drop-cons, length-take-le}
 use borrow.Author.Tests.{ltb-true, eq-eqb, ne_eqb, lt-ltb, le-ltb}
 use Rattle.laws.proofs.Choice.{split_b, split≡, split≤, no_way}
 use Rattle.laws.specs.Keys.{eq_k}
@@ -16,8 +20,8 @@ use Rattle.mdr.specs.Types.{kinds}
 use Rattle.commands.specs.Text.{ascii}
 use Rattle.commands.specs.Commands.{Entry, t1, t2, name_in, has_name, is_command_name}
 use Rattle.commands.specs.Labels.{type_name, table_of, command_name}
-use Rattle.commands.specs.Run.{codes_of, names_of, all_codes, commands, others, all_names, name_at, Spot, rising, index_in, spot_in, entries_of}
-use Rattle.commands.specs.declared.Frame.{Frame}
+use Rattle.commands.specs.Run.{codes_of, names_of, all_codes, commands, others, all_names, name_at, Spot, rising, index_in, spot_in, SpotIn, entries_of}
+use Rattle.mdr.specs.declared.Frame.{Frame}
 use Rattle.commands.specs.declared.Table.{Table}
 
 -- ---- a list that passes the test rises everywhere
@@ -54,60 +58,6 @@ unfolding index_in
 index_none b [] f = refl
 index_none b (x ∷ l) f = rw (ne_eqb x b (f 0 (omega arith)), index_none b l (λ k g. f (suc k) (omega arith)))
 
--- ---- halving: what stands before lo is below b, what stands from hi on is not
-
-pub record Searching (l : List ℕ) (b lo hi : ℕ) : Type 0 where
-  pub rises : rising l ≡ true
-  pub order : lo ≤ hi
-  pub within : hi ≤ length l
-  pub below : (k : ℕ) → k < lo → get_or l k 0 < b
-  pub above : (k : ℕ) → hi ≤ k → k < length l → b ≤ get_or l k 0
-
-pub searching_start : (l : List ℕ) (b : ℕ) → rising l ≡ true → Searching l b 0 (length l)
-searching_start l b r = record {
-  rises = r;
-  order = omega arith;
-  within = omega arith;
-  below = λ k h. absurd (omega arith);
-  above = λ k h g. absurd (omega arith);
-}
-
-up : (l : List ℕ) (i j : ℕ) → rising l ≡ true → i ≤ j → j < length l → get_or l i 0 ≤ get_or l j 0
-up l i j r h g = split≡ i j (λ e. rw e (omega arith)) (λ n. omega (arith, rises l i j r (omega arith) g))
-
-module _ (l : List ℕ) (b lo hi : ℕ) (s : Searching l b lo hi) where
-  pub searching_up : lo < hi → get_or l (lo + (hi - lo) / 2) 0 < b → Searching l b (lo + (hi - lo) / 2 + 1) hi
-  searching_up h g = record {
-    rises = s.rises;
-    order = omega arith;
-    within = s.within;
-    below = λ k q. omega (arith, up l k (lo + (hi - lo) / 2) s.rises (omega arith) (omega (arith, s.within)));
-    above = s.above;
-  }
-
-  pub searching_down : lo < hi → b ≤ get_or l (lo + (hi - lo) / 2) 0 → Searching l b lo (lo + (hi - lo) / 2)
-  searching_down h g = record {
-    rises = s.rises;
-    order = omega arith;
-    within = omega (arith, s.within);
-    below = s.below;
-    above = λ k q w. omega (arith, up l (lo + (hi - lo) / 2) k s.rises q w);
-  }
-
-  pub searching_found : hi ≤ lo → lo < length l → get_or l lo 0 ≡ b → lo ≡ index_in b l
-  searching_found h g e = sym (index_found b l lo g (λ k q w. omega (arith, s.below k q)) e)
-
-  pub searching_other : hi ≤ lo → lo < length l → (get_or l lo 0 ≡ b → ⊥) → length l ≡ index_in b l
-  searching_other h g n =
-      sym
-      (index_none b l (λ k q e.
-      split≤ lo k
-      (λ w. split≡ lo k (λ z. n (rw z e)) (λ z. let a : b ≤ get_or l lo 0 = s.above lo h g in omega (arith, rises l lo k s.rises (omega arith) q)))
-      (λ w. omega (arith, s.below k w))))
-
-  pub searching_past : hi ≤ lo → length l ≤ lo → length l ≡ index_in b l
-  searching_past h g = sym (index_none b l (λ k q e. omega (arith, s.below k (omega arith))))
-
 -- ---- the name that a code has
 
 name_found : (es : List Entry) (b : ℕ) → index_in b (codes_of es) < length es → name_in es b ≡ get_or (names_of es) (index_in b (codes_of es)) []
@@ -135,6 +85,10 @@ unknown_spot = record { within = lit< tt; is = refl }
 pub empty_spot : Spot 245 (ascii "NO_COMMAND")
 unfolding name_at all_names commands others type_name t1 t2
 empty_spot = record { within = lit< tt; is = refl }
+
+pub codes_count : length all_codes ≡ 229
+unfolding all_codes t1 t2
+codes_count = refl
 
 pub commands_count : length commands ≡ 229
 unfolding commands t1 t2
@@ -225,6 +179,40 @@ module _ (all : List ℕ) (first count : ℕ) (q : all ≡ all_codes) where
   unfolding spot_in
   spot_none b i e h = let f : i ≡ index_in b (take count (drop first all_codes)) = rw part at e in rw (← f, le-ltb i count h)
 
+up : (l : List ℕ) (i j : ℕ) → rising l ≡ true → i ≤ j → j < length l → get_or l i 0 ≤ get_or l j 0
+up l i j r h g = split≡ i j (λ e. rw e (omega arith)) (λ n. omega (arith, rises l i j r (omega arith) g))
+
+-- what a binary search of that part says
+module _ (all : List ℕ) (first count : ℕ) (q : all ≡ all_codes) (room : first + count ≤ 229) (r : rising (take count (drop first all_codes)) ≡ true) where
+  pub part_fits : first + count ≤ length all
+  part_fits = rw q (omega (arith, codes_count))
+
+  codes : List ℕ
+  codes = take (first + count - first) (drop first all)
+
+  codes_rise : rising codes ≡ true
+  unfolding codes
+  codes_rise = part_rises all first count q r
+
+  codes_long : length codes ≡ count
+  unfolding codes
+  codes_long = length-take-le (first + count - first) (drop first all) (omega (arith, length-drop first all, part_fits)) ∙ omega arith
+
+  module _ (b : ℕ) (o : Result ℕ ℕ) (s : IsBinarySearchResult (λ y. nat_cmp y b) (take (first + count - first) (drop first all)) o) where
+    pub spot_some : (i : ℕ) → o ≡ Ok i → SpotIn first count b (Some (first + i))
+    unfolding codes
+    spot_some i e =
+        let t = rw e at (searched codes b o s (λ i j. up codes i j codes_rise)) in
+        let f : i ≡ index_in b codes = sym (index_found b codes i t.0 (λ k g z. omega (arith, rises codes k i codes_rise g t.0, t.1)) t.1) in
+        record { is = spot_found all first count q b i f (omega (arith, t.0, codes_long)) }
+
+    pub spot_else : (i : ℕ) → o ≡ Err i → SpotIn first count b None
+    unfolding codes
+    spot_else i e =
+        let t = rw e at (searched codes b o s (λ i j. up codes i j codes_rise)) in
+        let f : length codes ≡ index_in b codes = sym (index_none b codes (λ k g z. split≤ i k (λ h. omega (arith, t.2 k h g)) (λ h. omega (arith, t.1 k h)))) in
+        record { is = spot_none all first count q b (length codes) f (omega (arith, codes_long)) }
+
 -- ---- the name of a command
 
 module _ (f : Frame) where
@@ -232,7 +220,7 @@ module _ (f : Frame) where
   unfolding command_name
   command_none h = rw (eq-eqb f.size 0 h) empty_spot
 
-  pub command_some : (t : Table) (r : ℕ) → (f.size ≡ 0 → ⊥) → entries_of t ≡ table_of f.kind → Spot r (name_in (entries_of t) f.first) → Spot r (command_name f)
+  pub command_some : (t : Option Table) (r : ℕ) → (f.size ≡ 0 → ⊥) → entries_of t ≡ table_of f.kind → Spot r (name_in (entries_of t) f.first) → Spot r (command_name f)
   unfolding command_name
   command_some t r h e s = rw (ne_eqb f.size 0 h) (rw e at s)
 

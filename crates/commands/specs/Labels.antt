@@ -5,7 +5,7 @@ use Rattle.mdr.specs.declared.DataType.TheVariants.{Data, Ack, DataMcNo1, DataIc
 use Rattle.mdr.specs.Types.{byte_of}
 use Rattle.commands.specs.Text.{ascii}
 use Rattle.commands.specs.Commands.{Entry, t1, t2, name_in}
-use Rattle.commands.specs.declared.Frame.{Frame}
+use Rattle.mdr.specs.declared.Frame.{Frame}
 
 -- sixteen cases: fifteen values and the rest
 unfoldable pub type_name : DataType → List ℕ

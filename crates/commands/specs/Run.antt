@@ -1,13 +1,12 @@
 -- All names in one run of letters, each with its start and its length: those of both tables, of the types, UNKNOWN and NO_COMMAND.
-use Rattle.std.specs.Prelude.{◌≡◌, Bool, true, false, cond, List, [], ◌∷◌, ◌++◌, map, ℕ, suc, ◌+◌, ◌-◌, ◌<◌, ◌≤◌, leb, ltb, eqb, length, get_or, take, drop}
+use Rattle.std.specs.Prelude.{Option, Some, None, unwrap_or, ◌≡◌, Bool, true, false, cond, List, [], ◌∷◌, ◌++◌, map, ℕ, suc, ◌+◌, ◌<◌, ◌≤◌, leb, ltb, eqb, length, get_or, take, drop}
 use Rattle.laws.specs.Lists.{flat}
 use Rattle.mdr.specs.Types.{kinds}
 use Rattle.commands.specs.Text.{ascii}
 use Rattle.commands.specs.Commands.{Entry, t1, t2}
 use Rattle.commands.specs.Labels.{type_name}
-use Rattle.commands.specs.declared.Place.{Place}
 use Rattle.commands.specs.declared.Table.{Table}
-use Rattle.commands.specs.declared.Table.TheVariants.{One, Two, Neither}
+use Rattle.commands.specs.declared.Table.TheVariants.{One, Two}
 
 abbrev pub codes_of : List Entry → List ℕ
 codes_of es = map (λ (e : Entry). e.code) es
@@ -52,17 +51,10 @@ pub record Spot (i : ℕ) (name : List ℕ) : Type 0 where
   pub within : i < 246
   pub is : name_at i ≡ name
 
--- where a name stands in the run
-pub record PlaceIs (i : ℕ) (p : Place) : Type 0 where
-  pub order : p.start ≤ p.end
-  pub within : p.end ≤ 4406
-  pub spells : take (p.end - p.start) (drop p.start all_letters) ≡ name_at i
-
--- the run of letters with its starts and lengths
-pub record Tables (l s n : List ℕ) : Type 0 where
-  pub letters : l ≡ all_letters
-  pub starts : s ≡ all_starts
-  pub lens : n ≡ all_lens
+-- these letters are the name with a number
+pub record NameIs (i : ℕ) (l : List ℕ) : Type 0 where
+  pub is : l ≡ name_at i
+  pub small : length l ≤ 4406
 
 -- ---- tests that are computed over a whole table
 
@@ -87,7 +79,11 @@ index_in b (x ∷ l) = cond (eqb x b) 0 (suc (index_in b l))
 unfoldable pub spot_in : ℕ → ℕ → ℕ → ℕ
 spot_in first count b = let i = index_in b (take count (drop first all_codes)) in cond (ltb i count) (first + i) 244
 
-abbrev pub entries_of : Table → List Entry
-entries_of One = t1
-entries_of Two = t2
-entries_of Neither = []
+-- as the code has it
+pub record SpotIn (first count b : ℕ) (r : Option ℕ) : Type 0 where
+  pub is : unwrap_or r 244 ≡ spot_in first count b
+
+abbrev pub entries_of : Option Table → List Entry
+entries_of (Some One) = t1
+entries_of (Some Two) = t2
+entries_of None = []

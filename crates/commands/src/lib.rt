@@ -4,25 +4,15 @@
 ghost use Rattle.std.specs.Prelude.{◌≡◌, true, ◌+◌, ◌≤◌, ◌<◌, length, take, drop};
 ghost use Rattle.laws.specs.Keys.{eq_k};
 ghost use Rattle.laws.specs.Stores.{Writes};
-ghost use Rattle.commands.specs.Run.{all_letters, all_starts, all_lens, all_codes, name_at, Spot, PlaceIs, Tables, rising, index_in, spot_in, entries_of};
+ghost use Rattle.commands.specs.Run.{all_letters, all_starts, all_lens, all_codes, name_at, Spot, NameIs, rising, SpotIn, entries_of};
 ghost use Rattle.commands.specs.Commands.{name_in, is_command_name};
 ghost use Rattle.commands.specs.Labels.{type_name, table_of, command_name};
 
-use mdr::DataType;
-
-// What a look at a frame tells: its type byte, its sequence number, its payload's length, and the payload's first byte,
-// 0 if it has none.
-#[derive(Clone, Copy)]
-pub struct Frame {
-    pub kind: u8,
-    pub seq: u8,
-    pub size: usize,
-    pub first: u8,
-}
+use mdr::{DataType, Frame};
 
 // ---- all names in one run of letters: those of table 1, of table 2, of the types, UNKNOWN and NO_COMMAND
 
-const LETTERS: [u8; 4406] = *b"\
+static LETTERS: [u8; 4406] = *b"\
     CONNECT_GET_PROTOCOL_INFOCONNECT_RET_PROTOCOL_INFOCONNECT_GET_CAPABILITY_INFOCONNECT_RET_CAPABILITY_INFO\
     CONNECT_GET_DEVICE_INFOCONNECT_RET_DEVICE_INFOCONNECT_GET_SUPPORT_FUNCTIONCONNECT_RET_SUPPORT_FUNCTION\
     GET_TESTCOMMON_GET_CAPABILITYCOMMON_RET_CAPABILITYCOMMON_GET_STATUSCOMMON_RET_STATUSCOMMON_NTFY_STATUS\
@@ -70,7 +60,7 @@ const LETTERS: [u8; 4406] = *b"\
     DATAACKDATA_MC_NO1DATA_ICDDATA_EVDATA_MDRDATA_COMMONDATA_MDR_NO2SHOTSHOT_MC_NO1SHOT_ICDSHOT_EVSHOT_MDR\
     SHOT_COMMONSHOT_MDR_NO2UNKNOWNNO_COMMAND";
 
-const STARTS: [u16; 246] = [
+static STARTS: [u16; 246] = [
     0, 25, 50, 77, 104, 127, 150, 178, 206, 214, 235, 256, 273, 290, 308, 324, 341, 361, 381, 397,
     413, 429, 446, 461, 476, 491, 507, 526, 545, 560, 575, 590, 606, 620, 634, 648, 663, 681, 698,
     716, 734, 748, 762, 777, 790, 803, 816, 830, 852, 874, 896, 919, 939, 959, 975, 991, 1008,
@@ -88,7 +78,8 @@ const STARTS: [u16; 246] = [
     4290, 4297, 4305, 4316, 4328, 4332, 4343, 4351, 4358, 4366, 4377, 4389, 4396,
 ];
 
-const LENS: [u8; 246] = *b"\
+// Stays: apart, starts and lengths take 738 bytes; an array of structs would take 984.
+static LENS: [u8; 246] = *b"\
     \x19\x19\x1B\x1B\x17\x17\x1C\x1C\x08\x15\x15\x11\x11\x12\x10\x11\x14\x14\x10\x10\x10\x11\x0F\x0F\
     \x0F\x10\x13\x13\x0F\x0F\x0F\x10\x0E\x0E\x0E\x0F\x12\x11\x12\x12\x0E\x0E\x0F\x0D\x0D\x0D\x0E\x16\
     \x16\x16\x17\x14\x14\x10\x10\x11\x0F\x0F\x0F\x10\x17\x17\x14\x14\x10\x10\x10\x11\x0F\x0F\x0F\x10\
@@ -102,7 +93,7 @@ const LENS: [u8; 246] = *b"\
     \x07\x08\x0B\x0C\x07\x0A";
 
 // The codes of table 1, then those of table 2.
-const CODES: [u8; 229] = *b"\
+static CODES: [u8; 229] = *b"\
     \x00\x01\x02\x03\x04\x05\x06\x07\x0F\x10\x11\x12\x13\x15\x18\x19\x20\x21\x22\x23\x24\x25\x26\x27\
     \x28\x29\x30\x31\x32\x33\x34\x35\x36\x37\x38\x39\x3E\x3F\x40\x41\x42\x43\x45\x46\x47\x48\x49\x4A\
     \x4B\x4C\x4D\x50\x51\x52\x53\x55\x56\x57\x58\x59\x5A\x5B\x60\x61\x62\x63\x64\x65\x66\x67\x68\x69\
@@ -114,65 +105,44 @@ const CODES: [u8; 229] = *b"\
     \x5A\x5B\x60\x61\x62\x63\x65\x66\x67\x68\x69\x70\x71\x72\x73\x74\x75\x76\x77\x78\x79\x7C\xF0\xF1\
     \xF2\xF3\xF4\xF5\xF6\xF7\xF8\xF9\xFA\xFB\xFC\xFD\xFF";
 
-fn all_letters() -> [u8; 4406]
-    ensures { result ≡ all_letters }
+fn all_letters() -> &'static [u8]
+    ensures { result.now ≡ all_letters }
 {
-    LETTERS
+    &LETTERS
 }
 
-fn all_starts() -> [u16; 246]
-    ensures { result ≡ all_starts }
+fn all_starts() -> &'static [u16]
+    ensures { result.now ≡ all_starts }
 {
-    STARTS
+    &STARTS
 }
 
-fn all_lens() -> [u8; 246]
-    ensures { result ≡ all_lens }
+fn all_lens() -> &'static [u8]
+    ensures { result.now ≡ all_lens }
 {
-    LENS
+    &LENS
 }
 
-fn all_codes() -> [u8; 229]
-    ensures { result ≡ all_codes }
+fn all_codes() -> &'static [u8]
+    ensures { result.now ≡ all_codes }
 {
-    CODES
+    &CODES
 }
 
-// ---- the place of a name in the run
+// ---- the name with a number
 
-fn wide16(x: u16) -> usize
-    ensures { (result ≡ x) × (result < 65536) }
-{
-    x as usize
-}
+// The numbers of UNKNOWN and of NO_COMMAND.
+const UNKNOWN: usize = 244;
 
-#[derive(Clone, Copy)]
-struct Place {
-    start: usize,
-    end: usize,
-}
+const NO_COMMAND: usize = 245;
 
-// Where the name with a number stands.
-fn place_in(starts: &[u16], lens: &[u8], i: usize) -> Place
-    requires starts_value { (starts.now ≡ all_starts) × (lens.now ≡ all_lens) }
-    requires i_bound { i < 246 }
-    ensures { PlaceIs i result }
-{
-    let start = wide16(starts[i]);
-    let size = words::wide(lens[i]);
-    Place {
-        start: start,
-        end: start + size,
-    }
-}
-
-fn place_of(i: usize) -> Place
+fn name_of(i: usize) -> &'static [u8]
     requires { i < 246 }
-    ensures { PlaceIs i result }
+    ensures { NameIs i result.now }
 {
-    let starts = all_starts();
-    let lens = all_lens();
-    place_in(&starts, &lens, i)
+    let start = all_starts()[i] as usize;
+    let end = start + all_lens()[i] as usize;
+    &all_letters()[start..end]
 }
 
 // How long the name with a number is.
@@ -180,8 +150,7 @@ pub fn name_len(i: usize) -> usize
     requires { i < 246 }
     ensures { (result ≡ length (name_at i)) × (result ≤ 4406) }
 {
-    let p = place_of(i);
-    p.end - p.start
+    name_of(i).len()
 }
 
 // Writes the name with a number at a place, and returns the place after it.
@@ -190,91 +159,56 @@ pub fn put_name(out: &mut [u8], at: usize, i: usize) -> usize
     requires i_in_bounds { at + length (name_at i) ≤ length out.old }
     ensures { Writes out.old at (name_at i) result out.new }
 {
-    let p = place_of(i);
-    let start = p.start;
-    let end = p.end;
-    let all = all_letters();
-    words::copy_to(&all[start..end], out, at)
+    words::copy_to(name_of(i), out, at)
 }
 
 // Whether the name with a number is this one.
-fn is_name(letters: &[u8], starts: &[u16], lens: &[u8], i: usize, name: &[u8]) -> bool
-    requires tables { Tables letters.now starts.now lens.now }
-    requires i_bound { i < 246 }
+fn is_name(i: usize, name: &[u8]) -> bool
+    requires { i < 246 }
     ensures { result ≡ eq_k (name_at i) name.now }
 {
-    let p = place_in(starts, lens, i);
-    let start = p.start;
-    let end = p.end;
-    words::same(&letters[start..end], name)
+    words::same(name_of(i), name)
 }
 
 // ---- the number of a name
 
-// The place of a byte among rising codes, or their number.
-fn find(codes: &[u8], b: u8) -> usize
-    requires { rising codes.now ≡ true }
-    ensures { result ≡ index_in b codes.now }
-{
-    let mut lo = 0;
-    let mut hi = codes.len();
-    while lo < hi {
-        let mid = lo + (hi - lo) / 2;
-        if codes[mid] < b {
-            lo = mid + 1;
-        } else {
-            hi = mid;
-        }
-    }
-    if lo < codes.len() {
-        if codes[lo] == b {
-            return lo;
-        }
-    }
-    codes.len()
-}
-
-fn find_in(first: usize, count: usize, b: u8) -> usize
+// The number of a byte's name, where a table's codes and names stand from a place on.
+fn find_in(first: usize, count: usize, b: u8) -> Option<usize>
     requires count_bound { first + count ≤ 229 }
     requires all_codes_value { rising (take count (drop first all_codes)) ≡ true }
-    ensures { result ≡ spot_in first count b }
+    ensures { SpotIn first count b result }
 {
-    let all = all_codes();
-    let end = first + count;
-    let i = find(&all[first..end], b);
-    if i < count {
-        return first + i;
+    let codes = &all_codes()[first..first + count];
+    match codes.binary_search(&b) {
+        Ok(i) => Some(first + i),
+        Err(_) => None,
     }
-    244
 }
 
-// The table that a type selects.
 #[derive(Clone, Copy)]
 enum Table {
     One,
     Two,
-    Neither,
 }
 
-fn table_of(kind: u8) -> Table
+// The table that a type selects.
+#[tactic(auto, unfolding(crate::specs::Labels::table_of))]
+fn table_of(kind: u8) -> Option<Table>
     ensures { entries_of result ≡ table_of kind }
 {
-    if kind == 0x0C {
-        return Table::One;
+    match kind {
+        0x0C => Some(Table::One),
+        0x0E => Some(Table::Two),
+        _ => None,
     }
-    if kind == 0x0E {
-        return Table::Two;
-    }
-    Table::Neither
 }
 
 fn command_in(table: Table, b: u8) -> usize
-    ensures { Spot result (name_in (entries_of table) b) }
+    ensures { Spot result (name_in (entries_of (Some table)) b) }
 {
     match table {
-        Table::One => find_in(0, 152, b),
-        Table::Two => find_in(152, 77, b),
-        Table::Neither => 244,
+        Table::One => find_in(0, 152, b).unwrap_or(UNKNOWN),
+        Table::Two => find_in(152, 77, b).unwrap_or(UNKNOWN),
     }
 }
 
@@ -283,45 +217,32 @@ pub fn command_name(f: Frame) -> usize
     ensures { Spot result (command_name f) }
 {
     if f.size == 0 {
-        return 245;
+        return NO_COMMAND;
     }
-    let table = table_of(f.kind);
-    command_in(table, f.first)
+    match table_of(f.kind) {
+        Some(table) => command_in(table, f.first),
+        None => UNKNOWN,
+    }
 }
 
 // Whether the command of a frame has this name.
+// Stays: letters answers this and is_command_name too, from fewer bytes; one of the two crates serves the calls at a time.
 pub fn is_command(f: Frame, name: &[u8]) -> bool
     ensures { result ≡ eq_k (command_name f) name.now }
 {
-    let i = command_name(f);
-    let letters = all_letters();
-    let starts = all_starts();
-    let lens = all_lens();
-    is_name(&letters, &starts, &lens, i, name)
-}
-
-fn any_name(letters: &[u8], starts: &[u16], lens: &[u8], name: &[u8]) -> bool
-    requires { Tables letters.now starts.now lens.now }
-    ensures { result ≡ is_command_name name.now }
-{
-    let mut i = 0;
-    while i < 229 {
-        if is_name(letters, starts, lens, i, name) {
-            return true;
-        }
-        i += 1;
-    }
-    false
+    is_name(command_name(f), name)
 }
 
 // Whether either table has this name.
 pub fn is_command_name(name: &[u8]) -> bool
     ensures { result ≡ is_command_name name.now }
 {
-    let letters = all_letters();
-    let starts = all_starts();
-    let lens = all_lens();
-    any_name(&letters, &starts, &lens, name)
+    for i in 0..229 {
+        if is_name(i, name) {
+            return true;
+        }
+    }
+    false
 }
 
 // The number of the name of a type.
@@ -344,6 +265,6 @@ pub fn data_type_name(t: DataType) -> usize
         DataType::ShotMdr => 241,
         DataType::ShotCommon => 242,
         DataType::ShotMdrNo2 => 243,
-        DataType::Unknown(_) => 244,
+        DataType::Unknown(_) => UNKNOWN,
     }
 }

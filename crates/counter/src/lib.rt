@@ -1,104 +1,74 @@
 // The counter that a fixture name carries, as a rank: no counter comes before the counter 0.
 #![tactic(auto)]
 
-ghost use Rattle.std.specs.Prelude.{◌≡◌, ◌≤◌, length, take, drop};
-ghost use Rattle.laws.specs.Keys.{eq_k};
-ghost use Rattle.counter.specs.Counter.{mark, to_hyphen, digits, number, signed, within, counter, rank};
-ghost use Rattle.counter.specs.Steps.{After};
+ghost use Rattle.std.specs.Prelude.{◌≡◌};
+ghost use Rattle.counter.specs.Counter.{after_hyphen, to_hyphen, digits, number, signed, within, counter, rank};
 
 use search::find_near;
-use words::{get_le32, wide};
+use words::same;
 
-// Whether a name begins with `mdr-packet-`.
-fn is_marked(s: &[u8]) -> bool
-    ensures { result ≡ eq_k (take 11 s.now) mark }
+// What follows the first hyphen, nothing if there is none.
+fn after_hyphen(s: &[u8]) -> &[u8]
+    ensures { result.now ≡ after_hyphen s.now }
 {
-    if s.len() < 11 {
-        return false;
-    }
-    if get_le32(s, 0) != 0x2D72646D {
-        return false;
-    }
-    if get_le32(s, 4) != 0x6B636170 {
-        return false;
-    }
-    get_le32(s, 7) == 0x2D74656B
+    let at = find_near(s, 0, b'-');
+    if at < s.len() { &s[at + 1..] } else { &s[at..] }
 }
 
-// The place after the first hyphen from a place on, or the end.
-fn after_hyphen(s: &[u8], start: usize) -> usize
-    requires { start ≤ length s.now }
-    ensures { After s.now start result }
+// The number that the digits before the first hyphen make, if nothing else stands there and it is not too large.
+fn read_digits(s: &[u8]) -> Option<u32>
+    ensures { result ≡ within (digits 0 (to_hyphen s.now)) }
 {
-    let at = find_near(s, start, b'-');
-    if at < s.len() {
-        return at + 1;
+    let mut v: u64 = 0;
+    for &b in s {
+        match b {
+            b'-' => return Some(v as u32),
+            b'0'..=b'9' => v = 10 * v + u64::from(b - b'0'),
+            _ => return None,
+        }
+        if u64::from(u32::MAX) < v {
+            return None;
+        }
     }
-    at
+    Some(v as u32)
 }
 
-// The digits from a place to the next hyphen or the end: one more than their number, 0 if it is none or too large.
-fn read_digits(s: &[u8], start: usize) -> usize
-    requires { start ≤ length s.now }
-    ensures { result ≡ rank (within (digits 0 (to_hyphen (drop start s.now)))) }
+// The same, of at least one digit.
+fn read_number(s: &[u8]) -> Option<u32>
+    ensures { result ≡ within (number (to_hyphen s.now)) }
 {
-    let mut v = 0;
-    let mut i = start;
-    while i < s.len() {
-        let b = wide(s[i]);
-        if b == 45 {
-            return v + 1;
-        }
-        if b < 48 {
-            return 0;
-        }
-        if 57 < b {
-            return 0;
-        }
-        v = 10 * v + (b - 48);
-        if 4294967295 < v {
-            return 0;
-        }
-        i += 1;
+    match s {
+        [] | [b'-', ..] => None,
+        _ => read_digits(s),
     }
-    v + 1
-}
-
-// The same, and 0 without a digit.
-fn read_number(s: &[u8], start: usize) -> usize
-    requires { start ≤ length s.now }
-    ensures { result ≡ rank (within (number (to_hyphen (drop start s.now)))) }
-{
-    if s.len() <= start {
-        return 0;
-    }
-    if s[start] == b'-' {
-        return 0;
-    }
-    read_digits(s, start)
 }
 
 // The same, where a plus sign may stand first.
-fn read_signed(s: &[u8], start: usize) -> usize
-    requires { start ≤ length s.now }
-    ensures { result ≡ rank (within (signed (to_hyphen (drop start s.now)))) }
+fn read_signed(s: &[u8]) -> Option<u32>
+    ensures { result ≡ within (signed (to_hyphen s.now)) }
 {
-    if s.len() <= start {
-        return 0;
+    match s {
+        [] => None,
+        [b'+', rest @ ..] => read_number(rest),
+        _ => read_number(s),
     }
-    if s[start] == b'+' {
-        return read_number(s, start + 1);
+}
+
+// A name's counter.
+fn counter_of(name: &[u8]) -> Option<u32>
+    ensures { result ≡ counter name.now }
+{
+    let (mark, parts) = name.split_at_checked(11)?;
+    if same(mark, b"mdr-packet-") {
+        return read_signed(after_hyphen(parts));
     }
-    read_number(s, start)
+    None
 }
 
 // The rank of a name's counter.
+#[tactic(auto, unfolding(crate::specs::Counter::rank))]
 pub fn rank_of(name: &[u8]) -> usize
     ensures { result ≡ rank (counter name.now) }
 {
-    if is_marked(name) {
-        let at = after_hyphen(name, 11);
-        return read_signed(name, at);
-    }
-    0
+    counter_of(name).map_or(0, |v| v as usize + 1)
 }

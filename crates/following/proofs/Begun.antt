@@ -1,4 +1,5 @@
 -- What is open with the place where it began, as the rows have it: a step of reassembly is a step of the machine.
+use Rattle.std.specs.Prelude.{Option as Maybe, Some, None}
 use Prim.Native.Nat.{ℕ, ◌+◌, ◌*◌}
 use mathlib.Core.Path.{◌≡◌, refl, sym, ap, ◌∙◌}
 use mathlib.Core.Bool.{Bool, true, false, cond}
@@ -14,18 +15,17 @@ use Rattle.packets.specs.PacketTable.{packet_at}
 use Rattle.fragments.specs.Bytes.{number_of}
 use Rattle.fragments.proofs.Walking.{number_at}
 use Rattle.l2cap.specs.Pdus.{still_open}
-use Rattle.l2cap.specs.Steps.{open_at, longer, grown, next_at, held_of, map_of, after, Stepped}
+use Rattle.l2cap.specs.Steps.{open_from, open_at, longer, grown, next_at, held_of, map_of, after, Stepped}
 use Rattle.l2cap.specs.declared.Open.{Open}
-use Rattle.l2cap.specs.declared.Open.TheVariants.{Closed, From}
 use Rattle.l2cap.specs.declared.Tables.{Tables}
 use Rattle.signs.specs.Places.{Placed}
 use Rattle.signs.specs.Partial.{Begun, bytes_of, place_of, begun_at, goes_on}
 use Rattle.signs.specs.Following.{place_at, begun_place, open_place}
 
 -- where it began; 0 if nothing is open
-unfoldable pub began_of : List (Placed Packet) → Open → ℕ
-began_of ps Closed = 0
-began_of ps (From a g) = place_at ps a
+unfoldable pub began_of : List (Placed Packet) → Maybe Open → ℕ
+began_of ps None = 0
+began_of ps (Some pdu) = place_at ps pdu.first
 
 -- the state of a key, given as one number, with i packets read
 unfoldable pub begun_in : List ℕ → List ℕ → ℕ → ℕ → List (Placed Packet) → ℕ → ℕ → Begun
@@ -37,15 +37,15 @@ bytes_begun at none = refl
 bytes_begun at (some b) = refl
 
 module _ (f w : List ℕ) (ps : List (Placed Packet)) (k i : ℕ) where
-  place_begun : (o : Open) → place_of (begun_at (began_of ps o) (held_of f w k i o)) ≡ began_of ps o
+  place_begun : (o : Maybe Open) → place_of (begun_at (began_of ps o) (held_of f w k i o)) ≡ began_of ps o
   unfolding place_of begun_at began_of held_of
-  place_begun Closed = refl
-  place_begun (From a g) = refl
+  place_begun None = refl
+  place_begun (Some pdu) = refl
 
-  pub begun_place_law : (o : Open) → open_place ps o ≡ begun_place (begun_at (began_of ps o) (held_of f w k i o))
+  pub begun_place_law : (o : Maybe Open) → open_place ps o ≡ begun_place (begun_at (began_of ps o) (held_of f w k i o))
   unfolding open_place begun_at began_of held_of
-  begun_place_law Closed = refl
-  begun_place_law (From a g) = refl
+  begun_place_law None = refl
+  begun_place_law (Some pdu) = refl
 
 module _ (f w : List ℕ) (b live : ℕ) (ps : List (Placed Packet)) (i k : ℕ) where
   place_in : place_of (begun_in f w b live ps i k) ≡ began_of ps (open_at w b live k)
@@ -57,13 +57,13 @@ module _ (f w : List ℕ) (b live : ℕ) (ps : List (Placed Packet)) (i k : ℕ)
   bytes_in_law = bytes_begun (began_of ps (open_at w b live k)) (map_of f w b live i k)
 
 -- a start begins anew, a continuation where it was
-began_grown : (ps : List (Placed Packet)) (start i n : ℕ) (o : Open) → began_of ps (grown start o i n) ≡ cond (eqb start 1) (place_at ps i) (began_of ps o)
+began_grown : (ps : List (Placed Packet)) (start i n : ℕ) (o : Maybe Open) → began_of ps (grown start o i n) ≡ cond (eqb start 1) (place_at ps i) (began_of ps o)
 unfolding grown began_of longer
 began_grown ps start i n o = go (eqb start 1) o where
-  go : (t : Bool) (x : Open) → began_of ps (cond t (From i n) (longer x n)) ≡ cond t (place_at ps i) (began_of ps x)
+  go : (t : Bool) (x : Maybe Open) → began_of ps (cond t (open_from i n) (longer x n)) ≡ cond t (place_at ps i) (began_of ps x)
   go true x = refl
-  go false Closed = refl
-  go false (From a g) = refl
+  go false None = refl
+  go false (Some pdu) = refl
 
 pub start_is : (f w : List ℕ) (i : ℕ) → (packet_at f w i).start ≡ eqb (word w (6 * i + 1)) 1
 unfolding packet_at
@@ -90,7 +90,7 @@ module _
       began_grown ps (word w (6 * i + 1)) i (word w (6 * i + 3)) (open_at w (3 * q) t.live (word w (6 * i)))
       ∙ rw (here, is, start_is f w i)
 
-  held_none : open_at u (3 * q) r.live (word w (6 * i)) ≡ Closed → map_of f u (3 * q) r.live (i + 1) (word w (6 * i)) ≡ none
+  held_none : open_at u (3 * q) r.live (word w (6 * i)) ≡ None → map_of f u (3 * q) r.live (i + 1) (word w (6 * i)) ≡ none
   unfolding map_of held_of
   held_none e = rw e
 

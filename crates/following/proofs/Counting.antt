@@ -1,4 +1,5 @@
 -- A sign counted while packets are read.
+use Rattle.std.specs.Prelude.{Option, Some, None}
 use Prim.Native.Nat.{ℕ, ◌+◌, ◌≤◌}
 use mathlib.Core.Path.{◌≡◌, refl}
 use mathlib.Core.Bool.{Bool, true, false, cond}
@@ -9,7 +10,6 @@ use Rattle.laws.specs.Keyed.{step, run}
 use Rattle.container.specs.Packets.{Packet}
 use Rattle.l2cap.specs.Steps.{held_of}
 use Rattle.l2cap.specs.declared.Open.{Open}
-use Rattle.l2cap.specs.declared.Open.TheVariants.{Closed, From}
 use Rattle.signs.specs.Places.{Placed}
 use Rattle.signs.specs.Partial.{Begun, begun_at, placed_key, following, nothing, stray_out, given_up_out}
 use Rattle.signs.specs.Counting.{Counted, noted}
@@ -49,16 +49,16 @@ module _ (out : Begun → Placed Packet → List ℕ) (ps : List (Placed Packet)
 -- what a packet shows, counted as the machines say it
 module _ (f w : List ℕ) (ps : List (Placed Packet)) (k i : ℕ) (g : Partial) (a : Placed Packet) where
   pub stray_counted :
-      (o : Open) (ats : List ℕ) → Counted ats g.stray →
+      (o : Option Open) (ats : List ℕ) → Counted ats g.stray →
       Counted (ats ++ stray_out (begun_at (began_of ps o) (held_of f w k i o)) a) (shown_by o a.is.start a.at g).stray
   unfolding stray_out begun_at held_of shown_by
-  stray_counted Closed ats c = go a.is.start where
+  stray_counted None ats c = go a.is.start where
     go :
         (t : Bool) →
         Counted (ats ++ cond t [] (a.at ∷ [])) (cond {A = Partial} t g (record { stray = noted g.stray 1 a.at; given_up = g.given_up })).stray
     go true = rw append-nil c
     go false = counted_one g.stray ats a.at c
-  stray_counted (From x y) ats c = go a.is.start where
+  stray_counted (Some pdu) ats c = go a.is.start where
     go :
         (t : Bool) →
         Counted (ats ++ []) (cond {A = Partial} t (record { stray = g.stray; given_up = noted g.given_up 1 a.at }) g).stray
@@ -66,16 +66,16 @@ module _ (f w : List ℕ) (ps : List (Placed Packet)) (k i : ℕ) (g : Partial) 
     go false = rw append-nil c
 
   pub given_counted :
-      (o : Open) (ats : List ℕ) → Counted ats g.given_up →
+      (o : Option Open) (ats : List ℕ) → Counted ats g.given_up →
       Counted (ats ++ given_up_out (begun_at (began_of ps o) (held_of f w k i o)) a) (shown_by o a.is.start a.at g).given_up
   unfolding given_up_out begun_at held_of shown_by
-  given_counted Closed ats c = go a.is.start where
+  given_counted None ats c = go a.is.start where
     go :
         (t : Bool) →
         Counted (ats ++ []) (cond {A = Partial} t g (record { stray = noted g.stray 1 a.at; given_up = g.given_up })).given_up
     go true = rw append-nil c
     go false = rw append-nil c
-  given_counted (From x y) ats c = go a.is.start where
+  given_counted (Some pdu) ats c = go a.is.start where
     go :
         (t : Bool) →
         Counted (ats ++ cond t (a.at ∷ []) []) (cond {A = Partial} t (record { stray = g.stray; given_up = noted g.given_up 1 a.at }) g).given_up
@@ -84,10 +84,10 @@ module _ (f w : List ℕ) (ps : List (Placed Packet)) (k i : ℕ) (g : Partial) 
 
 -- a packet shows a sign once at most
 pub shown_few :
-    (o : Open) (t : Bool) (at : ℕ) (g : Partial) →
+    (o : Option Open) (t : Bool) (at : ℕ) (g : Partial) →
     ((shown_by o t at g).stray.many ≤ g.stray.many + 1) × ((shown_by o t at g).given_up.many ≤ g.given_up.many + 1)
 unfolding shown_by noted
-shown_few Closed true at g = (omega arith, omega arith)
-shown_few Closed false at g = (omega arith, omega arith)
-shown_few (From x y) true at g = (omega arith, omega arith)
-shown_few (From x y) false at g = (omega arith, omega arith)
+shown_few None true at g = (omega arith, omega arith)
+shown_few None false at g = (omega arith, omega arith)
+shown_few (Some pdu) true at g = (omega arith, omega arith)
+shown_few (Some pdu) false at g = (omega arith, omega arith)

@@ -1,4 +1,5 @@
 -- Some packets are read, and the others are still to come.
+use Rattle.std.specs.Prelude.{Option}
 use Prim.Native.Nat.{ℕ, suc, ◌+◌, ◌-◌, ◌*◌, ◌%◌, ◌<◌, ◌≤◌}
 use mathlib.Core.Path.{◌≡◌, sym, ap, ◌∙◌}
 use mathlib.Core.List.{List, ◌∷◌, head_d, tail, map}
@@ -77,7 +78,7 @@ module _
   }
 
   -- what is open before it, by its row and by the machine
-  abbrev was : Open
+  abbrev was : Option Open
   was = open_at w (3 * q) s.tables.live (word w (6 * s.count))
 
   turn_open : open_in w (row_at w q s.count) ≡ was

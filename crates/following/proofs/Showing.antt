@@ -1,11 +1,11 @@
 -- What the functions on one packet and on one record return.
+use Rattle.std.specs.Prelude.{Option, Some, None}
 use Prim.Native.Nat.{ℕ, ◌+◌, ◌*◌}
 use mathlib.Core.Path.{◌≡◌, refl, sym, ◌∙◌}
 use mathlib.Core.Bool.{Bool, true, false}
 use mathlib.Core.List.{List}
 use native.Mathlib.Omega.{arith}
 use lib.Dec.{eqb}
-use borrow.Author.Tests.{eq-eqb, ne_eqb}
 use Rattle.laws.proofs.Choice.{no_way}
 use Rattle.words.specs.Words.{word}
 use Rattle.acl.specs.Reading.{between}
@@ -13,7 +13,6 @@ use Rattle.trace.specs.Formats.{packet_by}
 use Rattle.trace.specs.declared.Format.{Format}
 use Rattle.l2cap.specs.Steps.{row_at, open_in, Ran}
 use Rattle.l2cap.specs.declared.Open.{Open}
-use Rattle.l2cap.specs.declared.Open.TheVariants.{Closed, From}
 use Rattle.l2cap.specs.declared.Tables.{Tables}
 use Rattle.l2cap.proofs.Stepping.{step_row, at_room}
 use Rattle.l2cap.proofs.Ranges.{ran_one}
@@ -29,29 +28,29 @@ use Rattle.following.specs.declared.Pass.{Pass}
 
 module _
     (w : List ℕ) (q i at : ℕ) (g : Partial) (start : ℕ) (se : start ≡ word w (6 * i + 1))
-    (row : ℕ) (re : row ≡ row_at w q i) (o : Open) (oe : o ≡ open_in w row) where
+    (row : ℕ) (re : row ≡ row_at w q i) (o : Option Open) (oe : o ≡ open_in w row) where
   was : open_in w (row_at w q i) ≡ o
   was = rw (← re) (sym oe)
 
-  pub show_start : o ≡ Closed → start ≡ 1 → g ≡ shown_by (open_in w (row_at w q i)) (eqb (word w (6 * i + 1)) 1) at g
+  pub show_start : o ≡ None → eqb start 1 ≡ true → g ≡ shown_by (open_in w (row_at w q i)) (eqb (word w (6 * i + 1)) 1) at g
   unfolding shown_by
-  show_start c s = rw (was, c, ← se, eq-eqb start 1 s)
+  show_start c s = rw (was, c, ← se, s)
 
   pub show_stray :
-      o ≡ Closed → (start ≡ 1 → ⊥) → (x : Gap) → x ≡ noted g.stray 1 at →
+      o ≡ None → eqb start 1 ≡ false → (x : Gap) → x ≡ noted g.stray 1 at →
       record { stray = x; given_up = g.given_up } ≡ shown_by (open_in w (row_at w q i)) (eqb (word w (6 * i + 1)) 1) at g
   unfolding shown_by
-  show_stray c s x e = rw (was, c, ← se, ne_eqb start 1 s, e)
+  show_stray c s x e = rw (was, c, ← se, s, e)
 
   pub show_given :
-      (a n : ℕ) → o ≡ From a n → start ≡ 1 → (x : Gap) → x ≡ noted g.given_up 1 at →
+      (pdu : Open) → o ≡ Some pdu → eqb start 1 ≡ true → (x : Gap) → x ≡ noted g.given_up 1 at →
       record { stray = g.stray; given_up = x } ≡ shown_by (open_in w (row_at w q i)) (eqb (word w (6 * i + 1)) 1) at g
   unfolding shown_by
-  show_given a n c s x e = rw (was, c, ← se, eq-eqb start 1 s, e)
+  show_given pdu c s x e = rw (was, c, ← se, s, e)
 
-  pub show_more : (a n : ℕ) → o ≡ From a n → (start ≡ 1 → ⊥) → g ≡ shown_by (open_in w (row_at w q i)) (eqb (word w (6 * i + 1)) 1) at g
+  pub show_more : (pdu : Open) → o ≡ Some pdu → eqb start 1 ≡ false → g ≡ shown_by (open_in w (row_at w q i)) (eqb (word w (6 * i + 1)) 1) at g
   unfolding shown_by
-  show_more a n c s = rw (was, c, ← se, ne_eqb start 1 s)
+  show_more pdu c s = rw (was, c, ← se, s)
 
 -- ---- one packet
 

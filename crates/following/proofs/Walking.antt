@@ -20,19 +20,18 @@ use Rattle.trace.specs.declared.Format.{Format}
 use Rattle.packets.specs.PacketTable.{packet_at, packets_from, Read}
 use Rattle.packets.proofs.PacketFrames.{packets_next, packets_front}
 use Rattle.trace.specs.declared.Step.{Step}
-use Rattle.trace.specs.declared.Step.TheVariants.{Record, Cut, End}
+use Rattle.trace.specs.declared.Step.TheVariants.{Record}
 use Rattle.fragments.specs.Bytes.{number_of}
 use Rattle.fragments.specs.Links.{LinkedTo}
 use Rattle.fragments.proofs.Walking.{number_at}
 use Rattle.l2cap.specs.Pdus.{packet_key}
-use Rattle.l2cap.specs.Steps.{open_at, open_in, row_at, held_of, map_of}
-use Rattle.l2cap.specs.declared.Open.TheVariants.{From}
+use Rattle.l2cap.specs.Steps.{open_from, open_at, open_in, row_at, held_of, map_of}
 use Rattle.l2cap.proofs.Running.{Fresh, going_start, going_low, going_row, going_room, going_open, run_closed, link_fresh}
 use Rattle.signs.specs.Places.{Placed, placed_packet, placed_packets, packets_at}
 use Rattle.signs.specs.Recorded.{is_none}
 use Rattle.signs.specs.Partial.{Begun, begun_at, nothing, stray_out, strays, given_up_out, given_up, at_end}
 use Rattle.signs.specs.Following.{Followed, begun_place, open_place}
-use Rattle.signs.proofs.Places.{rest_at, packets_start, file_packets, rest_packets, found_record, found_cut, found_end}
+use Rattle.signs.proofs.Places.{rest_at, packets_start, file_packets, rest_packets, found_record, found_none}
 use Rattle.signs.proofs.Counting.{counted_gap}
 use Rattle.following.specs.Passing.{RecordTurn, RecordTurned, first_pass, FollowedTo}
 use Rattle.following.specs.declared.Pass.{Pass}
@@ -157,7 +156,7 @@ module _ (g : Format) (f w₀ : List ℕ) (q count : ℕ) (w : List ℕ) (s : Pa
           number_at f w j,
         ) (begun_place_law f w (packets_at g f) (word w (6 * j)) s.count (open_at w (3 * q) s.tables.live (word w (6 * j))))
 
-    end_known : (a n : ℕ) → open_in w (row_at w q j) ≡ From a n → a < count
+    end_known : (a n : ℕ) → open_in w (row_at w q j) ≡ open_from a n → a < count
     end_known a n e = omega (arith, (v.going.run.ready.sound.sound (word w (6 * j)) a n (end_open ∙ e)).0, all_read)
 
   end_followed : Followed g f w count
@@ -186,8 +185,5 @@ coming_nil g f at e = rw e
 module _
     (g : Format) (f w₀ : List ℕ) (q count : ℕ) (w : List ℕ) (s : Pass) (at : ℕ) (v : Following g f w₀ q count w s (coming g f at))
     (x : Step) (h : x ≡ step_of g f at) where
-  pub follow_cut : (p : ℕ) → x ≡ Cut p → FollowedTo g f count w s.signs
-  follow_cut p z = ended g f w₀ q count w s (rw (coming_nil g f at (found_cut g f at x h p z)) at v)
-
-  pub follow_end : x ≡ End → FollowedTo g f count w s.signs
-  follow_end z = ended g f w₀ q count w s (rw (coming_nil g f at (found_end g f at x h z)) at v)
+  pub follow_end : ((e : ℕ) → x ≡ Record e → ⊥) → FollowedTo g f count w s.signs
+  follow_end n = ended g f w₀ q count w s (rw (coming_nil g f at (found_none g f at x h n)) at v)

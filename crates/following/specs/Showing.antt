@@ -1,15 +1,14 @@
 -- What one packet shows.
-use Rattle.std.specs.Prelude.{ℕ, ◌+◌, ◌*◌, ◌≤◌, Bool, cond, List, length}
+use Rattle.std.specs.Prelude.{Option, Some, None, ℕ, ◌+◌, ◌*◌, ◌≤◌, Bool, cond, List, length}
 use Rattle.l2cap.specs.Steps.{row_at, RowPre}
 use Rattle.l2cap.specs.declared.Open.{Open}
-use Rattle.l2cap.specs.declared.Open.TheVariants.{Closed, From}
 use Rattle.signs.specs.Counting.{noted, NotePre}
 use Rattle.following.specs.declared.Partial.{Partial}
 
 -- a packet at a place, by what is open before it and whether it starts: a continuation of nothing, or a start where something is open
-unfoldable pub shown_by : Open → Bool → ℕ → Partial → Partial
-shown_by Closed start at g = cond start g (record { stray = noted g.stray 1 at; given_up = g.given_up })
-shown_by (From a n) start at g = cond start (record { stray = g.stray; given_up = noted g.given_up 1 at }) g
+unfoldable pub shown_by : Option Open → Bool → ℕ → Partial → Partial
+shown_by None start at g = cond start g (record { stray = noted g.stray 1 at; given_up = g.given_up })
+shown_by (Some pdu) start at g = cond start (record { stray = g.stray; given_up = noted g.given_up 1 at }) g
 
 pub record Show (w : List ℕ) (q i : ℕ) (g : Partial) : Type 0 where
   pub row : RowPre w q i

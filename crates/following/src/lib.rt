@@ -9,7 +9,7 @@ ghost use Rattle.following.specs.Showing.{shown_by, Show};
 ghost use Rattle.following.specs.Passing.{first_pass, Turn, Turned, RecordTurn, RecordTurned, FollowedTo};
 
 use fragments::link_packets;
-use l2cap::{Open, Tables, look, row_of, run};
+use l2cap::{Tables, look, row_of, run};
 use signs::{Gap, lacks_packet, note};
 use trace::{Format, Step, file_head, read_at};
 use words::get32;
@@ -34,29 +34,17 @@ fn show(w: &[u8], q: usize, i: usize, at: usize, g: Partial) -> Partial
     requires { Show w.now q i g }
     ensures { result ≡ shown_by (open_in w.now (row_at w.now q i)) (eqb (word w.now (6 * i + 1)) 1) at g }
 {
-    let stray = g.stray;
-    let given_up = g.given_up;
-    let start = get32(w, 6 * i + 1);
-    let o = look(w, row_of(w, q, i));
-    match o {
-        Open::Closed => {
-            if start == 1 {
-                return g;
-            }
-            Partial {
-                stray: note(stray, 1, at),
-                given_up,
-            }
-        }
-        Open::From(_, _) => {
-            if start == 1 {
-                return Partial {
-                    stray,
-                    given_up: note(given_up, 1, at),
-                };
-            }
-            g
-        }
+    let starts = get32(w, 6 * i + 1) == 1;
+    match (look(w, row_of(w, q, i)), starts) {
+        (None, false) => Partial {
+            stray: note(g.stray, 1, at),
+            ..g
+        },
+        (Some(_), true) => Partial {
+            given_up: note(g.given_up, 1, at),
+            ..g
+        },
+        _ => g,
     }
 }
 
@@ -127,21 +115,9 @@ pub fn follow_packets(file: &[u8], w: &mut [u8], format: Format, count: usize) -
     let rows = link_packets(w, q, count);
     let mut s = first_pass(q, rows);
     let mut at = file_head(format);
-    loop {
-        let x = read_at(file, at, format);
-        match x {
-            Step::Record(end) => {
-                s = follow_record(file, w, q, at, end, format, s);
-                at = end;
-            }
-            Step::Cut(_) => {
-                let signs = s.signs;
-                return signs;
-            }
-            Step::End => {
-                let signs = s.signs;
-                return signs;
-            }
-        }
+    while let Step::Record(end) = read_at(file, at, format) {
+        s = follow_record(file, w, q, at, end, format, s);
+        at = end;
     }
+    s.signs
 }

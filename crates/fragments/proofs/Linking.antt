@@ -1,4 +1,5 @@
 -- The packets are linked, from the last to the first: a word for each key's row says which of those behind comes next.
+use Rattle.std.specs.Prelude.{Some, None}
 use mathlib.Core.Path.{◌≡◌, refl, sym, ap, ◌∙◌}
 use mathlib.Core.List.{List}
 use mathlib.Core.Bool.{Bool, true, false, cond}
@@ -14,7 +15,6 @@ use Rattle.words.specs.Front.{Front}
 use Rattle.words.proofs.Front.{front_refl, front_less, front_put, front_then, front_word}
 use Rattle.table.specs.Table.{find_in, lookup, upd, sum_of, some}
 use Rattle.table.proofs.Table.{find_below, lookup_agree, long_agree, sum_agree}
-use Rattle.table.specs.declared.Row.TheVariants.{At, Nothing}
 use Rattle.tree.specs.Tree.{Indexed, EnterPre, ClearPre, Cleared}
 use Rattle.tree.proofs.Index.{indexed_agree, find_agree, found_key}
 use Rattle.tree.specs.Seats.{Seated}
@@ -101,14 +101,14 @@ module _ (z i y : ℕ) where
 blank_seated : (w : List ℕ) (x : Tree) (n k : ℕ) (u : List ℕ) (r : Seating) → Seated w x n k 0 0 u r → Blank w x.rows n → Blank u x.rows r.rows
 unfolding first_of upd
 blank_seated w x n k u r s b = split_row (find_in w x.rows k n) old new where
-  old : (i : ℕ) → find_in w x.rows k n ≡ At i → Blank u x.rows r.rows
+  old : (i : ℕ) → find_in w x.rows k n ≡ Some i → Blank u x.rows r.rows
   old i e = let h = s.known i e in rw (h.0, h.1.0) b
 
   first : (j : ℕ) (t : Bool) → first_of (cond t (some 0 0) (lookup w x.rows n j)) ≡ 0
   first j true = refl
   first j false = b.says j
 
-  new : find_in w x.rows k n ≡ Nothing → Blank u x.rows r.rows
+  new : find_in w x.rows k n ≡ None → Blank u x.rows r.rows
   new e =
       let h = s.fresh e in
       rw h.1.0 (record {
@@ -169,10 +169,10 @@ module _
       other_head k d = ap (head_in u q x) (finds k ∙ s.others k d) ∙ split_row (find_in w (3 * q) k n)
           (λ a e. rw e (keeps (6 * q + a) (omega (arith, below a e)) (λ r. d (same a e (omega arith))) ∙ high (6 * q + a) (omega arith)))
           (λ e. rw e) where
-            below : (a : ℕ) → find_in w (3 * q) k n ≡ At a → a < q
+            below : (a : ℕ) → find_in w (3 * q) k n ≡ Some a → a < q
             below a e = omega (arith, find_below w (3 * q) k n a e, p.few)
 
-            same : (a : ℕ) → find_in w (3 * q) k n ≡ At a → t.at ≡ a → key ≡ k
+            same : (a : ℕ) → find_in w (3 * q) k n ≡ Some a → t.at ≡ a → key ≡ k
             same a e r = sym (found_key v (3 * q) key t.rows t.at s.row) ∙ rw r (found_key v (3 * q) k t.rows a (s.others k d ∙ e))
 
       empty : (k : ℕ) → z ≡ 0 → tag_at w k i ≡ k → ⊥
@@ -198,7 +198,7 @@ module _
         link = noted_link v q i y t.at h link_note u eu ∙ next_is_law ∙ rw ek;
         row = rw (← ek, noted_row v q i y t.at h link_note u eu) (finds key ∙ s.row);
         kept = λ k a e. finds k ∙ split≡ key k
-            (λ g. let f : find_in w (3 * q) key n ≡ At a = rw (← g) at e in rw (← g) s.row ∙ ap At (s.known a f).1.1)
+            (λ g. let f : find_in w (3 * q) key n ≡ Some a = rw (← g) at e in rw (← g) s.row ∙ ap Some (s.known a f).1.1)
             (λ g. s.others k g ∙ e);
         heads = heads_are;
         blank = λ b. blank_agree u v (3 * q) t.rows rows (blank_seated w (index_of q) n key v t s b);
@@ -227,7 +227,7 @@ pub record Linking (w₀ : List ℕ) (q count : ℕ) (w : List ℕ) (s : Seating
   pub blank : Blank w (3 * q) s.rows
   pub heads : (k : ℕ) → head_at w q (suc count) s.rows k ≡ suc (soonest (tag_at w₀ k) k i (count - i))
   pub links : (j : ℕ) → i ≤ j → j < count → word w (7 * q + 2 * j) ≡ suc (soonest (tag_at w₀ (key_in w₀ j)) (key_in w₀ j) (suc j) (count - suc j))
-  pub seats : (j : ℕ) → i ≤ j → j < count → find_in w (3 * q) (key_in w₀ j) s.rows ≡ At (word w (7 * q + 2 * j + 1))
+  pub seats : (j : ℕ) → i ≤ j → j < count → find_in w (3 * q) (key_in w₀ j) s.rows ≡ Some (word w (7 * q + 2 * j + 1))
 
 cond_suc : (t : Bool) (a b : ℕ) → cond t (suc a) (suc b) ≡ suc (cond t a b)
 cond_suc true a b = refl
@@ -317,7 +317,7 @@ module _ (w₀ : List ℕ) (q count : ℕ) (b : LinkBegun w₀ q count) where
             (λ e. (d.beyond j (more j lo e)).0 ∙ v.links j (omega (arith, more j lo e)) hi);
         seats = λ j lo hi. split≡ j (i - 1)
             (λ e. rw (e, ← own) d.row)
-            (λ e. d.kept (key_in w₀ j) (word w (7 * q + 2 * j + 1)) (v.seats j (omega (arith, more j lo e)) hi) ∙ ap At (sym (d.beyond j (more j lo e)).1));
+            (λ e. d.kept (key_in w₀ j) (word w (7 * q + 2 * j + 1)) (v.seats j (omega (arith, more j lo e)) hi) ∙ ap Some (sym (d.beyond j (more j lo e)).1));
       }
 
   pub linking_end : (w : List ℕ) (s : Seating) (i : ℕ) → Linking w₀ q count w s i → i ≤ 0 → LinkedTo w₀ q count w s.rows

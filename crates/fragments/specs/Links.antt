@@ -1,11 +1,9 @@
 -- Packets of one key, linked: two words for each packet, from word 7 * q on. The first says which packet with its key comes next,
 -- of those that bring bytes: its number plus one, and the count of packets stands for none. The second is the row of its key.
-use Rattle.std.specs.Prelude.{◌≡◌, List, cond, ℕ, zero, suc, ◌+◌, ◌-◌, ◌*◌, ◌/◌, ◌<◌, ◌≤◌, length, eqb}
+use Rattle.std.specs.Prelude.{◌≡◌, List, cond, ℕ, zero, suc, ◌+◌, ◌-◌, ◌*◌, ◌/◌, ◌<◌, ◌≤◌, length, eqb, Option, Some, None}
 use Rattle.words.specs.Words.{word, put_word}
 use Rattle.words.specs.Front.{Front}
 use Rattle.table.specs.Table.{Slot, none, some, find_in, lookup, sum_of}
-use Rattle.table.specs.declared.Row.{Row}
-use Rattle.table.specs.declared.Row.TheVariants.{At, Nothing}
 use Rattle.tree.specs.Tree.{Indexed, EnterPre}
 use Rattle.tree.specs.declared.Tree.{Tree}
 use Rattle.tree.specs.declared.Seating.{Seating}
@@ -28,7 +26,7 @@ pub record Linked (w : List ℕ) (q upto : ℕ) : Type 0 where
 
 -- the row of its key is noted for each packet below upto: n rows stand from word 3 * q on
 pub record Seats (w : List ℕ) (q n upto : ℕ) : Type 0 where
-  pub row : (i : ℕ) → i < upto → find_in w (3 * q) (word w (6 * i)) n ≡ At (word w (7 * q + 2 * i + 1))
+  pub row : (i : ℕ) → i < upto → find_in w (3 * q) (word w (6 * i)) n ≡ Some (word w (7 * q + 2 * i + 1))
 
 -- n rows at word b that say nothing but 0
 unfoldable pub first_of : Slot → ℕ
@@ -50,9 +48,9 @@ pub record SeatKey (w : List ℕ) (q n : ℕ) : Type 0 where
   pub small : q ≤ 1048576
 
 -- The first packet under a key, plus one, of those linked so far that bring bytes: a word for each row, from word 6 * q on. x if the key has no row.
-unfoldable pub head_in : List ℕ → ℕ → ℕ → Row → ℕ
-head_in w q x Nothing = x
-head_in w q x (At a) = word w (6 * q + a)
+unfoldable pub head_in : List ℕ → ℕ → ℕ → Option ℕ → ℕ
+head_in w q x None = x
+head_in w q x (Some a) = word w (6 * q + a)
 
 abbrev pub head_at : List ℕ → ℕ → ℕ → ℕ → ℕ → ℕ
 head_at w q x n k = head_in w q x (find_in w (3 * q) k n)
@@ -87,8 +85,8 @@ pub record LinkStep (w : List ℕ) (q n i : ℕ) : Type 0 where
 -- packet i is linked to the first one under its key, and is now the first itself if it brings bytes
 pub record LinkedStep (w : List ℕ) (q n i x : ℕ) (u : List ℕ) (r : Seating) : Type 0 where
   pub link : word u (7 * q + 2 * i) ≡ head_at w q x n (word w (6 * i))
-  pub row : find_in u (3 * q) (word w (6 * i)) r.rows ≡ At (word u (7 * q + 2 * i + 1))
-  pub kept : (k a : ℕ) → find_in w (3 * q) k n ≡ At a → find_in u (3 * q) k r.rows ≡ At a
+  pub row : find_in u (3 * q) (word w (6 * i)) r.rows ≡ Some (word u (7 * q + 2 * i + 1))
+  pub kept : (k a : ℕ) → find_in w (3 * q) k n ≡ Some a → find_in u (3 * q) k r.rows ≡ Some a
   pub heads : (k : ℕ) → head_at u q x r.rows k ≡ cond (eqb (tag_at w k i) k) (i + 1) (head_at w q x n k)
   pub blank : Blank w (3 * q) n → Blank u (3 * q) r.rows
   pub indexed : Indexed u (index_of q) r.rows

@@ -12,14 +12,7 @@ ghost use Rattle.fragments.specs.Links.{index_of, head_of, head_with, Head, note
 ghost use Rattle.fragments.specs.Bytes.{begun, Next, Walk, Paste, Gather};
 
 use tree::{Seating, Tree, clear, seat};
-use words::{copy_to, get32, least, narrow, part, put32, wide32};
-
-// A word as a key of a table.
-fn wide64(x: u32) -> u64
-    ensures { result ≡ x }
-{
-    x as u64
-}
+use words::{copy_to, get32, least, part, put32};
 
 // Where the open PDUs stand and their index, with q a quarter of the file's length.
 fn index_of(q: usize) -> Tree
@@ -39,7 +32,7 @@ fn seat_key(w: &mut [u8], q: usize, rows: usize, key: u32, near: usize) -> Seati
     ensures { Seated w.old (index_of q) rows key 0 0 w.new result }
 {
     let x = index_of(q);
-    seat(w, x, rows, wide64(key), near, 0, 0)
+    seat(w, x, rows, u64::from(key), near, 0, 0)
 }
 
 // The packet that comes next under the key of row at, plus one. There were so many rows: if it is new, none comes.
@@ -61,7 +54,7 @@ fn head_with(n: u32, i: usize, next: u32) -> u32
     if n == 0 {
         return next;
     }
-    narrow(i + 1)
+    (i + 1) as u32
 }
 
 // Notes the link of packet i, the row of its key, and what is now the first packet of the key.
@@ -70,7 +63,7 @@ fn note(w: &mut [u8], q: usize, i: usize, next: u32, at: usize, head: u32)
     ensures { w.new ≡ noted w.old q i next at head }
 {
     put32(w, 7 * q + 2 * i, next);
-    put32(w, 7 * q + 2 * i + 1, narrow(at));
+    put32(w, 7 * q + 2 * i + 1, at as u32);
     put32(w, 6 * q + at, head);
 }
 
@@ -94,11 +87,9 @@ fn link_rows(w: &mut [u8], q: usize, count: usize) -> usize
     requires { LinkBegun w.old q count }
     ensures { LinkedTo w.old q count w.new result }
 {
-    let none = narrow(count + 1);
+    let none = (count + 1) as u32;
     let mut s = Seating { rows: 0, at: 0 };
-    let mut i = count;
-    while 0 < i {
-        i -= 1;
+    for i in (0..count).rev() {
         s = link_row(w, q, s, i, none);
     }
     s.rows
@@ -120,7 +111,7 @@ pub fn len_of(w: &[u8], i: usize) -> usize
     requires { 24 * i + 24 ≤ length w.now }
     ensures { result ≡ word w.now (6 * i + 3) }
 {
-    wide32(get32(w, 6 * i + 3))
+    get32(w, 6 * i + 3) as usize
 }
 
 // Where they start in the file.
@@ -128,15 +119,16 @@ pub fn place_of(w: &[u8], i: usize) -> usize
     requires { 24 * i + 24 ≤ length w.now }
     ensures { result ≡ word w.now (6 * i + 2) }
 {
-    wide32(get32(w, 6 * i + 2))
+    get32(w, 6 * i + 2) as usize
 }
 
 // The next packet with the key of packet i that has bytes; the count of packets if there is none.
+// Stays: a number for none, since every walk ends at a packet that comes no later than the count, and so tests for both at once.
 fn later(w: &[u8], q: usize, i: usize) -> usize
     requires { Next w.now q i }
     ensures { word w.now (7 * q + 2 * i) ≡ result + 1 }
 {
-    wide32(get32(w, 7 * q + 2 * i)) - 1
+    get32(w, 7 * q + 2 * i) as usize - 1
 }
 
 // The byte number at of what the key of packet first has from the packets first .. upto - 1; 0 if it is not there.
@@ -162,7 +154,7 @@ fn byte_of(file: &[u8], w: &[u8], q: usize, first: usize, upto: usize, at: usize
 fn pair(a: u8, b: u8) -> u32
     ensures { (result ≡ a + 256 * b) × (result < 65536) }
 {
-    (a as u32) + 256 * (b as u32)
+    u32::from(a) + 256 * u32::from(b)
 }
 
 // The 16-bit number at a place of what the key has. It may be split over fragments, and nearly always lies in the first.

@@ -1,4 +1,5 @@
 -- From the walks to the call: the signs found, each refusal, and what is told.
+use Rattle.std.specs.Prelude.{Result, Ok, Err}
 use Prim.Native.Nat.{ℕ}
 use mathlib.Core.Path.{◌≡◌, refl, sym, ◌∙◌}
 use mathlib.Core.List.{List, [], ◌++◌}
@@ -12,12 +13,10 @@ use Rattle.trace.specs.declared.Format.{Format}
 use Rattle.trace.specs.declared.Refusal.{Refusal}
 use Rattle.trace.specs.declared.Refusal.TheVariants.{FileLong, WorkShort, NotBtsnoop, Datalink, NotPcap, LinkType, Truncated}
 use Rattle.packets.specs.PacketTable.{Read}
-use Rattle.packets.specs.declared.Packets.{Packets}
 use Rattle.outcome.specs.Import.{Tail}
 use Rattle.opening.specs.Opening.{opened, Opens}
 use Rattle.opening.proofs.AsImport.{opened_sized}
 use Rattle.opening.specs.declared.Opened.{Opened}
-use Rattle.opening.specs.declared.Opened.TheVariants.{Read as OpensTo, Refused as Refuses}
 use Rattle.signs.specs.Places.{packets_at}
 use Rattle.signs.specs.Partial.{left_open}
 use Rattle.signs.specs.Gaps.{record_gaps, packet_gaps, gaps}
@@ -30,13 +29,9 @@ use Rattle.recorded.specs.Looking.{recorded_of, Readable}
 use Rattle.recorded.specs.declared.Recorded.{Recorded}
 use Rattle.following.specs.Passing.{FollowedTo}
 use Rattle.following.specs.declared.Partial.{Partial}
-use Rattle.telling.specs.Telling.{number_of, values_of, stored, Shows, Tells}
-use Rattle.telling.proofs.TellLaws.{told_as}
-use Rattle.telling.specs.declared.Shown.{Shown}
-use Rattle.gaps.specs.Calls.{or_values, gaps_of, signs_of, Finds, GapsCalls}
+use Rattle.telling.specs.Telling.{Told}
+use Rattle.gaps.specs.Calls.{or_values, gaps_of, signs_of, told_gaps, Finds, GapsCalls}
 use Rattle.gaps.specs.declared.Signs.{Signs}
-use Rattle.gaps.specs.declared.Gaps.{Gaps}
-use Rattle.gaps.specs.declared.Gaps.TheVariants.{Found, Refused}
 
 -- ---- the walks
 
@@ -69,41 +64,33 @@ stays (LinkType n) ws = refl
 stays (Truncated n) ws = refl
 
 -- a trace opened so
-module _ (b : Container) (f w : List ℕ) (tail : Tail) (x : Opened) (v : List ℕ) (op : Opens b f w tail x v) where
-  pub find_refused : (y : Refusal) → x ≡ Refuses y → Finds b f w tail (Refused y) v
+module _ (b : Container) (f w : List ℕ) (tail : Tail) (x : Result Opened Refusal) (v : List ℕ) (op : Opens b f w tail x v) where
+  pub find_refused : (y : Refusal) → x ≡ Err y → Finds b f w tail (Err y) v
   unfolding gaps_of
   find_refused y e =
       let z : told_refusal y ≡ opened (container_of b) f (length w) tail = rw e at op.answers in
       record { answers = rw (← z) (stays y (gaps (format_of b f) f)); spared = op.spared }
 
-  module _ (g : Format) (p : Packets) (e : x ≡ OpensTo g p) where
-    pub find_packets : Read g f v p.count
-    find_packets = (op.read g p e).reads.read
+  module _ (t : Opened) (e : x ≡ Ok t) where
+    pub find_packets : Read t.format f v t.packets.count
+    find_packets = (op.read t e).reads.read
 
     reads : opened (container_of b) f (length w) tail ≡ accepted []
     reads = sym op.answers ∙ rw e
 
-    pub find_found : (s : Signs) → signs_of s ≡ gaps g f → (u : List ℕ) → Finds b f w tail (Found s) u
+    pub find_found : (s : Signs) → signs_of s ≡ gaps t.format f → (u : List ℕ) → Finds b f w tail (Ok s) u
     unfolding gaps_of or_values
     find_found s es u = record {
-      answers = rw (reads, es, (op.read g p e).says);
+      answers = rw (reads, es, (op.read t e).says);
       spared = λ h. no_way (opened_sized (container_of b) f (length w) tail [] reads) h;
     }
 
 -- ---- what is told
 
-module _ (b : Container) (f w : List ℕ) (tail : Tail) (g : Gaps) (w' : List ℕ) (fi : Finds b f w tail g w') (v : List ℕ) where
-  pub tells_found : (s : Signs) → g ≡ Found s → (v' : List ℕ) → v' ≡ stored (signs_of s) v → GapsCalls b f w tail v 0 w' v'
-  tells_found s e v' ev =
-      let a : gaps_of b f (length w) tail ≡ accepted (signs_of s) = sym fi.answers ∙ rw e in
-      record { tells = record { number = rw a; values = rw a ev }; spared = fi.spared }
-
-  pub tells_refused :
-      (y : Refusal) → g ≡ Refused y → (s : Shown) → Shows (number_of (told_refusal y)) (values_of (told_refusal y)) s →
-      (r : ℕ) (v' : List ℕ) → Tells s v r v' → GapsCalls b f w tail v r w' v'
-  tells_refused y e s p r v' l =
-      let a : told_refusal y ≡ gaps_of b f (length w) tail = rw e at fi.answers in
-      record { tells = told_as (told_refusal y) (gaps_of b f (length w) tail) a s p v r v' l; spared = fi.spared }
+pub tells_gaps :
+    (b : Container) (f w : List ℕ) (tail : Tail) (g : Result Signs Refusal) (w' : List ℕ) → Finds b f w tail g w' → (v : List ℕ) (r : ℕ) (v' : List ℕ) →
+    Told (told_gaps g) v r v' → GapsCalls b f w tail v r w' v'
+tells_gaps b f w tail g w' fi v r v' t = record { tells = rw fi.answers at t; spared = fi.spared }
 
 -- by what the caller chose
 module _ (b : Container) (f w : List ℕ) (t : Tail) (v : List ℕ) (r : ℕ) (w' v' : List ℕ) (c : GapsCalls b f w t v r w' v') where

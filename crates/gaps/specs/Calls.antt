@@ -1,9 +1,10 @@
 -- What the call answers: how many of each sign there are and where the first is, or a refusal.
-use Rattle.std.specs.Prelude.{ℕ, ◌≡◌, false, ◌&&◌, List, ◌++◌, length}
-use Rattle.laws.specs.Answers.{Answer, accepted, refused}
+use Rattle.std.specs.Prelude.{ℕ, Result, Ok, Err, ◌≡◌, false, ◌&&◌, List, ◌++◌, length}
+use Rattle.laws.specs.Answers.{Answer, accepted, refused, answered}
 use Rattle.trace.specs.Formats.{container_of, format_of}
 use Rattle.trace.specs.Headers.{told_refusal}
 use Rattle.trace.specs.declared.Container.{Container}
+use Rattle.trace.specs.declared.Refusal.{Refusal}
 use Rattle.outcome.specs.Import.{Tail, fits, work_suffices}
 use Rattle.opening.specs.Opening.{opened}
 use Rattle.signs.specs.Gaps.{gaps}
@@ -11,8 +12,6 @@ use Rattle.signs.specs.Counting.{gap_of}
 use Rattle.recorded.specs.Looking.{recorded_of}
 use Rattle.telling.specs.Telling.{Told}
 use Rattle.gaps.specs.declared.Signs.{Signs}
-use Rattle.gaps.specs.declared.Gaps.{Gaps}
-use Rattle.gaps.specs.declared.Gaps.TheVariants.{Found, Refused}
 
 -- a refusal stays; else these values
 unfoldable pub or_values : Answer → List ℕ → Answer
@@ -29,12 +28,14 @@ gaps_of b f work tail = or_values (opened (container_of b) f work tail) (gaps (f
 abbrev pub signs_of : Signs → List ℕ
 signs_of s = recorded_of s.recorded ++ (gap_of s.partial.stray ++ (gap_of s.partial.given_up ++ gap_of s.left))
 
-abbrev pub told_gaps : Gaps → Answer
-told_gaps (Found s) = accepted (signs_of s)
-told_gaps (Refused x) = told_refusal x
+abbrev pub told_signs : Signs → Answer
+told_signs s = accepted (signs_of s)
+
+abbrev pub told_gaps : Result Signs Refusal → Answer
+told_gaps = answered told_signs told_refusal
 
 -- the answer by the definition; work is unchanged after 1 and 2
-pub record Finds (b : Container) (f w : List ℕ) (tail : Tail) (r : Gaps) (w' : List ℕ) : Type 0 where
+pub record Finds (b : Container) (f w : List ℕ) (tail : Tail) (r : Result Signs Refusal) (w' : List ℕ) : Type 0 where
   pub answers : told_gaps r ≡ gaps_of b f (length w) tail
   pub spared : (fits f && work_suffices f (length w)) ≡ false → w' ≡ w
 

@@ -6,17 +6,16 @@ ghost use Rattle.packets.specs.PacketTable.{Read};
 ghost use Rattle.opening.specs.Opening.{tail_of};
 ghost use Rattle.signs.specs.Gaps.{gaps};
 ghost use Rattle.trace.specs.declared.Container.TheVariants.{Btsnoop};
-ghost use Rattle.telling.specs.Telling.{stored};
 ghost use Rattle.options.specs.Numbers.{tail_number, tail_in, container_in};
-ghost use Rattle.gaps.specs.Calls.{signs_of, Finds, GapsCalls};
+ghost use Rattle.gaps.specs.Calls.{signs_of, told_signs, Finds, GapsCalls};
 
 use following::{Partial, follow_packets};
 use leftover::left_open;
-use opening::{Opened, Tail, open_trace};
+use opening::{Tail, open_trace};
 use options::{container_in, tail_in, tail_of};
 use recorded::{Recorded, record_signs};
 use signs::Gap;
-use telling::{shown_refusal, store, tell};
+use telling::{Tell, tell_as};
 use trace::{Container, Format, Refusal};
 
 // What records show, what packets show, and what is open at the end.
@@ -25,13 +24,6 @@ pub struct Signs {
     pub recorded: Recorded,
     pub partial: Partial,
     pub left: Gap,
-}
-
-// The signs of a trace, or a refusal.
-#[derive(Clone, Copy)]
-pub enum Gaps {
-    Found(Signs),
-    Refused(Refusal),
 }
 
 // The signs of a trace whose packets stand in work.
@@ -50,39 +42,43 @@ fn find_signs(file: &[u8], work: &mut [u8], format: Format, count: usize) -> Sig
 }
 
 // The signs of a trace.
-pub fn find_gaps(file: &[u8], work: &mut [u8], container: Container, tail: Tail) -> Gaps
+pub fn find_gaps(
+    file: &[u8],
+    work: &mut [u8],
+    container: Container,
+    tail: Tail,
+) -> Result<Signs, Refusal>
     ensures { Finds container file.now work.old (tail_of tail) result work.new }
 {
-    let x = open_trace(file, work, container, tail);
-    match x {
-        Opened::Read(format, p) => Gaps::Found(find_signs(file, work, format, p.count)),
-        Opened::Refused(y) => Gaps::Refused(y),
-    }
+    let t = open_trace(file, work, container, tail)?;
+    Ok(find_signs(file, work, t.format, t.packets.count))
 }
 
-// Stores the signs' numbers: for each how many, and where the first is.
-fn store_signs(s: Signs, values: &mut [u64])
-    ensures { values.new ≡ stored (signs_of s) values.old }
-{
-    let r = s.recorded;
-    let p = s.partial;
-    let list = [
-        r.short.many,
-        r.short.first,
-        r.dropped.many,
-        r.dropped.first,
-        r.skipped.many,
-        r.skipped.first,
-        r.zeros.many,
-        r.zeros.first,
-        p.stray.many,
-        p.stray.first,
-        p.given_up.many,
-        p.given_up.first,
-        s.left.many,
-        s.left.first,
-    ];
-    store(values, &list);
+// The signs' numbers: for each how many, and where the first is.
+impl Tell for Signs {
+    ghost answer = { told_signs };
+
+    fn tell(self, values: &mut [u64]) -> u32 {
+        let r = self.recorded;
+        let p = self.partial;
+        let list = [
+            r.short.many,
+            r.short.first,
+            r.dropped.many,
+            r.dropped.first,
+            r.skipped.many,
+            r.skipped.first,
+            r.zeros.many,
+            r.zeros.first,
+            p.stray.many,
+            p.stray.first,
+            p.given_up.many,
+            p.given_up.first,
+            self.left.many,
+            self.left.first,
+        ];
+        tell_as(0, &list, values)
+    }
 }
 
 // Tells the signs of a trace, or a refusal.
@@ -95,14 +91,7 @@ fn tell_gaps(
 ) -> u32
     ensures { GapsCalls container file.now work.old (tail_of tail) values.old result work.new values.new }
 {
-    let g = find_gaps(file, work, container, tail);
-    match g {
-        Gaps::Found(s) => {
-            store_signs(s, values);
-            0
-        }
-        Gaps::Refused(x) => tell(shown_refusal(x), values),
-    }
+    find_gaps(file, work, container, tail).tell(values)
 }
 
 // Tells the signs of a btsnoop file, or a refusal: 0 is strict, any other tolerant.

@@ -1,4 +1,5 @@
 -- Laws of specs/CountTable.
+use Rattle.std.specs.Prelude.{Option, Some, None}
 use Prim.Native.Nat.{ℕ, suc, ◌+◌, ◌*◌, ◌/◌, ◌<◌, ◌≤◌}
 use mathlib.Core.Path.{◌≡◌, refl, sym, ap, ◌∙◌}
 use mathlib.Core.Bool.{cond}
@@ -20,16 +21,14 @@ use Rattle.tree.specs.Seats.{seat_of, Seated}
 use Rattle.tree.specs.declared.Tree.{Tree}
 use Rattle.tree.specs.declared.Seating.{Seating}
 use Rattle.tree.proofs.Seats.{seated_value, seated_room, seat_first}
-use Rattle.table.specs.declared.Row.{Row}
-use Rattle.table.specs.declared.Row.TheVariants.{At, Nothing}
 use Rattle.rfcomm.specs.Pieces.{Counts, Kind, counted, no_counts}
 use Rattle.gathering.specs.CountTable.{value_of, count_index, CountPre, UpPre, CountedUp, Counted}
 
-pub count_found : (w : List ℕ) (b k n i : ℕ) (f : Row) (v : ℕ) → f ≡ find_in w b k n → f ≡ At i → v ≡ word w (b + 4 * i + 2) → v ≡ value_of (lookup w b n k)
+pub count_found : (w : List ℕ) (b k n i : ℕ) (f : Option ℕ) (v : ℕ) → f ≡ find_in w b k n → f ≡ Some i → v ≡ word w (b + 4 * i + 2) → v ≡ value_of (lookup w b n k)
 unfolding value_of
 count_found w b k n i f v p q e = e ∙ sym (ap value_of (lookup_found w b k n i (sym p ∙ q)))
 
-pub count_none : (w : List ℕ) (b k n : ℕ) (f : Row) → f ≡ find_in w b k n → f ≡ Nothing → 0 ≡ value_of (lookup w b n k)
+pub count_none : (w : List ℕ) (b k n : ℕ) (f : Option ℕ) → f ≡ find_in w b k n → f ≡ None → 0 ≡ value_of (lookup w b n k)
 unfolding value_of
 count_none w b k n f p q = sym (ap value_of (lookup_nothing w b k n (sym p ∙ q)))
 
@@ -76,19 +75,19 @@ module _ (w : List ℕ) (b n k : ℕ) (x : Tree) (ex : x ≡ count_index b) wher
       entered = rw (ex, up_value v e) at (seat_first w x n k 0 0 u r s (count_enter p) (v + 1) t (rw x_rows et));
     }
 
-  module _ (f : Row) (p : f ≡ find_in w x.rows k n) where
+  module _ (f : Option ℕ) (p : f ≡ find_in w x.rows k n) where
     seen : f ≡ find_in w b k n
     unfolding count_index
     seen = rw ex at p
 
-    pub count_row : CountPre w b n → (i : ℕ) → f ≡ At i → 4 * (b + 4 * i) + 16 ≤ length w
+    pub count_row : CountPre w b n → (i : ℕ) → f ≡ Some i → 4 * (b + 4 * i) + 16 ≤ length w
     unfolding count_index
     count_row c i d = omega (arith, find_below w b k n i (sym seen ∙ d), c.seek.stands.rows, c.seek.stands.room)
 
-    pub seek_found : (i v : ℕ) → f ≡ At i → v ≡ word w (b + 4 * i + 2) → v ≡ value_of (lookup w b n k)
+    pub seek_found : (i v : ℕ) → f ≡ Some i → v ≡ word w (b + 4 * i + 2) → v ≡ value_of (lookup w b n k)
     seek_found i v q e = count_found w b k n i f v seen q e
 
-    pub seek_nothing : f ≡ Nothing → 0 ≡ value_of (lookup w b n k)
+    pub seek_nothing : f ≡ None → 0 ≡ value_of (lookup w b n k)
     seek_nothing q = count_none w b k n f seen q
 
 pub counted_start : (w : List ℕ) (b : ℕ) → Counted no_counts w b 0 0

@@ -57,7 +57,7 @@ part_is w row b n i side k₁ k₂ s l cid start len e e₁ es e₂ el ec et en 
 
 pub take_put : (w : List ℕ) (row b n : ℕ) (i : Info) (at : ℕ) (p : Part) → TakePre w row b n i at → p ≡ part_of w row b n i → PutPre w at p
 unfolding part_of
-take_put w row b n i at p t e = rw e (record { room = t.room; sessions = t.few (64 * (word w row / 2) + 0); links = t.few (64 * (word w row / 2) + i.dlci); len = t.piece.len; joined = t.joined })
+take_put w row b n i at p t e = rw e (record { room = t.room; sessions = t.few (64 * (word w row / 2) + 0); links = t.few (64 * (word w row / 2) + i.dlci); len = t.piece.len })
 
 pub row_put : (w : List ℕ) (row b n : ℕ) (i : Info) (at : ℕ) (p : Part) (time : ℕ) (u : List ℕ) → p ≡ part_of w row b n i → time ≡ long w (row + 5) → u ≡ put_words w at (row_of p time) → u ≡ put_words w at (row_of (part_of w row b n i) (long w (row + 5)))
 row_put w row b n i at p time u ep et eu = eu ∙ rw (ep, et)
@@ -103,7 +103,6 @@ module _ (f w : List ℕ) (q rows : ℕ) (t : Taken) (j : ℕ) (a : List ℕ) (r
     };
     room = omega (arith, r.table, c.less, r.quarter, r.room);
     few = λ k. omega (arith, r.values k, r.few, r.small);
-    joined = joined_small;
   } where
     go : (b : Bool) → word w (2 * q + 7 * j + 3) + word w (2 * q + 7 * j + 4) ≤ cond b (8 * q) (length f) → i.start < 4294967296
     go true h = omega (arith, c.inside, r.small, r.quarter)
@@ -111,13 +110,6 @@ module _ (f w : List ℕ) (q rows : ℕ) (t : Taken) (j : ℕ) (a : List ℕ) (r
 
     start_small : i.start < 4294967296
     start_small = go (eqb (word w (2 * q + 7 * j + 2)) 1) r.inside.inside
-
-    bit : (b : Bool) → cond b 1 0 ≤ 1
-    bit true = omega arith
-    bit false = omega arith
-
-    joined_small : i.joined ≤ 1
-    joined_small = rw c.joined (bit (eqb (word w (2 * q + 7 * j + 2)) 1))
 
   pub piece_pre : (fcs : Bool) (v : Verdict) (i : Info) → VerdictIs fcs f w (2 * q + 7 * j) (3 * q) rows v → v ≡ Carries i → TakePre w (2 * q + 7 * j) (6 * q) t.counts i (5 * q + 8 * t.pieces)
   piece_pre fcs v i is e = take_pre i (carries_held fcs f w (2 * q + 7 * j) (3 * q) rows v is i e)
@@ -243,9 +235,9 @@ module _ (f w : List ℕ) (q rows : ℕ) (t : Taken) (j : ℕ) (a : List ℕ) (r
       front_row : Front (4 * (5 * q + 8 * t.pieces)) u w
       front_row = rw eu (front_puts (4 * (5 * q + 8 * t.pieces)) (row_of (part_of w (2 * q + 7 * j) (6 * q) t.counts i) (long w (2 * q + 7 * j + 5))) w (5 * q + 8 * t.pieces) (omega arith))
 
-      inside : i.start + i.len ≤ cond (eqb i.joined 1) (8 * q) (length f)
+      inside : i.start + i.len ≤ cond i.joined (8 * q) (length f)
       inside = rw held.joined (go (eqb (word w (2 * q + 7 * j + 2)) 1) r.inside.inside) where
-        go : (b : Bool) → word w (2 * q + 7 * j + 3) + word w (2 * q + 7 * j + 4) ≤ cond b (8 * q) (length f) → i.start + i.len ≤ cond (eqb (cond b 1 0) 1) (8 * q) (length f)
+        go : (b : Bool) → word w (2 * q + 7 * j + 3) + word w (2 * q + 7 * j + 4) ≤ cond b (8 * q) (length f) → i.start + i.len ≤ cond b (8 * q) (length f)
         go true h = let z : word w (2 * q + 7 * j + 3) + word w (2 * q + 7 * j + 4) ≤ 8 * q = h in omega (arith, held.inside)
         go false h = let z : word w (2 * q + 7 * j + 3) + word w (2 * q + 7 * j + 4) ≤ length f = h in omega (arith, held.inside)
 
@@ -268,7 +260,7 @@ module _ (f w : List ℕ) (q rows : ℕ) (t : Taken) (j : ℕ) (a : List ℕ) (r
 
       -- the row means the piece that is defined
       piece_as : (m : Key → Counts) → Counted m w (6 * q) t.counts j →
-          part_piece f w part (long w (2 * q + 7 * j + 5)) ≡ piece_of (m ((pdu_at f w (2 * q + 7 * j)).link ∷ [])) (pdu_at f w (2 * q + 7 * j)) i.dlci (take i.len (drop i.start (cond (eqb i.joined 1) w f)))
+          part_piece f w part (long w (2 * q + 7 * j + 5)) ≡ piece_of (m ((pdu_at f w (2 * q + 7 * j)).link ∷ [])) (pdu_at f w (2 * q + 7 * j)) i.dlci (take i.len (drop i.start (cond i.joined w f)))
       unfolding part_piece piece_of part_of part pdu_at
       piece_as m c =
           let z : 64 * (word w (2 * q + 7 * j) / 2) + 0 ≡ 64 * (word w (2 * q + 7 * j) / 2) = omega arith in

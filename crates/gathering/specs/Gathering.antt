@@ -45,7 +45,6 @@ pub record TakePre (w : List ℕ) (row b n : ℕ) (i : Info) (at : ℕ) : Type 0
   pub piece : PiecePre w row b n i
   pub room : 4 * at + 32 ≤ length w
   pub few : (k : ℕ) → value_of (lookup w b n k) < 65536
-  pub joined : i.joined ≤ 1
 
 -- ---- what is known before a PDU is taken in
 

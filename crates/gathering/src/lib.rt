@@ -10,9 +10,8 @@ ghost use Rattle.words.specs.Words.{long};
 ghost use Rattle.gathering.specs.Gathering.{part_of, PiecePre, TakePre, Ready, TakenIn, PiecesPre, PiecesBegun, ReadPieces};
 
 use rfcomm::{Info, Part, Verdict, judge, put_piece};
-use table::Row;
 use tree::{Seating, Tree, clear, seat, seek_near};
-use words::{get32, get64, narrow, put32};
+use words::{get32, get64, put32};
 
 // Where the counts from word base on have their links: base is 6 areas, and rows and links share the seventh, but for the last
 // seventh of it, where the index of the channels begins.
@@ -39,13 +38,12 @@ fn count_of(w: &[u8], base: usize, rows: usize, key: u64, near: usize) -> Count
     requires { CountPre w.now base rows }
     ensures { result.value ≡ value_of (lookup w.now base rows key) }
 {
-    let x = seek_near(w, index_of(base), rows, key, near);
-    match x {
-        Row::At(i) => Count {
+    match seek_near(w, index_of(base), rows, key, near) {
+        Some(i) => Count {
             value: get32(w, base + 4 * i + 2),
             row: i,
         },
-        Row::Nothing => Count {
+        None => Count {
             value: 0,
             row: near,
         },
@@ -109,8 +107,8 @@ fn piece_of(w: &[u8], row: usize, base: usize, rows: usize, i: Info, near: Near)
         cid: get32(w, row + 1),
         sessions: sessions.value,
         links: links.value,
-        start: narrow(i.start),
-        len: narrow(i.len),
+        start: i.start as u32,
+        len: i.len as u32,
         joined: i.joined,
     };
     let found = Near {
@@ -232,10 +230,8 @@ fn take_pdus(file: &[u8], w: &mut [u8], made: usize, rows: usize, fcs: bool) -> 
             links: 0,
         },
     };
-    let mut j = 0;
-    while j < made {
+    for j in 0..made {
         t = take_pdu(file, w, q, rows, fcs, &mut wrong, t, j);
-        j += 1;
     }
     Gathered {
         pieces: t.pieces,

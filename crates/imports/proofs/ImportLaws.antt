@@ -1,6 +1,6 @@
 -- From the code's answer to what a caller gets.
 use Prim.Native.Nat.{ℕ}
-use mathlib.Core.Path.{◌≡◌, refl, ap, sym, subst}
+use mathlib.Core.Path.{◌≡◌, subst}
 use mathlib.Core.List.{List, [], ◌∷◌}
 use lib.ListN.{length}
 use Rattle.trace.specs.Formats.{container_of}
@@ -11,29 +11,11 @@ use Rattle.options.specs.Numbers.{container_in}
 use Rattle.options.proofs.Numbers.{container_two}
 use Rattle.capture.specs.Options.{options_of}
 use Rattle.capture.specs.declared.Options as code
-use Rattle.capture.specs.Calls.{told_imported, Imports}
-use Rattle.capture.specs.declared.Summary.{Summary}
-use Rattle.capture.specs.declared.Imported.{Imported}
-use Rattle.capture.specs.declared.Imported.TheVariants.{Spans, NoStream}
-use Rattle.telling.specs.Telling.{number_of, values_of, stored, Told, Shows, Tells}
-use Rattle.telling.specs.declared.Shown.{Shown}
-use Rattle.telling.proofs.TellLaws.{told_as, calls_told}
+use Rattle.capture.specs.Calls.{told_imported, Imported, Imports}
+use Rattle.telling.specs.Telling.{Told}
+use Rattle.telling.proofs.TellLaws.{calls}
 use Rattle.imports.specs.Imports.{ImportCalls}
 use Rattle.imports.specs.Numbers.{options_in, options_number, AsOptions}
-
--- ---- each case told
-
-module _ (i : Imported) (v : List ℕ) where
-  pub told_spans : (s : Summary) → i ≡ Spans s → (v' : List ℕ) → v' ≡ stored (values_of (told_imported (Spans s))) v → Told (told_imported i) v 0 v'
-  told_spans s e v' ev = rw e (record { number = refl; values = ev })
-
-  pub told_none : i ≡ NoStream → Told (told_imported i) v 6 v
-  unfolding stored
-  told_none e = rw e (record { number = refl; values = refl })
-
-  pub told_shown :
-      (x : Imported) → i ≡ x → (s : Shown) → Shows (number_of (told_imported x)) (values_of (told_imported x)) s → (r : ℕ) (v' : List ℕ) → Tells s v r v' → Told (told_imported i) v r v'
-  told_shown x e s p r v' t = told_as (told_imported x) (told_imported i) (ap told_imported (sym e)) s p v r v' t
 
 -- ---- the calls
 
@@ -41,7 +23,7 @@ told :
     (b : Container) (f w : List ℕ) (o : Options) (out : List ℕ) (i : Imported) (w' out' : List ℕ) → Imports b f w o out i w' out' →
     (v : List ℕ) (r : ℕ) (v' : List ℕ) → Told (told_imported i) v r v' → ImportCalls b f w out o v r w' out' v'
 told b f w o out i w' out' m v r v' t = record {
-  calls = calls_told (imported (container_of b) f (length w) o) out (told_imported i) out' m.meets v r v' t;
+  calls = calls (imported (container_of b) f (length w) o) out (told_imported i) out' m.meets v r v' t;
   spared = m.spared;
   cut = rw m.meets.answers at m.cut;
 }

@@ -1,14 +1,16 @@
 -- From numbers to options.
-use Prim.Native.Nat.{ℕ, ◌≤◌, ◌<◌}
+use Prim.Native.Nat.{ℕ, ◌<◌}
 use mathlib.Core.Path.{◌≡◌}
 use mathlib.Core.Bool.{Bool}
 use mathlib.Core.List.{List}
 use lib.ListN.{get_or}
 use borrow.Author.Tests.{le-leb, lt-leb}
 use Rattle.trace.specs.declared.Container.{Container}
-use Rattle.streams.specs.Streams.{channel_of}
-use Rattle.streams.specs.declared.Channel.{Channel}
-use Rattle.streams.specs.declared.Channel.TheVariants.{Any, Only}
+use Rattle.std.specs.Prelude.{Result, Ok, Err, OkIff}
+use Rattle.std.specs.Result.{result_ok}
+use Rattle.laws.proofs.Choice.{split≤}
+use native.Mathlib.Omega.{arith}
+use Rattle.streams.specs.Streams.{channel_of, Channel}
 use Rattle.opening.specs.Opening.{tail_of}
 use Rattle.opening.specs.declared.Tail.{Tail}
 use Rattle.outcome.specs.Import.{by_source}
@@ -16,13 +18,11 @@ use Rattle.options.specs.Numbers.{tail_number, tail_in, container_in, fcs_in}
 use Rattle.options.proofs.Numbers.{fcs_two}
 use Rattle.imports.specs.Numbers.{channel_number, options_number, AsOptions}
 
-pub channel_only : (n : ℕ) → n ≤ 255 → channel_of (Only n) ≡ channel_number n
+-- the channel that a byte can hold, or any
+pub channel_law : {E : Type 0} (n : ℕ) (r : Result ℕ E) → OkIff r (n < 256) n → channel_of (result_ok r) ≡ channel_number n
 unfolding channel_of channel_number
-channel_only n h = rw (le-leb n 255 h)
-
-pub channel_any : (n : ℕ) → 255 < n → channel_of Any ≡ channel_number n
-unfolding channel_of channel_number
-channel_any n h = rw (lt-leb n 255 h)
+channel_law n (Ok x) k = rw (k.1, le-leb n 255 (omega (arith, k.0)))
+channel_law n (Err e) k = split≤ 256 n (λ h. rw (lt-leb n 255 (omega arith))) (λ h. absurd (k h))
 
 pub options_in_law :
     (l : List ℕ) (c : ℕ) → c ≡ get_or l 0 256 → (b : Container) → b ≡ container_in l → (k : Channel) → channel_of k ≡ channel_number c → (z : Tail) → tail_of z ≡ tail_in l →

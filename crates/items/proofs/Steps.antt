@@ -1,6 +1,8 @@
 -- What the code reads at a place, and the walk of the check.
+use Rattle.std.specs.Prelude.{Option, Some, None, Result, Ok, Err}
+use Rattle.std.specs.Bool.{then_some}
 use Prim.Native.Nat.{ℕ, suc, ◌+◌, ◌-◌, ◌<◌, ◌≤◌}
-use mathlib.Core.Path.{◌≡◌, refl, sym, ◌∙◌}
+use mathlib.Core.Path.{◌≡◌, refl, sym, ap, ◌∙◌}
 use mathlib.Core.Bool.{Bool, true, false}
 use mathlib.Core.List.{List, ◌++◌}
 use native.Mathlib.Nat.{zero-add}
@@ -16,11 +18,9 @@ use Rattle.items.specs.Items.{item, item_head, span, span_item, span_test, Item,
 use Rattle.items.specs.Reading.{read_from}
 use Rattle.items.proofs.Reading.{read_good, read_bad, read_end}
 use Rattle.items.specs.Walks.{step_at, pass_at, check_of}
-use Rattle.items.proofs.Walks.{end_past, good_fits}
+use Rattle.items.proofs.Walks.{end_past, good_fits, some_is, some_end, none_not}
 use Rattle.items.specs.declared.Step.{Step}
 use Rattle.items.specs.declared.Step.TheVariants.{Whole, Passes, End}
-use Rattle.items.specs.declared.Checked.{Checked}
-use Rattle.items.specs.declared.Checked.TheVariants.{Well, Ill}
 
 -- ---- whether a kind and a body may stand in a list
 
@@ -48,13 +48,13 @@ module _ (l : List ℕ) (at : ℕ) where
   unfolding step_at
   step_short h g = rw (lt-leb (length l) at h, lt-leb (end_at l at) (length l) (omega (arith, end_past l at)))
 
-  pub step_passes : (x size : ℕ) → at < length l → x ≡ le32 l at → size ≡ x → length l - at - 6 < size → Passes ≡ step_at l at
+  pub step_passes : (size : ℕ) → at < length l → size ≡ le32 l at → length l - at - 6 < size → Passes ≡ step_at l at
   unfolding step_at end_at
-  step_passes x size h e f g = rw (lt-leb (length l) at h, lt-leb (end_at l at) (length l) (omega arith))
+  step_passes size h e g = rw (lt-leb (length l) at h, lt-leb (end_at l at) (length l) (omega arith))
 
-  pub step_whole : (x size kind : ℕ) → at < length l → 6 ≤ length l - at → x ≡ le32 l at → size ≡ x → size ≤ length l - at - 6 → kind ≡ le16 l (at + 4) → Whole kind (at + 6) (at + 6 + size) ≡ step_at l at
+  pub step_whole : (size kind : ℕ) → at < length l → 6 ≤ length l - at → size ≡ le32 l at → size ≤ length l - at - 6 → kind ≡ le16 l (at + 4) → Whole kind (at + 6) (at + 6 + size) ≡ step_at l at
   unfolding step_at end_at item_at
-  step_whole x size kind h k e f g q = rw (lt-leb (length l) at h, le-leb (end_at l at) (length l) (omega arith), f, e, q)
+  step_whole size kind h k e g q = rw (lt-leb (length l) at h, le-leb (end_at l at) (length l) (omega arith), e, q)
 
 -- ---- whether it may stand there
 
@@ -96,25 +96,28 @@ module _ (l : List ℕ) (at : ℕ) (r : Step) (p : r ≡ step_at l at) where
         let w = whole_is kind start end e in
         rw (le-leb (end_at l at) (length l) w.fits, whole_body, w.kind)
 
-    pub pass_to : (ok : Test) (t : Bool) → t ≡ ok kind (take (end - start) (drop start l)) → t ≡ true → end ≡ pass_at ok l at
+    pass_to : (ok : Test) (t : Bool) → t ≡ ok kind (take (end - start) (drop start l)) → t ≡ true → Some end ≡ pass_at ok l at
     unfolding pass_at
-    pass_to ok t q h = rw (whole_test_law ok, ← q, h) (whole_is kind start end e).end
+    pass_to ok t q h = rw (whole_test_law ok, ← q, h) (ap (λ (n : ℕ). Some n) (whole_is kind start end e).end)
 
-    pub pass_not : (ok : Test) (t : Bool) → t ≡ ok kind (take (end - start) (drop start l)) → t ≡ false → 0 ≡ pass_at ok l at
+    pass_not : (ok : Test) (t : Bool) → t ≡ ok kind (take (end - start) (drop start l)) → t ≡ false → None ≡ pass_at ok l at
     unfolding pass_at
     pass_not ok t q h = rw (whole_test_law ok, ← q, h)
+
+    pub pass_whole : (ok : Test) (t : Bool) (q : Option ℕ) → t ≡ ok kind (take (end - start) (drop start l)) → q ≡ then_some t end → q ≡ pass_at ok l at
+    pass_whole ok t q f g = g ∙ split_b t (λ h. rw h (pass_to ok t f h)) (λ h. rw h (pass_not ok t f h))
 
   not_item : (ok : Test) → (end_at l at ≤ length l → ⊥) → is_item ok l at ≡ false
   unfolding is_item
   not_item ok h = split_b (leb (end_at l at) (length l)) (λ g. absurd (h (leb-true (end_at l at) (length l) g))) (λ g. rw g)
 
-  pub pass_passes : (ok : Test) → r ≡ Passes → 0 ≡ pass_at ok l at
+  pub pass_passes : (ok : Test) → r ≡ Passes → None ≡ pass_at ok l at
   unfolding pass_at step_at
   pass_passes ok e = rw (not_item ok (λ h. split_b (leb (length l) at)
       (λ g. let q : End ≡ Passes = rw g at (sym p ∙ e) in let z : ◌≡◌ {A = ℕ} 0 1 = cc in omega arith)
       (λ g. let q : Whole (item_at l at).kind (at + 6) (end_at l at) ≡ Passes = rw (g, le-leb (end_at l at) (length l) h) at (sym p ∙ e) in let z : ◌≡◌ {A = ℕ} 0 1 = cc in omega arith)))
 
-  pub pass_end : (ok : Test) → r ≡ End → 0 ≡ pass_at ok l at
+  pub pass_end : (ok : Test) → r ≡ End → None ≡ pass_at ok l at
   unfolding pass_at step_at
   pass_end ok e = rw (not_item ok (λ h. split_b (leb (length l) at)
       (λ g. let q = leb-true (length l) at g in omega (arith, end_past l at))
@@ -122,9 +125,9 @@ module _ (l : List ℕ) (at : ℕ) (r : Step) (p : r ≡ step_at l at) where
 
 -- ---- the walk: n items are passed, and what is still to come makes up the answer
 
-unfoldable pub counted : ℕ → Listed Item → Checked
-counted n (well_formed xs) = Well (n + length xs)
-counted n (ill_formed m) = Ill m
+unfoldable pub counted : ℕ → Listed Item → Result ℕ ℕ
+counted n (well_formed xs) = Ok (n + length xs)
+counted n (ill_formed m) = Err m
 
 pub record Checking (ok : Test) (l : List ℕ) (at n : ℕ) : Type 0 where
   pub few : n ≤ at
@@ -144,44 +147,34 @@ counted_more x (ill_formed m) n = refl
 pub checking_start : (ok : Test) (l : List ℕ) → Checking ok l 0 0
 checking_start ok l = record { few = omega arith; within = omega arith; same = counted_none (read_from ok l 0) }
 
-module _ (ok : Test) (l : List ℕ) (at n end : ℕ) (c : Checking ok l at n) (h : at < length l) (p : end ≡ pass_at ok l at) where
-  pub checking_ill : end ≡ 0 → Ill at ≡ check_of (read_from ok l 0)
-  unfolding pass_at counted
-  checking_ill e = split_b (is_item ok l at)
-      (λ g. let q : end_at l at ≡ 0 = rw g at (sym p ∙ e) in absurd (omega (arith, end_past l at)))
-      (λ g. rw (read_bad ok l at h g) at c.same)
+module _ (ok : Test) (l : List ℕ) (at n : ℕ) (r : Option ℕ) (c : Checking ok l at n) (h : at < length l) (p : r ≡ pass_at ok l at) where
+  pub checking_ill : r ≡ None → Err at ≡ check_of (read_from ok l 0)
+  unfolding counted
+  checking_ill e = rw (read_bad ok l at h (none_not ok l at (sym p ∙ e))) at c.same
 
-  good : (end ≡ 0 → ⊥) → is_item ok l at ≡ true
-  unfolding pass_at
-  good e = split_b (is_item ok l at) (λ g. g) (λ g. absurd (e (p ∙ rw g)))
+  module _ (end : ℕ) (e : r ≡ Some end) where
+    pub checking_less : length l - end < length l - at
+    checking_less = let q = some_end ok l at end (sym p ∙ e) in omega (arith, end_past l at)
 
-  checking_past : (end ≡ 0 → ⊥) → at + 6 ≤ end
-  unfolding pass_at
-  checking_past e = let q : end ≡ end_at l at = p ∙ rw (good e) in omega (arith, end_past l at)
+    pub checking_turn : Checking ok l end (n + 1)
+    checking_turn =
+        let g = some_is ok l at end (sym p ∙ e) in
+        let q : end ≡ end_at l at = some_end ok l at end (sym p ∙ e) in
+        record {
+          few = omega (arith, end_past l at, c.few);
+          within = rw q (good_fits ok l at g);
+          same = rw q (sym (counted_more (item_at l at) (read_from ok l (end_at l at)) n) ∙ (rw (read_good ok l at h g) at c.same));
+        }
 
-  pub checking_less : (end ≡ 0 → ⊥) → length l - end < length l - at
-  checking_less e = omega (arith, checking_past e)
-
-  pub checking_turn : (end ≡ 0 → ⊥) → Checking ok l end (n + 1)
-  unfolding pass_at
-  checking_turn e =
-      let g = good e in
-      let q : end ≡ end_at l at = p ∙ rw g in
-      record {
-        few = omega (arith, end_past l at, c.few);
-        within = rw q (good_fits ok l at g);
-        same = rw q (sym (counted_more (item_at l at) (read_from ok l (end_at l at)) n) ∙ (rw (read_good ok l at h g) at c.same));
-      }
-
-pub over : (ok : Test) (l : List ℕ) → 16777216 < length l → Ill 0 ≡ check_of (read_items ok l)
+pub over : (ok : Test) (l : List ℕ) → 16777216 < length l → Err 0 ≡ check_of (read_items ok l)
 unfolding read_items check_of
 over ok l h = rw (lt-leb (length l) 16777216 h)
 
-pub under : (ok : Test) (l : List ℕ) (r : Checked) → length l ≤ 16777216 → r ≡ check_of (read_from ok l 0) → r ≡ check_of (read_items ok l)
+pub under : (ok : Test) (l : List ℕ) (r : Result ℕ ℕ) → length l ≤ 16777216 → r ≡ check_of (read_from ok l 0) → r ≡ check_of (read_items ok l)
 unfolding read_items read_from
 under ok l r h e = rw (le-leb (length l) 16777216 h) e
 
-pub checking_end : (ok : Test) (l : List ℕ) (at n : ℕ) → Checking ok l at n → length l ≤ at → Well n ≡ check_of (read_from ok l 0)
+pub checking_end : (ok : Test) (l : List ℕ) (at n : ℕ) → Checking ok l at n → length l ≤ at → Ok n ≡ check_of (read_from ok l 0)
 unfolding counted
 checking_end ok l at n c h = let e : n + 0 ≡ n = omega arith in rw (read_end ok l at h, e) at c.same
 

@@ -1,7 +1,8 @@
 -- Laws of specs/Walks.
+use Rattle.std.specs.Prelude.{Option, Some, None, Result, Ok, Err}
 use Prim.Native.Nat.{ℕ, zero, suc, ◌+◌, ◌-◌, ◌*◌, ◌<◌, ◌≤◌}
 use mathlib.Core.Path.{◌≡◌, refl, sym, ap, ◌∙◌, subst}
-use mathlib.Core.Bool.{true, ◌||◌}
+use mathlib.Core.Bool.{true, false, ◌||◌}
 use mathlib.Core.List.{List, [], ◌∷◌}
 use native.Mathlib.Nat.{sub-zero}
 use native.Mathlib.Omega.{arith}
@@ -14,13 +15,8 @@ use Rattle.laws.specs.Numbers.{le16, le32, le64}
 use Rattle.items.specs.Items.{span, rx_of, Item, item_at, end_at, Test, is_item, Listed, well_formed, ill_formed, more, read_items, span_test, span_of, spans_in, name_test, names_in}
 use Rattle.items.specs.Reading.{read_from}
 use Rattle.items.proofs.Reading.{read_good, read_bad, read_end, le32_drop}
-use Rattle.items.specs.declared.Direction.{Direction}
-use Rattle.items.specs.declared.Checked.{Checked}
-use Rattle.items.specs.declared.Checked.TheVariants.{Well, Ill}
 use Rattle.items.specs.declared.SpanPart.{SpanPart}
-use Rattle.items.specs.declared.Next.{Next}
-use Rattle.items.specs.declared.Next.TheVariants as next
-use Rattle.items.specs.Walks.{pass_at, check_of, held, items_from, spans_from, names_from, Walks, Turn, Good, SpanIs, SpanHere, NextIs, direction_of, NameIs}
+use Rattle.items.specs.Walks.{pass_at, check_of, held, items_from, spans_from, names_from, Walks, Turn, Good, SpanTo, SpanIs, SpanHere, NextIs, direction_of, NameIs}
 
 pub good_fits : (ok : Test) (l : List ℕ) (at : ℕ) → is_item ok l at ≡ true → end_at l at ≤ length l
 unfolding is_item
@@ -37,7 +33,22 @@ pub end_past : (l : List ℕ) (at : ℕ) → at + 6 ≤ end_at l at
 unfolding end_at
 end_past l at = omega arith
 
-end_is : (l : List ℕ) (at : ℕ) → end_at l at ≡ at + 6 + le32 l at
+-- what passing an item says of it
+module _ (ok : Test) (l : List ℕ) (at : ℕ) where
+  pub none_not : pass_at ok l at ≡ None → is_item ok l at ≡ false
+  unfolding pass_at
+  none_not e = split_b (is_item ok l at) (λ g. let q : Some (end_at l at) ≡ None = rw g at e in let z : ◌≡◌ {A = ℕ} 0 1 = cc in absurd (omega arith)) (λ g. g)
+
+  module _ (end : ℕ) (e : pass_at ok l at ≡ Some end) where
+    pub some_is : is_item ok l at ≡ true
+    unfolding pass_at
+    some_is = split_b (is_item ok l at) (λ g. g) (λ g. let q : None ≡ Some end = rw g at e in let z : ◌≡◌ {A = ℕ} 0 1 = cc in absurd (omega arith))
+
+    pub some_end : end ≡ end_at l at
+    unfolding pass_at
+    some_end = let q : Some (end_at l at) ≡ Some end = rw some_is at e in cc
+
+pub end_is : (l : List ℕ) (at : ℕ) → end_at l at ≡ at + 6 + le32 l at
 unfolding end_at
 end_is l at = refl
 
@@ -98,32 +109,32 @@ few_by ok l (suc k) at w h =
 pub items_few : (ok : Test) (l : List ℕ) (at : ℕ) → Walks ok l at → at + 6 * length (items_from ok l at) ≤ length l
 items_few ok l at w = few_by ok l (length l) at w (omega arith)
 
-well_held : {A : Type 0} (r : Listed A) (n : ℕ) → check_of r ≡ Well n → r ≡ well_formed (held r)
+well_held : {A : Type 0} (r : Listed A) (n : ℕ) → check_of r ≡ Ok n → r ≡ well_formed (held r)
 unfolding check_of
 well_held (well_formed xs) n e = refl
 well_held (ill_formed m) n e = let z : ◌≡◌ {A = ℕ} 0 1 = cc in absurd (omega arith)
 
-well_count : {A : Type 0} (r : Listed A) (n : ℕ) → check_of r ≡ Well n → n ≡ length (held r)
+well_count : {A : Type 0} (r : Listed A) (n : ℕ) → check_of r ≡ Ok n → n ≡ length (held r)
 unfolding check_of
 well_count (well_formed xs) n e = cc
 well_count (ill_formed m) n e = let z : ◌≡◌ {A = ℕ} 0 1 = cc in absurd (omega arith)
 
-ill_at : {A : Type 0} (r : Listed A) (n : ℕ) → check_of r ≡ Ill n → r ≡ ill_formed n
+ill_at : {A : Type 0} (r : Listed A) (n : ℕ) → check_of r ≡ Err n → r ≡ ill_formed n
 unfolding check_of
 ill_at (well_formed xs) n e = let z : ◌≡◌ {A = ℕ} 0 1 = cc in absurd (omega arith)
 ill_at (ill_formed m) n e = cc
 
-no_well : {G : Type 0} (m n : ℕ) → check_of {A = Item} (ill_formed m) ≡ Well n → G
+no_well : {G : Type 0} (m n : ℕ) → check_of {A = Item} (ill_formed m) ≡ Ok n → G
 unfolding check_of
 no_well m n e = let z : ◌≡◌ {A = ℕ} 0 1 = cc in absurd (omega arith)
 
-module _ (ok : Test) (l : List ℕ) (r : Checked) (n : ℕ) (c : r ≡ check_of (read_items ok l)) where
-  pub checked_good : r ≡ Well n → Good ok l n
+module _ (ok : Test) (l : List ℕ) (r : Result ℕ ℕ) (n : ℕ) (c : r ≡ check_of (read_items ok l)) where
+  pub checked_good : r ≡ Ok n → Good ok l n
   unfolding read_items read_from items_from
   checked_good e =
       split_b (leb (length l) 16777216)
       (λ h.
-      let q : check_of (read_from ok l 0) ≡ Well n = rw h at (sym c ∙ e) in
+      let q : check_of (read_from ok l 0) ≡ Ok n = rw h at (sym c ∙ e) in
       let w = well_held (read_from ok l 0) n q in
       record {
         reads = rw h w;
@@ -133,7 +144,7 @@ module _ (ok : Test) (l : List ℕ) (r : Checked) (n : ℕ) (c : r ≡ check_of 
       })
       (λ h. no_well 0 n (rw h at (sym c ∙ e)))
 
-  pub checked_ill : r ≡ Ill n → read_items ok l ≡ ill_formed n
+  pub checked_ill : r ≡ Err n → read_items ok l ≡ ill_formed n
   checked_ill e = ill_at (read_items ok l) n (sym c ∙ e)
 
 -- a list that was walked to its end, or to an item at which it is ill-formed
@@ -164,12 +175,12 @@ pub spans_end : (l : List ℕ) (at : ℕ) → Walks span_test l at → length l 
 unfolding spans_from
 spans_end l at w h = rw (walks_end span_test l at w h)
 
-module _ (l : List ℕ) (at : ℕ) (r : Next) (v : NextIs l at r) where
-  pub next_span : (s : SpanPart) → r ≡ next.Span s → SpanHere l at s
-  next_span s e = (subst (λ (x : Next). NextIs l at x) e v).stands
+module _ (l : List ℕ) (at : ℕ) (r : Option SpanPart) (v : NextIs l at r) where
+  pub next_span : (s : SpanPart) → r ≡ Some s → SpanHere l at s
+  next_span s e = (subst (λ (x : Option SpanPart). NextIs l at x) e v).stands
 
-  pub next_ill : r ≡ next.Ill → read_from span_test l at ≡ ill_formed at
-  next_ill e = (subst (λ (x : Next). NextIs l at x) e v).stands
+  pub next_ill : r ≡ None → read_from span_test l at ≡ ill_formed at
+  next_ill e = (subst (λ (x : Option SpanPart). NextIs l at x) e v).stands
 
 drop_take : (a n : ℕ) (l : List ℕ) → drop a (take n l) ≡ take (n - a) (drop a l)
 drop_take zero n l = rw sub-zero
@@ -233,56 +244,47 @@ module _ (l : List ℕ) (at : ℕ) where
     span_room = omega (arith, span_long, (walks_turn span_test l at w h).next.within)
 
     -- from what is read there
-    span_by : (d : Direction) (end kind ms : ℕ) → end ≡ end_at l at → kind ≡ le16 l (at + 4) → d ≡ direction_of kind → ms ≡ le64 l (at + 6)
-        → SpanIs l at (record { direction = d; ms = ms; start = at + 14; end = end })
-    span_by d end kind ms e k p q = record {
-      head = rw (e, p, k, q) (span_head ∙ rw span_of_law);
-      start = refl;
-      end = e;
-      long = omega (arith, span_long);
-      next = rw e (walks_turn span_test l at w h).next;
-    }
-
-    pub span_is : (d : Direction) (x size kind ms : ℕ) → x ≡ le32 l at → size ≡ x → kind ≡ le16 l (at + 4) → d ≡ direction_of kind → ms ≡ le64 l (at + 6)
-        → SpanIs l at (record { direction = d; ms = ms; start = at + 14; end = at + 6 + size })
-    span_is d x size kind ms r s k p q = span_by d (at + 6 + size) kind ms (rw (s, r) (sym (end_is l at))) k p q
+    pub span_is : (end : ℕ) (s : SpanPart) → end ≡ end_at l at → SpanTo l at end s → SpanIs l at s
+    span_is end s e t =
+        let q : s.end ≡ end_at l at = t.end ∙ e in
+        record {
+          head = rw (q, t.start, t.direction, t.ms) (span_head ∙ rw span_of_law);
+          start = t.start;
+          end = q;
+          long = rw t.start (omega (arith, span_long));
+          next = rw q (walks_turn span_test l at w h).next;
+        }
 
   -- where the place after it was asked for
-  module _ (h : at < length l) (end : ℕ) (a : end ≡ pass_at span_test l at) where
-    pub here_ill : end ≡ 0 → NextIs l at next.Ill
-    unfolding pass_at
-    here_ill e =
-        split_b (is_item span_test l at)
-        (λ g. absurd (omega (arith, end_past l at, rw g at a)))
-        (λ g. record { stands = read_bad span_test l at h g })
+  module _ (h : at < length l) (r : Option ℕ) (a : r ≡ pass_at span_test l at) where
+    pub here_ill : r ≡ None → NextIs l at None
+    here_ill e = record { stands = read_bad span_test l at h (none_not span_test l at (sym a ∙ e)) }
 
-    module _ (n : end ≡ 0 → ⊥) where
+    module _ (end : ℕ) (n : r ≡ Some end) where
       here_item : is_item span_test l at ≡ true
-      unfolding pass_at
-      here_item = split_b (is_item span_test l at) (λ g. g) (λ g. absurd (n (rw g at a)))
+      here_item = some_is span_test l at end (sym a ∙ n)
 
       here_end : end ≡ end_at l at
-      unfolding pass_at
-      here_end = a ∙ rw here_item
+      here_end = some_end span_test l at end (sym a ∙ n)
 
       pub here_room : at + 14 ≤ length l
       here_room =
           let f = good_fits span_test l at here_item in
           omega (arith, body_least f (good_passes span_test l at here_item))
 
-      pub here_span : (d : Direction) (kind ms : ℕ) → kind ≡ le16 l (at + 4) → d ≡ direction_of kind → ms ≡ le64 l (at + 6)
-          → NextIs l at (next.Span (record { direction = d; ms = ms; start = at + 14; end = end }))
-      here_span d kind ms k p q =
+      pub here_span : (s : SpanPart) → SpanTo l at end s → NextIs l at (Some s)
+      here_span s t =
           let f = good_fits span_test l at here_item in
           let e = here_end in
-          let b : Walks span_test l end → Walks span_test l at = λ w. walks_back span_test l at h here_item (rw e at w) in record {
+          let q : s.end ≡ end_at l at = t.end ∙ e in
+          let b : Walks span_test l s.end → Walks span_test l at = λ w. walks_back span_test l at h here_item (rw q at w) in record {
             stands = record {
-              start = refl;
-              long = omega (arith, body_least f (good_passes span_test l at here_item));
+              start = t.start;
+              long = rw t.start (omega (arith, body_least f (good_passes span_test l at here_item)));
               within = omega arith;
-              is = λ w. span_by (b w) h d end kind ms e k p q;
+              is = λ w. span_is (b w) h end s e t;
               well = b;
-              ill = λ m x. ill_back span_test l at h here_item m (rw e at x);
+              ill = λ m x. ill_back span_test l at h here_item m (rw q at x);
             };
           }
 
@@ -313,10 +315,10 @@ module _ (l : List ℕ) (at : ℕ) (w : Walks name_test l at) (h : at < length l
   name_room = let t = walks_turn name_test l at w h in omega (arith, t.past, t.next.within)
 
   -- from what is read there
-  pub name_is : (x size : ℕ) → x ≡ le32 l at → size ≡ x → NameIs l at (record { start = at + 6; end = at + 6 + size })
-  name_is x size r s =
+  pub name_is : (size : ℕ) → size ≡ le32 l at → NameIs l at (record { start = at + 6; end = at + 6 + size })
+  name_is size r =
       let t = walks_turn name_test l at w h in
-      let e : at + 6 + size ≡ end_at l at = rw (s, r) (sym (end_is l at)) in
+      let e : at + 6 + size ≡ end_at l at = rw r (sym (end_is l at)) in
       record {
         head = rw e (name_head ∙ rw (body_name l at));
         start = refl;

@@ -1,5 +1,6 @@
 -- Walking a list in code: what a step reads, what a check answers, and, once a list is checked, what stands at each place of it.
-use Rattle.std.specs.Prelude.{ℕ, ◌+◌, ◌-◌, ◌≤◌, ◌≡◌, true, cond, List, [], ◌∷◌, map, leb, eqb, length, take, drop}
+use Rattle.std.specs.Prelude.{Option, Some, None, Result, Ok, Err, ℕ, ◌+◌, ◌-◌, ◌≤◌, ◌≡◌, true, cond, List, [], ◌∷◌, map, leb, eqb, length, take, drop}
+use Rattle.laws.specs.Numbers.{le16, le64}
 use Rattle.items.specs.Items.{Span, span, rx_of, Item, item_at, end_at, Test, is_item, Listed, well_formed, ill_formed, read_items, span_test, span_of, name_test}
 use Rattle.items.specs.Reading.{read_from}
 use Rattle.items.specs.declared.Direction.{Direction}
@@ -8,11 +9,7 @@ use Rattle.items.specs.declared.Listing.{Listing}
 use Rattle.items.specs.declared.Listing.TheVariants.{Spans, Names}
 use Rattle.items.specs.declared.Step.{Step}
 use Rattle.items.specs.declared.Step.TheVariants.{Whole, Passes, End}
-use Rattle.items.specs.declared.Checked.{Checked}
-use Rattle.items.specs.declared.Checked.TheVariants.{Well, Ill}
 use Rattle.items.specs.declared.SpanPart.{SpanPart}
-use Rattle.items.specs.declared.Next.{Next}
-use Rattle.items.specs.declared.Next.TheVariants as next
 use Rattle.items.specs.declared.NamePart.{NamePart}
 
 -- the kinds and bodies of a list
@@ -24,14 +21,14 @@ test_of Names = name_test
 unfoldable pub step_at : List ℕ → ℕ → Step
 step_at l at = cond (leb (length l) at) End (cond (leb (end_at l at) (length l)) (Whole (item_at l at).kind (at + 6) (end_at l at)) Passes)
 
--- the place after the item there, or 0 where the list is ill-formed
-unfoldable pub pass_at : Test → List ℕ → ℕ → ℕ
-pass_at ok l at = cond (is_item ok l at) (end_at l at) 0
+-- the place after the item there, none where the list is ill-formed
+unfoldable pub pass_at : Test → List ℕ → ℕ → Option ℕ
+pass_at ok l at = cond (is_item ok l at) (Some (end_at l at)) None
 
 -- the number of items, or the offset at which the list is ill-formed
-unfoldable pub check_of : {A : Type 0} → Listed A → Checked
-check_of (well_formed xs) = Well (length xs)
-check_of (ill_formed n) = Ill n
+unfoldable pub check_of : {A : Type 0} → Listed A → Result ℕ ℕ
+check_of (well_formed xs) = Ok (length xs)
+check_of (ill_formed n) = Err n
 
 -- ---- a list that is well-formed from a place on, and its items from there on
 
@@ -68,6 +65,17 @@ pub record Good (ok : Test) (l : List ℕ) (n : ℕ) : Type 0 where
   pub count : n ≡ length (items_from ok l 0)
   pub small : length l ≤ 16777216
 
+-- kind 1 is Rx and 2 is Tx
+unfoldable pub direction_of : ℕ → Direction
+direction_of kind = cond (eqb kind 1) Rx Tx
+
+-- what is read of a span whose item stands at a place and ends at another
+pub record SpanTo (l : List ℕ) (at to : ℕ) (s : SpanPart) : Type 0 where
+  pub direction : s.direction ≡ direction_of (le16 l (at + 4))
+  pub ms : s.ms ≡ le64 l (at + 6)
+  pub start : s.start ≡ at + 14
+  pub end : s.end ≡ to
+
 -- the span at a place of a list that is well-formed from there on
 pub record SpanIs (l : List ℕ) (at : ℕ) (s : SpanPart) : Type 0 where
   pub head : spans_from l at ≡ span (rx_of s.direction) s.ms (take (s.end - s.start) (drop s.start l)) ∷ spans_from l s.end
@@ -85,16 +93,12 @@ pub record SpanHere (l : List ℕ) (at : ℕ) (s : SpanPart) : Type 0 where
   pub well : Walks span_test l s.end → Walks span_test l at
   pub ill : (n : ℕ) → read_from span_test l s.end ≡ ill_formed n → read_from span_test l at ≡ ill_formed n
 
-abbrev pub next_is : List ℕ → ℕ → Next → Type 0
-next_is l at (next.Span s) = SpanHere l at s
-next_is l at next.Ill = read_from span_test l at ≡ ill_formed at
+abbrev pub next_is : List ℕ → ℕ → Option SpanPart → Type 0
+next_is l at (Some s) = SpanHere l at s
+next_is l at None = read_from span_test l at ≡ ill_formed at
 
-pub record NextIs (l : List ℕ) (at : ℕ) (r : Next) : Type 0 where
+pub record NextIs (l : List ℕ) (at : ℕ) (r : Option SpanPart) : Type 0 where
   pub stands : next_is l at r
-
--- kind 1 is Rx and 2 is Tx
-unfoldable pub direction_of : ℕ → Direction
-direction_of kind = cond (eqb kind 1) Rx Tx
 
 -- the name at a place of a list that is well-formed from there on
 pub record NameIs (l : List ℕ) (at : ℕ) (n : NamePart) : Type 0 where

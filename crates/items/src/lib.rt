@@ -5,13 +5,52 @@ ghost use Rattle.std.specs.Prelude.{◌≡◌, ◌+◌, ◌-◌, ◌%◌, ◌<�
 ghost use Rattle.laws.specs.Stores.{Writes};
 ghost use Rattle.items.specs.Items.{item, item_head, span_item, span, rx_of, span_test, name_test, read_items};
 ghost use Rattle.items.specs.Reading.{read_from};
-ghost use Rattle.items.specs.Walks.{test_of, step_at, pass_at, check_of, direction_of, Walks, SpanIs, NextIs, NameIs};
+ghost use Rattle.items.specs.Walks.{test_of, step_at, pass_at, check_of, direction_of, Walks, SpanTo, SpanIs, NextIs, NameIs};
+
+use words::{get_le16, get_le32, get_le64};
 
 // Which way a span went: from the headset (Rx) or to it (Tx).
 #[derive(Clone, Copy)]
 pub enum Direction {
     Rx,
     Tx,
+}
+
+impl Direction {
+    // The direction in the low bit of a row's side, 2 * link + direction.
+    #[tactic(auto, unfolding(crate::specs::Items::rx_of))]
+    pub fn in_side(side: u32) -> Direction
+        ensures { rx_of result ≡ side % 2 }
+    {
+        if side % 2 == 1 {
+            Direction::Rx
+        } else {
+            Direction::Tx
+        }
+    }
+
+    // The direction that a span's kind says.
+    #[tactic(auto, unfolding(crate::specs::Walks::direction_of))]
+    fn of_kind(kind: u16) -> Direction
+        ensures { result ≡ direction_of kind }
+    {
+        if kind == 1 {
+            Direction::Rx
+        } else {
+            Direction::Tx
+        }
+    }
+
+    // The kind of a span that went this way.
+    #[tactic(auto, unfolding(crate::specs::Items::rx_of))]
+    pub fn kind(self) -> u16
+        ensures { result ≡ 2 - rx_of self }
+    {
+        match self {
+            Direction::Rx => 1,
+            Direction::Tx => 2,
+        }
+    }
 }
 
 // Which list it is: it says the kinds and bodies that the list may have.
@@ -30,14 +69,7 @@ pub enum Step {
     End,
 }
 
-// What a check answers: the number of items, or the offset at which the list is ill-formed.
-#[derive(Clone, Copy)]
-pub enum Checked {
-    Well(usize),
-    Ill(usize),
-}
-
-// A span in a list that was checked: its wire bytes stand from start to end, and the next item at end.
+// A span in a list: its wire bytes stand from start to end, and the next item at end.
 #[derive(Clone, Copy)]
 pub struct SpanPart {
     pub direction: Direction,
@@ -66,94 +98,74 @@ pub fn item_at(list: &[u8], at: usize) -> Step
     if left < 6 {
         return Step::Passes;
     }
-    let size = words::wide32(words::get_le32(list, at));
+    let size = get_le32(list, at) as usize;
     if left - 6 < size {
         return Step::Passes;
     }
     let start = at + 6;
-    Step::Whole(words::get_le16(list, at + 4), start, start + size)
+    Step::Whole(get_le16(list, at + 4), start, start + size)
 }
 
 // Whether an item may stand in a list.
+#[tactic(auto, unfolding(crate::specs::Items::span_test, crate::specs::Items::name_test))]
 fn allowed(which: Listing, kind: u16, body: &[u8]) -> bool
     ensures { result ≡ test_of which kind body.now }
 {
     match which {
-        Listing::Spans => {
-            if body.len() < 8 {
-                return false;
-            }
-            if kind == 1 {
-                return true;
-            }
-            kind == 2
-        }
+        Listing::Spans => 8 <= body.len() && matches!(kind, 1 | 2),
         Listing::Names => kind == 3,
     }
 }
 
-// The place after the item at a place, or 0 where the list is ill-formed.
-fn pass(list: &[u8], which: Listing, at: usize) -> usize
+// The place after the item at a place, where the list may have that item.
+pub fn pass(list: &[u8], which: Listing, at: usize) -> Option<usize>
     requires { at < length list.now }
     ensures { result ≡ pass_at (test_of which) list.now at }
 {
     match item_at(list, at) {
-        Step::Whole(kind, start, end) => {
-            if allowed(which, kind, &list[start..end]) {
-                return end;
-            }
-            0
-        }
-        Step::Passes => 0,
-        Step::End => 0,
+        Step::Whole(kind, start, end) => allowed(which, kind, &list[start..end]).then_some(end),
+        Step::Passes | Step::End => None,
     }
 }
 
 // Item after item, to the end of the list or to the first at which it is ill-formed.
-fn walk(list: &[u8], which: Listing) -> Checked
+fn walk(list: &[u8], which: Listing) -> Result<usize, usize>
     ensures { result ≡ check_of (read_from (test_of which) list.now 0) }
 {
     let mut at: usize = 0;
     let mut n: usize = 0;
     while at < list.len() {
-        let end = pass(list, which, at);
-        if end == 0 {
-            return Checked::Ill(at);
-        }
+        let Some(end) = pass(list, which, at) else {
+            return Err(at);
+        };
         at = end;
         n += 1;
     }
-    Checked::Well(n)
+    Ok(n)
 }
 
-// Checks a list: a list over 16,777,216 bytes is ill-formed at 0.
-pub fn check(list: &[u8], which: Listing) -> Checked
+// Checks a list: the number of its items, or as the error the offset at which it is ill-formed. A list over 16,777,216
+// bytes is ill-formed at 0.
+pub fn check(list: &[u8], which: Listing) -> Result<usize, usize>
     ensures { result ≡ check_of (read_items (test_of which) list.now) }
 {
     if 16777216 < list.len() {
-        return Checked::Ill(0);
+        return Err(0);
     }
     walk(list, which)
 }
 
-// The direction in the low bit of a row's side, 2 * link + direction.
-pub fn direction_in(side: u32) -> Direction
-    ensures { rx_of result ≡ side % 2 }
+// The span of which the item stands at a place and ends at another.
+fn span_to(list: &[u8], at: usize, end: usize) -> SpanPart
+    requires { at + 14 ≤ length list.now }
+    ensures { SpanTo list.now at end result }
 {
-    if side % 2 == 1 {
-        return Direction::Rx;
+    SpanPart {
+        direction: Direction::of_kind(get_le16(list, at + 4)),
+        ms: get_le64(list, at + 6),
+        start: at + 14,
+        end,
     }
-    Direction::Tx
-}
-
-// The direction that a span's kind says.
-fn direction_of(kind: u16) -> Direction
-    ensures { result ≡ direction_of kind }
-{
-    if kind == 1 {
-        return Direction::Rx;
-    }
-    Direction::Tx
 }
 
 // The span at a place of a checked list.
@@ -162,41 +174,17 @@ pub fn span_at(list: &[u8], at: usize) -> SpanPart
     requires at_in_bounds { at < length list.now }
     ensures { SpanIs list.now at result }
 {
-    let size = words::wide32(words::get_le32(list, at));
-    let direction = direction_of(words::get_le16(list, at + 4));
-    let ms = words::get_le64(list, at + 6);
-    SpanPart {
-        direction: direction,
-        ms: ms,
-        start: at + 14,
-        end: at + 6 + size,
-    }
+    let size = get_le32(list, at) as usize;
+    span_to(list, at, at + 6 + size)
 }
 
-// What stands at a place of a list of spans that is not checked: a span, or an item at which the list is ill-formed.
-#[derive(Clone, Copy)]
-pub enum Next {
-    Span(SpanPart),
-    Ill,
-}
-
-// The span at a place of a list that is not checked.
-pub fn next_span(list: &[u8], at: usize) -> Next
+// The span at a place of a list that is not checked: none where the list is ill-formed there.
+pub fn next_span(list: &[u8], at: usize) -> Option<SpanPart>
     requires { at < length list.now }
     ensures { NextIs list.now at result }
 {
-    let end = pass(list, Listing::Spans, at);
-    if end == 0 {
-        return Next::Ill;
-    }
-    let direction = direction_of(words::get_le16(list, at + 4));
-    let ms = words::get_le64(list, at + 6);
-    Next::Span(SpanPart {
-        direction: direction,
-        ms: ms,
-        start: at + 14,
-        end: end,
-    })
+    let end = pass(list, Listing::Spans, at)?;
+    Some(span_to(list, at, end))
 }
 
 // The name at a place of a checked list.
@@ -205,10 +193,11 @@ pub fn name_at(list: &[u8], at: usize) -> NamePart
     requires at_in_bounds { at < length list.now }
     ensures { NameIs list.now at result }
 {
-    let size = words::wide32(words::get_le32(list, at));
+    let start = at + 6;
+    let size = get_le32(list, at) as usize;
     NamePart {
-        start: at + 6,
-        end: at + 6 + size,
+        start,
+        end: start + size,
     }
 }
 
@@ -231,21 +220,11 @@ pub fn put_item(out: &mut [u8], at: usize, kind: u16, body: &[u8]) -> usize
     words::copy_to(body, out, to)
 }
 
-// The kind of a span that went this way.
-fn kind_of(direction: Direction) -> u16
-    ensures { result ≡ 2 - rx_of direction }
-{
-    match direction {
-        Direction::Rx => 1,
-        Direction::Tx => 2,
-    }
-}
-
 pub fn put_span(out: &mut [u8], at: usize, direction: Direction, ms: u64, wire: &[u8]) -> usize
     requires { at + 14 + length wire.now ≤ length out.old }
     ensures { Writes out.old at (span_item (span (rx_of direction) ms wire.now)) result out.new }
 {
-    let to = put_head(out, at, kind_of(direction), 8 + wire.len());
+    let to = put_head(out, at, direction.kind(), 8 + wire.len());
     let place = words::put_le(out, to, ms, 8);
     words::copy_to(wire, out, place)
 }

@@ -76,9 +76,9 @@ module _ (w : List ℕ) (at k c p s l t : ℕ) where
 -- ---- a payload lent
 
 pub got_work :
-    (f w : List ℕ) (at p x s y n : ℕ) (r : List ℕ) → p ≡ word w (at + 2) → x ≡ word w (at + 3) → s ≡ x → y ≡ word w (at + 4) → n ≡ y → p ≡ 1 → r ≡ take n (drop s w) → r ≡ (pdu_at f w at).payload
-got_work f w at p x s y n r pe xe se ye ne e q = q ∙ (rw (ne, ye, se, xe) (sym (payload_work f w at (sym pe ∙ e))))
+    (f w : List ℕ) (at p s n : ℕ) (r : List ℕ) → p ≡ word w (at + 2) → s ≡ word w (at + 3) → n ≡ word w (at + 4) → p ≡ 1 → r ≡ take n (drop s w) → r ≡ (pdu_at f w at).payload
+got_work f w at p s n r pe se ne e q = q ∙ (rw (ne, se) (sym (payload_work f w at (sym pe ∙ e))))
 
 pub got_file :
-    (f w : List ℕ) (at p x s y n : ℕ) (r : List ℕ) → p ≡ word w (at + 2) → x ≡ word w (at + 3) → s ≡ x → y ≡ word w (at + 4) → n ≡ y → (p ≡ 1 → ⊥) → r ≡ take n (drop s f) → r ≡ (pdu_at f w at).payload
-got_file f w at p x s y n r pe xe se ye ne e q = q ∙ (rw (ne, ye, se, xe) (sym (payload_file f w at (λ z. e (pe ∙ z)))))
+    (f w : List ℕ) (at p s n : ℕ) (r : List ℕ) → p ≡ word w (at + 2) → s ≡ word w (at + 3) → n ≡ word w (at + 4) → (p ≡ 1 → ⊥) → r ≡ take n (drop s f) → r ≡ (pdu_at f w at).payload
+got_file f w at p s n r pe se ne e q = q ∙ (rw (ne, se) (sym (payload_file f w at (λ z. e (pe ∙ z)))))

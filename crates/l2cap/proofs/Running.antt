@@ -1,4 +1,5 @@
 -- The run over all packets.
+use Rattle.std.specs.Prelude.{None}
 use mathlib.Core.Path.{◌≡◌, refl, sym, ap, ◌∙◌, fun_ext}
 use mathlib.Core.List.{List, ◌++◌, append_assoc, append-nil}
 use mathlib.Core.Option.{Option, none}
@@ -25,7 +26,6 @@ use Rattle.l2cap.specs.Rekeyed.{run_by}
 use Rattle.l2cap.proofs.Rekeyed.{run_by_law, rekey}
 use Rattle.fragments.specs.Links.{Linked, Seats, Blank, LinkRoom, LinkedTo}
 use Rattle.l2cap.specs.Steps.{open_at, open_in, row_at, RowPre, held_of, map_of, Ready, Step, Stepped, Run, Ran, stays, steps}
-use Rattle.l2cap.specs.declared.Open.TheVariants.{Closed}
 use Rattle.l2cap.specs.declared.Tables.{Tables}
 use Rattle.l2cap.proofs.Opens.{never, as_blank}
 use Rattle.l2cap.proofs.Stepping.{seat_row, seat_room, seat_open}
@@ -75,7 +75,7 @@ pub record Fresh (f w : List ℕ) (q n count : ℕ) : Type 0 where
   pub blank : Blank w (3 * q) n
 
 module _ (f w₀ : List ℕ) (q n count : ℕ) (pre : Fresh f w₀ q n count) where
-  pub run_closed : (k : ℕ) → open_at w₀ (3 * q) n k ≡ Closed
+  pub run_closed : (k : ℕ) → open_at w₀ (3 * q) n k ≡ None
   unfolding open_at
   run_closed k = as_blank (lookup w₀ (3 * q) n k) (pre.blank.says k)
 

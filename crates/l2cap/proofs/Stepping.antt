@@ -1,4 +1,5 @@
 -- A step: what the open rows stand for before and after one packet.
+use Rattle.std.specs.Prelude.{Option as Maybe, Some, None}
 use mathlib.Core.Path.{◌≡◌, refl, sym, ap, ◌∙◌, fun_ext}
 use mathlib.Core.Bool.{Bool, true, false, cond}
 use mathlib.Core.Logic.{◌⊎◌, inl, inr}
@@ -16,7 +17,6 @@ use Rattle.words.specs.Front.{Front}
 use Rattle.words.proofs.Front.{front_then, front_word, front_less, front_refl}
 use Rattle.table.specs.Table.{some as row, find_in, lookup, upd, second, sum_of, Stored, Agree}
 use Rattle.table.proofs.Table.{find_below, lookup_found, lookup_agree, long_agree, sum_agree, second_le}
-use Rattle.table.specs.declared.Row.TheVariants.{At}
 use Rattle.tree.proofs.Index.{find_agree}
 use Rattle.packets.specs.PacketTable.{packet_at, data_of, Tabled}
 use Rattle.packets.proofs.PacketFrames.{data_next, data_front}
@@ -28,11 +28,10 @@ use Rattle.l2cap.specs.PduTable.{pdus_from, pays_of}
 use Rattle.l2cap.specs.PduFrames.{Placed}
 use Rattle.l2cap.proofs.PduFrames.{placed_agree, pdus_agree, pays_agree}
 use Rattle.l2cap.specs.Rekeyed.{put_by}
-use Rattle.l2cap.specs.Steps.{Need, row_at, RowPre, as_open, open_at, open_in, longer, grown, next_at, next_by, Arrive, put_open, Finish, Finished, held_of, map_of, Sound, Step, after, Stepped}
+use Rattle.l2cap.specs.Steps.{open_from, Need, row_at, RowPre, as_open, open_at, open_in, longer, grown, next_at, next_by, Arrive, put_open, Finish, Finished, held_of, map_of, Sound, Step, after, Stepped}
 use Rattle.l2cap.specs.declared.Open.{Open}
-use Rattle.l2cap.specs.declared.Open.TheVariants.{Closed, From}
 use Rattle.l2cap.specs.declared.Tables.{Tables}
-use Rattle.l2cap.proofs.Opens.{never, as_zero, as_pos, open_row, set_other, set_stored, set_finds, arrive_got, arrive_none}
+use Rattle.l2cap.proofs.Opens.{never, same_open, as_zero, as_pos, open_row, set_other, set_stored, set_finds, arrive_got, arrive_none}
 
 -- ---- what is open once a packet is read
 
@@ -43,7 +42,7 @@ unfolding packet_at
 packet_start f w i = refl
 
 -- what is open began before
-sound_le : (f w : List ℕ) (b live i : ℕ) → Sound f w b live i → (k a g : ℕ) → open_at w b live k ≡ From a g → (a ≤ i) × (g ≡ length (since f w k a i))
+sound_le : (f w : List ℕ) (b live i : ℕ) → Sound f w b live i → (k a g : ℕ) → open_at w b live k ≡ open_from a g → (a ≤ i) × (g ≡ length (since f w k a i))
 sound_le f w b live i s k a g e = (omega (arith, (s.sound k a g e).0), (s.sound k a g e).1)
 
 module _ (f w : List ℕ) (b live i : ℕ) (s : Sound f w b live i) where
@@ -54,14 +53,14 @@ module _ (f w : List ℕ) (b live i : ℕ) (s : Sound f w b live i) where
   held_more a h = ap some (since_snoc f w (word w (6 * i)) a i h ∙ rw (piece_own f w (word w (6 * i)) i refl))
 
   -- it is what the machine has at hand
-  held_open : (o : Open) → ((a g : ℕ) → o ≡ From a g → a ≤ i) → (t : Bool) →
-      held_of f w (word w (6 * i)) (i + 1) (cond t (From i (word w (6 * i + 3))) (longer o (word w (6 * i + 3))))
+  held_open : (o : Maybe Open) → ((a g : ℕ) → o ≡ open_from a g → a ≤ i) → (t : Bool) →
+      held_of f w (word w (6 * i)) (i + 1) (cond t (open_from i (word w (6 * i + 3))) (longer o (word w (6 * i + 3))))
       ≡ joined (held_of f w (word w (6 * i)) i o) (record { link = (packet_at f w i).link; rx = (packet_at f w i).rx; start = t; time = (packet_at f w i).time; bytes = (packet_at f w i).bytes })
   unfolding held_of longer joined
-  held_open Closed h true = held_first
-  held_open Closed h false = refl
-  held_open (From a g) h true = held_first
-  held_open (From a g) h false = held_more a (h a g refl)
+  held_open None h true = held_first
+  held_open None h false = refl
+  held_open (Some pdu) h true = held_first
+  held_open (Some pdu) h false = held_more pdu.first (h pdu.first pdu.got refl)
 
   pub arrive_held : held_of f w (word w (6 * i)) (i + 1) (next_at w b live i) ≡ after f w b live i
   unfolding next_at grown map_of
@@ -71,19 +70,19 @@ module _ (f w : List ℕ) (b live i : ℕ) (s : Sound f w b live i) where
       ∙ ap (joined (held_of f w (word w (6 * i)) i (open_at w b live (word w (6 * i))))) (sym (packet_start f w i)))
 
   -- it began with a packet of the key
-  pub arrive_own : (a g : ℕ) → next_at w b live i ≡ From a g → word w (6 * a) ≡ word w (6 * i)
+  pub arrive_own : (a g : ℕ) → next_at w b live i ≡ open_from a g → word w (6 * a) ≡ word w (6 * i)
   unfolding next_at grown longer
   arrive_own a g e = go (open_at w b live (word w (6 * i))) (λ x y q. s.own (word w (6 * i)) x y q) (eqb (word w (6 * i + 1)) 1) e where
     go :
-        (o : Open) → ((x y : ℕ) → o ≡ From x y → word w (6 * x) ≡ word w (6 * i)) → (t : Bool) →
-        cond t (From i (word w (6 * i + 3))) (longer o (word w (6 * i + 3))) ≡ From a g → word w (6 * a) ≡ word w (6 * i)
-    go o h true q = let x : i ≡ a = cc in rw (← x)
-    go Closed h false q = never q
-    go (From x y) h false q = let m : x ≡ a = cc in rw (← m) (h x y refl)
+        (o : Maybe Open) → ((x y : ℕ) → o ≡ open_from x y → word w (6 * x) ≡ word w (6 * i)) → (t : Bool) →
+        cond t (open_from i (word w (6 * i + 3))) (longer o (word w (6 * i + 3))) ≡ open_from a g → word w (6 * a) ≡ word w (6 * i)
+    go o h true q = let x : i ≡ a = (same_open i (word w (6 * i + 3)) a g q).0 in rw (← x)
+    go None h false q = never q
+    go (Some pdu) h false q = let m : pdu.first ≡ a = (same_open pdu.first (pdu.got + word w (6 * i + 3)) a g q).0 in rw (← m) (h pdu.first pdu.got refl)
 
   -- and its bytes are counted right
   pub arrive_sound :
-      word w (6 * i + 2) + word w (6 * i + 3) ≤ length f → (a g : ℕ) → next_at w b live i ≡ From a g →
+      word w (6 * i + 2) + word w (6 * i + 3) ≤ length f → (a g : ℕ) → next_at w b live i ≡ open_from a g →
       (a ≤ i) × (g ≡ length (since f w (word w (6 * i)) a (i + 1)))
   unfolding next_at grown longer
   arrive_sound fit a g e = go (open_at w b live (word w (6 * i))) (λ x y q. sound_le f w b live i s (word w (6 * i)) x y q) (eqb (word w (6 * i + 1)) 1) e where
@@ -94,38 +93,38 @@ module _ (f w : List ℕ) (b live i : ℕ) (s : Sound f w b live i) where
     first = rw (since_one f w (word w (6 * i)) i, piece_own f w (word w (6 * i)) i refl) own
 
     go :
-        (o : Open) → ((x y : ℕ) → o ≡ From x y → (x ≤ i) × (y ≡ length (since f w (word w (6 * i)) x i))) → (t : Bool) →
-        cond t (From i (word w (6 * i + 3))) (longer o (word w (6 * i + 3))) ≡ From a g → (a ≤ i) × (g ≡ length (since f w (word w (6 * i)) a (i + 1)))
-    go o h true q = let x : i ≡ a = cc in let y : word w (6 * i + 3) ≡ g = cc in (omega arith, rw (← x) (sym y ∙ sym first))
-    go Closed h false q = never q
-    go (From x y) h false q =
-        let m : x ≡ a = cc in
-        let n : y + word w (6 * i + 3) ≡ g = cc in
-        let l : length (since f w (word w (6 * i)) x (i + 1)) ≡ y + word w (6 * i + 3) =
-        rw (since_snoc f w (word w (6 * i)) x i (h x y refl).0, piece_own f w (word w (6 * i)) i refl, length-append, own, ← (h x y refl).1) in
-        (rw (← m) (h x y refl).0, rw (← m) (sym n ∙ sym l))
+        (o : Maybe Open) → ((x y : ℕ) → o ≡ open_from x y → (x ≤ i) × (y ≡ length (since f w (word w (6 * i)) x i))) → (t : Bool) →
+        cond t (open_from i (word w (6 * i + 3))) (longer o (word w (6 * i + 3))) ≡ open_from a g → (a ≤ i) × (g ≡ length (since f w (word w (6 * i)) a (i + 1)))
+    go o h true q = let z = same_open i (word w (6 * i + 3)) a g q in (omega (arith, z.0), rw (← z.0) (sym z.1 ∙ sym first))
+    go None h false q = never q
+    go (Some pdu) h false q =
+        let m : pdu.first ≡ a = (same_open pdu.first (pdu.got + word w (6 * i + 3)) a g q).0 in
+        let n : pdu.got + word w (6 * i + 3) ≡ g = (same_open pdu.first (pdu.got + word w (6 * i + 3)) a g q).1 in
+        let l : length (since f w (word w (6 * i)) pdu.first (i + 1)) ≡ pdu.got + word w (6 * i + 3) =
+        rw (since_snoc f w (word w (6 * i)) pdu.first i (h pdu.first pdu.got refl).0, piece_own f w (word w (6 * i)) i refl, length-append, own, ← (h pdu.first pdu.got refl).1) in
+        (rw (← m) (h pdu.first pdu.got refl).0, rw (← m) (sym n ∙ sym l))
 
 -- ---- the packet's key gets v, and one packet more is read
 
 module _
-    (f u w : List ℕ) (b live c i n : ℕ) (v : Open)
+    (f u w : List ℕ) (b live c i n : ℕ) (v : Maybe Open)
     (s : Sound f w b live i) (fr : Front n u w) (low : 24 * i + 24 ≤ n)
     (says : (k : ℕ) → open_at u b c k ≡ cond (eqb (word w (6 * i)) k) v (open_at w b live k))
-    (vs : (a g : ℕ) → v ≡ From a g → (a ≤ i) × (g ≡ length (since f w (word w (6 * i)) a (i + 1))))
-    (vo : (a g : ℕ) → v ≡ From a g → word w (6 * a) ≡ word w (6 * i)) where
+    (vs : (a g : ℕ) → v ≡ open_from a g → (a ≤ i) × (g ≡ length (since f w (word w (6 * i)) a (i + 1))))
+    (vo : (a g : ℕ) → v ≡ open_from a g → word w (6 * a) ≡ word w (6 * i)) where
   since_other : (k a : ℕ) → (word w (6 * i) ≡ k → ⊥) → a ≤ i → since f u k a (i + 1) ≡ since f w k a i
   since_other k a ne h =
       since_front n f u w k a (i + 1) (omega arith) (omega arith) fr ∙ since_snoc f w k a i h ∙ (rw (piece_other f w k i ne, append-nil))
 
-  held_own : (x : Open) → ((a g : ℕ) → x ≡ From a g → a ≤ i) → held_of f u (word w (6 * i)) (i + 1) x ≡ held_of f w (word w (6 * i)) (i + 1) x
+  held_own : (x : Maybe Open) → ((a g : ℕ) → x ≡ open_from a g → a ≤ i) → held_of f u (word w (6 * i)) (i + 1) x ≡ held_of f w (word w (6 * i)) (i + 1) x
   unfolding held_of
-  held_own Closed h = refl
-  held_own (From a g) h = let l : a ≤ i = h a g refl in ap some (since_front n f u w (word w (6 * i)) a (i + 1) (omega arith) (omega arith) fr)
+  held_own None h = refl
+  held_own (Some pdu) h = let l : pdu.first ≤ i = h pdu.first pdu.got refl in ap some (since_front n f u w (word w (6 * i)) pdu.first (i + 1) (omega arith) (omega arith) fr)
 
-  held_other : (k : ℕ) → (word w (6 * i) ≡ k → ⊥) → (x : Open) → ((a g : ℕ) → x ≡ From a g → a ≤ i) → held_of f u k (i + 1) x ≡ held_of f w k i x
+  held_other : (k : ℕ) → (word w (6 * i) ≡ k → ⊥) → (x : Maybe Open) → ((a g : ℕ) → x ≡ open_from a g → a ≤ i) → held_of f u k (i + 1) x ≡ held_of f w k i x
   unfolding held_of
-  held_other k ne Closed h = refl
-  held_other k ne (From a g) h = ap some (since_other k a ne (h a g refl))
+  held_other k ne None h = refl
+  held_other k ne (Some pdu) h = ap some (since_other k pdu.first ne (h pdu.first pdu.got refl))
 
   pub next_map : ◌≡◌ {A = ℕ → Option (List ℕ)} (map_of f u b c (i + 1)) (put_by eqb (map_of f w b live i) (word w (6 * i)) (held_of f w (word w (6 * i)) (i + 1) v))
   unfolding map_of
@@ -137,17 +136,17 @@ module _
 
   pub next_sound : Sound f u b c (i + 1)
   next_sound = record { sound = λ k a g e. go k a g (sym (says k) ∙ e); own = λ k a g e. own k a g (sym (says k) ∙ e) } where
-    own : (k a g : ℕ) → cond (eqb (word w (6 * i)) k) v (open_at w b live k) ≡ From a g → word u (6 * a) ≡ k
+    own : (k a g : ℕ) → cond (eqb (word w (6 * i)) k) v (open_at w b live k) ≡ open_from a g → word u (6 * a) ≡ k
     own k a g e =
         split≡ (word w (6 * i)) k
         (λ z.
-        let q : v ≡ From a g = (rw (eq-eqb (word w (6 * i)) k z) at e) in
+        let q : v ≡ open_from a g = (rw (eq-eqb (word w (6 * i)) k z) at e) in
         front_word n u w (6 * a) (omega (arith, (vs a g q).0)) fr ∙ vo a g q ∙ z)
         (λ z.
-        let q : open_at w b live k ≡ From a g = (rw (ne_eqb (word w (6 * i)) k z) at e) in
+        let q : open_at w b live k ≡ open_from a g = (rw (ne_eqb (word w (6 * i)) k z) at e) in
         front_word n u w (6 * a) (omega (arith, (s.sound k a g q).0)) fr ∙ s.own k a g q)
 
-    go : (k a g : ℕ) → cond (eqb (word w (6 * i)) k) v (open_at w b live k) ≡ From a g → (a < i + 1) × (g ≡ length (since f u k a (i + 1)))
+    go : (k a g : ℕ) → cond (eqb (word w (6 * i)) k) v (open_at w b live k) ≡ open_from a g → (a < i + 1) × (g ≡ length (since f u k a (i + 1)))
     go k a g e =
         split≡ (word w (6 * i)) k
         (λ z.
@@ -191,7 +190,7 @@ module _
 -- ---- one packet
 
 -- v is w, or what the end of a PDU made of it. The packet's key is still to get o, a row with y bytes.
-record Storing (f w : List ℕ) (q : ℕ) (t : Tables) (i : ℕ) (v : List ℕ) (made top : ℕ) (o : Open) (y : ℕ) : Type 0 where
+record Storing (f w : List ℕ) (q : ℕ) (t : Tables) (i : ℕ) (v : List ℕ) (made top : ℕ) (o : Maybe Open) (y : ℕ) : Type 0 where
   front : Front (4 * q) v w
   rows : Agree (3 * q) (3 * q + 4 * t.live) v w
   size : length v ≡ length w
@@ -200,15 +199,15 @@ record Storing (f w : List ℕ) (q : ℕ) (t : Tables) (i : ℕ) (v : List ℕ) 
   ends : top ≤ 4 * q + 4 * made + pays_of v (2 * q) made
   few : 4 * made + pays_of v (2 * q) made + sum_of w (3 * q) t.live + y ≤ data_of w (i + 1) + second (lookup w (3 * q) t.live (word w (6 * i)))
   placed : Placed f v (2 * q) made top
-  counted : (a g : ℕ) → o ≡ From a g → (a ≤ i) × (g ≡ length (since f w (word w (6 * i)) a (i + 1)))
-  own : (a g : ℕ) → o ≡ From a g → word w (6 * a) ≡ word w (6 * i)
+  counted : (a g : ℕ) → o ≡ open_from a g → (a ≤ i) × (g ≡ length (since f w (word w (6 * i)) a (i + 1)))
+  own : (a g : ℕ) → o ≡ open_from a g → word w (6 * a) ≡ word w (6 * i)
   beyond : (j : ℕ) → 7 * q ≤ j → word v j ≡ word w j
   list : pdus_from f v (2 * q) 0 made ≡ pdus_from f w (2 * q) 0 t.made ++ completed (after f w (3 * q) t.live i) (packet_at f w i)
   held : held_of f w (word w (6 * i)) (i + 1) o ≡ still_open (after f w (3 * q) t.live i)
-  comes : (o ≡ Closed) ⊎ (o ≡ next_at w (3 * q) t.live i)
+  comes : (o ≡ None) ⊎ (o ≡ next_at w (3 * q) t.live i)
 
 module _ (f w : List ℕ) (q : ℕ) (t : Tables) (i : ℕ) (p : Step f w q t i) where
-  seat : find_in w (3 * q) (word w (6 * i)) t.live ≡ At (word w (7 * q + 2 * i + 1))
+  seat : find_in w (3 * q) (word w (6 * i)) t.live ≡ Some (word w (7 * q + 2 * i + 1))
   seat = p.seats.row i (omega arith)
 
   below : word w (7 * q + 2 * i + 1) < t.live
@@ -249,7 +248,7 @@ module _ (f w : List ℕ) (q : ℕ) (t : Tables) (i : ℕ) (p : Step f w q t i) 
 
     -- the key's row gets o
     step_set :
-        (v : List ℕ) (made top : ℕ) (o : Open) (x y : ℕ) → Storing f w q t i v made top o y → as_open (row x y) ≡ o →
+        (v : List ℕ) (made top : ℕ) (o : Maybe Open) (x y : ℕ) → Storing f w q t i v made top o y → as_open (row x y) ≡ o →
         (u : List ℕ) → u ≡ put_open v at x y → Stepped f w q t i u (record { live = t.live; made = made; top = top })
     step_set v made top o x y b oe u eu =
         let k : ℕ = word w (6 * i) in
@@ -296,22 +295,22 @@ module _ (f w : List ℕ) (q : ℕ) (t : Tables) (i : ℕ) (p : Step f w q t i) 
           others = λ j n. rw (says j, ne_eqb k j n);
         }
 
-    module _ (next : Open) (ne : next ≡ next_by w at i) where
+    module _ (next : Maybe Open) (ne : next ≡ next_by w at i) where
       next_is_law : next ≡ next_at w (3 * q) t.live i
       next_is_law = ne ∙ next_by_law
 
       -- a continuation of nothing
-      pub step_skip : next ≡ Closed → Stepped f w q t i w t
+      pub step_skip : next ≡ None → Stepped f w q t i w t
       unfolding held_of still_open completed
       step_skip e₀ =
-          let e : next_at w (3 * q) t.live i ≡ Closed = sym next_is_law ∙ e₀ in
+          let e : next_at w (3 * q) t.live i ≡ None = sym next_is_law ∙ e₀ in
           let k : ℕ = word w (6 * i) in
           let hn : none ≡ after f w (3 * q) t.live i = (rw e at (arrive_held f w (3 * q) t.live i p.ready.sound)) in
-          let no : open_at w (3 * q) t.live k ≡ Closed = arrive_none w (3 * q) t.live i e in
-          let says : (j : ℕ) → open_at w (3 * q) t.live j ≡ cond (eqb k j) Closed (open_at w (3 * q) t.live j) =
+          let no : open_at w (3 * q) t.live k ≡ None = arrive_none w (3 * q) t.live i e in
+          let says : (j : ℕ) → open_at w (3 * q) t.live j ≡ cond (eqb k j) None (open_at w (3 * q) t.live j) =
           (λ j. split≡ k j (λ z. rw (eq-eqb k j z) (ap (open_at w (3 * q) t.live) (sym z) ∙ no)) (λ z. rw (ne_eqb k j z))) in
-          let vs : (a g : ℕ) → Closed ≡ From a g → (a ≤ i) × (g ≡ length (since f w k a (i + 1))) = (λ a g x. never x) in
-          let vo : (a g : ℕ) → Closed ≡ From a g → word w (6 * a) ≡ k = (λ a g x. never x) in
+          let vs : (a g : ℕ) → None ≡ open_from a g → (a ≤ i) × (g ≡ length (since f w k a (i + 1))) = (λ a g x. never x) in
+          let vo : (a g : ℕ) → None ≡ open_from a g → word w (6 * a) ≡ k = (λ a g x. never x) in
           record {
             ready = record {
               quarter = p.ready.quarter;
@@ -320,7 +319,7 @@ module _ (f w : List ℕ) (q : ℕ) (t : Tables) (i : ℕ) (p : Step f w q t i) 
               bump = p.ready.bump;
               ends = p.ready.ends;
               few = omega (arith, p.ready.few, data_next w i);
-              sound = next_sound f w w (3 * q) t.live t.live i (4 * q) Closed p.ready.sound (front_refl (4 * q) w) low says vs vo;
+              sound = next_sound f w w (3 * q) t.live t.live i (4 * q) None p.ready.sound (front_refl (4 * q) w) low says vs vo;
               placed = p.ready.placed;
             };
             front = front_refl (4 * q) w;
@@ -328,13 +327,13 @@ module _ (f w : List ℕ) (q : ℕ) (t : Tables) (i : ℕ) (p : Step f w q t i) 
             finds = λ j. refl;
             size = refl;
             list = sym (rw (← hn) (append-nil (pdus_from f w (2 * q) 0 t.made)));
-            map = next_map f w w (3 * q) t.live t.live i (4 * q) Closed p.ready.sound (front_refl (4 * q) w) low says vs vo ∙ rw (← hn, number_at f w i);
+            map = next_map f w w (3 * q) t.live t.live i (4 * q) None p.ready.sound (front_refl (4 * q) w) low says vs vo ∙ rw (← hn, number_at f w i);
             own = inl no;
             others = λ j n. refl;
           }
 
-      module _ (first got : ℕ) (fe : next ≡ From first got) where
-        e : next_at w (3 * q) t.live i ≡ From first got
+      module _ (first got : ℕ) (fe : next ≡ open_from first got) where
+        e : next_at w (3 * q) t.live i ≡ open_from first got
         e = sym next_is_law ∙ fe
 
         step_first : (first ≤ i) × (got ≡ length (since f w (word w (6 * i)) first (i + 1)))
@@ -394,8 +393,8 @@ module _ (f w : List ℕ) (q : ℕ) (t : Tables) (i : ℕ) (p : Step f w q t i) 
             let B : List ℕ = since f w (word w (6 * i)) first (i + 1) in
             let g : got < 4 + le16 B 0 = (rw step_begun at (ni.short lt)) in
             let cmp : leb (4 + le16 B 0) (length B) ≡ false = lt-leb (4 + le16 B 0) (length B) (omega (arith, s.1)) in
-            let va : as_open (row x y) ≡ From first got = as_pos x y (λ z. omega arith) ∙ (let z : x - 1 ≡ first = omega arith in rw (z, ye)) in
-            step_set w t.made t.top (From first got) x y (record {
+            let va : as_open (row x y) ≡ open_from first got = as_pos x y (λ z. omega arith) ∙ (let z : x - 1 ≡ first = omega arith in rw (z, ye)) in
+            step_set w t.made t.top (open_from first got) x y (record {
               front = front_refl (4 * q) w;
               rows = λ j lo hi. refl;
               size = refl;
@@ -404,8 +403,8 @@ module _ (f w : List ℕ) (q : ℕ) (t : Tables) (i : ℕ) (p : Step f w q t i) 
               ends = p.ready.ends;
               few = omega (arith, step_got);
               placed = p.ready.placed;
-              counted = λ a g z. let m : first ≡ a = cc in let n : got ≡ g = cc in rw (← m, ← n) s;
-              own = λ a g z. let m : first ≡ a = cc in rw (← m) step_own;
+              counted = λ a g z. let m = same_open first got a g z in rw (← m.0, ← m.1) s;
+              own = λ a g z. let m = same_open first got a g z in rw (← m.0) step_own;
               beyond = λ j h. refl;
               list = sym (rw (← held_next, cmp) (append-nil (pdus_from f w (2 * q) 0 t.made)));
               held = rw (← held_next, cmp);
@@ -423,7 +422,7 @@ module _ (f w : List ℕ) (q : ℕ) (t : Tables) (i : ℕ) (p : Step f w q t i) 
             let B : List ℕ = since f w (word w (6 * i)) first (i + 1) in
             let nb : need ≡ 4 + le16 B 0 = (rw step_begun at (ni.enough le)) in
             let cmp : leb (4 + le16 B 0) (length B) ≡ true = le-leb (4 + le16 B 0) (length B) (omega (arith, s.1)) in
-            step_set v (t.made + 1) top Closed 0 0 (record {
+            step_set v (t.made + 1) top None 0 0 (record {
               front = front_less (4 * q) t.top v w p.ready.bump fin.front;
               rows = λ j lo hi. fin.above j (omega (arith, p.ready.made, p.tabled.total, p.ready.quarter, step_small));
               size = fin.size;

@@ -1,5 +1,5 @@
 -- What the functions of the pass ask and promise: what a PDU needs, what is open, a PDU's row, a step.
-use Rattle.std.specs.Prelude.{ℕ, zero, suc, ◌+◌, ◌*◌, ◌/◌, ◌%◌, ◌<◌, ◌≤◌, ◌≡◌, cond, ◌⊎◌, List, [], ◌∷◌, ◌++◌, length, eqb}
+use Rattle.std.specs.Prelude.{Option as Maybe, Some, None, ℕ, zero, suc, ◌+◌, ◌*◌, ◌/◌, ◌%◌, ◌<◌, ◌≤◌, ◌≡◌, cond, ◌⊎◌, List, [], ◌∷◌, ◌++◌, length, eqb}
 use Rattle.std.proofs.Math.Option.{Option, none, some}
 use Rattle.laws.specs.Numbers.{le16}
 use Rattle.words.specs.Words.{word, put_word}
@@ -14,7 +14,6 @@ use Rattle.l2cap.specs.Rekeyed.{put_by}
 use Rattle.fragments.specs.Links.{Linked, Seats}
 use Rattle.fragments.specs.Bytes.{number_of, since, begun, Walk}
 use Rattle.l2cap.specs.declared.Open.{Open}
-use Rattle.l2cap.specs.declared.Open.TheVariants.{Closed, From}
 use Rattle.l2cap.specs.declared.Tables.{Tables}
 
 -- ---- what a PDU needs
@@ -26,24 +25,28 @@ pub record Need (B : List ℕ) (got r : ℕ) : Type 0 where
 
 -- ---- what is open
 
--- a row holds the number of the first packet and one more, or 0 if nothing is open, and the bytes so far
-unfoldable pub as_open : Slot → Open
-as_open no_row = Closed
-as_open (row zero g) = Closed
-as_open (row (suc a) g) = From a g
+-- a PDU that packet a began, with g bytes so far
+abbrev pub open_from : ℕ → ℕ → Maybe Open
+open_from a g = Some (record { first = a; got = g })
 
-unfoldable pub open_at : List ℕ → ℕ → ℕ → ℕ → Open
+-- a row holds the number of the first packet and one more, or 0 if nothing is open, and the bytes so far
+unfoldable pub as_open : Slot → Maybe Open
+as_open no_row = None
+as_open (row zero g) = None
+as_open (row (suc a) g) = open_from a g
+
+unfoldable pub open_at : List ℕ → ℕ → ℕ → ℕ → Maybe Open
 open_at w b n k = as_open (lookup w b n k)
 
-unfoldable pub longer : Open → ℕ → Open
-longer Closed n = Closed
-longer (From a g) n = From a (g + n)
+unfoldable pub longer : Maybe Open → ℕ → Maybe Open
+longer None n = None
+longer (Some pdu) n = open_from pdu.first (pdu.got + n)
 
 -- after a fragment of n bytes in packet i
-unfoldable pub grown : ℕ → Open → ℕ → ℕ → Open
-grown start o i n = cond (eqb start 1) (From i n) (longer o n)
+unfoldable pub grown : ℕ → Maybe Open → ℕ → ℕ → Maybe Open
+grown start o i n = cond (eqb start 1) (open_from i n) (longer o n)
 
-unfoldable pub next_at : List ℕ → ℕ → ℕ → ℕ → Open
+unfoldable pub next_at : List ℕ → ℕ → ℕ → ℕ → Maybe Open
 next_at w b live i = grown (word w (6 * i + 1)) (open_at w b live (word w (6 * i))) i (word w (6 * i + 3))
 
 -- where the row of packet i's key stands, and that it can be read
@@ -55,10 +58,10 @@ pub record RowPre (w : List ℕ) (q i : ℕ) : Type 0 where
   pub small : row_at w q i ≤ 67108864
 
 -- by the row at a word: what is open, and what is open once packet i is read
-unfoldable pub open_in : List ℕ → ℕ → Open
+unfoldable pub open_in : List ℕ → ℕ → Maybe Open
 open_in w at = as_open (row (word w (at + 2)) (word w (at + 3)))
 
-unfoldable pub next_by : List ℕ → ℕ → ℕ → Open
+unfoldable pub next_by : List ℕ → ℕ → ℕ → Maybe Open
 next_by w at i = grown (word w (6 * i + 1)) (open_in w at) i (word w (6 * i + 3))
 
 pub record Arrive (w : List ℕ) (at i : ℕ) : Type 0 where
@@ -102,9 +105,9 @@ pub record Finished (f w : List ℕ) (b made top i first need : ℕ) (u : List �
 -- ---- a step
 
 -- the state of a key's machine, with the packets before upto read
-unfoldable pub held_of : List ℕ → List ℕ → ℕ → ℕ → Open → Option (List ℕ)
-held_of f w k upto Closed = none
-held_of f w k upto (From a g) = some (since f w k a upto)
+unfoldable pub held_of : List ℕ → List ℕ → ℕ → ℕ → Maybe Open → Option (List ℕ)
+held_of f w k upto None = none
+held_of f w k upto (Some pdu) = some (since f w k pdu.first upto)
 
 -- the states of all machines
 unfoldable pub map_of : List ℕ → List ℕ → ℕ → ℕ → ℕ → ℕ → Option (List ℕ)
@@ -112,8 +115,8 @@ map_of f w b live i k = held_of f w k i (open_at w b live k)
 
 -- the bytes so far are counted right, from a packet of the key on
 pub record Sound (f w : List ℕ) (b live i : ℕ) : Type 0 where
-  pub sound : (k a g : ℕ) → open_at w b live k ≡ From a g → (a < i) × (g ≡ length (since f w k a i))
-  pub own : (k a g : ℕ) → open_at w b live k ≡ From a g → word w (6 * a) ≡ k
+  pub sound : (k a g : ℕ) → open_at w b live k ≡ open_from a g → (a < i) × (g ≡ length (since f w k a i))
+  pub own : (k a g : ℕ) → open_at w b live k ≡ open_from a g → word w (6 * a) ≡ k
 
 -- i packets are read. Every data byte is in one open PDU or one made, or dropped: so all areas have room.
 pub record Ready (f w : List ℕ) (q : ℕ) (t : Tables) (i : ℕ) : Type 0 where
@@ -147,7 +150,7 @@ pub record Stepped (f w : List ℕ) (q : ℕ) (t : Tables) (i : ℕ) (u : List �
       ◌≡◌ {A = ℕ → Option (List ℕ)} (map_of f u (3 * q) r.live (i + 1))
       (put_by eqb (map_of f w (3 * q) t.live i) (number_of (packet_at f w i)) (still_open (after f w (3 * q) t.live i)))
   -- which packet began what is open: under the packet's key nothing is, or what is with the packet; under the others what was
-  pub own : (open_at u (3 * q) r.live (word w (6 * i)) ≡ Closed) ⊎ (open_at u (3 * q) r.live (word w (6 * i)) ≡ next_at w (3 * q) t.live i)
+  pub own : (open_at u (3 * q) r.live (word w (6 * i)) ≡ None) ⊎ (open_at u (3 * q) r.live (word w (6 * i)) ≡ next_at w (3 * q) t.live i)
   pub others : (k : ℕ) → (word w (6 * i) ≡ k → ⊥) → open_at u (3 * q) r.live k ≡ open_at w (3 * q) t.live k
 
 -- ---- the steps of a range of packets

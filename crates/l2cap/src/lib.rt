@@ -10,13 +10,13 @@ ghost use Rattle.l2cap.specs.PduFrames.{Lent};
 ghost use Rattle.l2cap.specs.Steps.{Need, row_at, RowPre, open_in, next_by, Arrive, put_open, put_pdu, PutPdu, Finish, Finished, Step, Stepped, Run, Ran};
 
 use fragments::{gather, half, len_of, link_packets, place_of};
-use words::{get32, get64, narrow, part, put32, put64, wide32};
+use words::{get32, get64, part, put32, put64};
 
-// What is open under a key: nothing, or the PDU that a packet began, and its bytes so far.
+// A PDU that is open under a key: the packet that began it, and its bytes so far.
 #[derive(Clone, Copy)]
-pub enum Open {
-    Closed,
-    From(usize, usize),
+pub struct Open {
+    pub first: usize,
+    pub got: usize,
 }
 
 // The rows of open PDUs, the PDUs made, and the end of the joined payloads.
@@ -35,7 +35,7 @@ fn needed(file: &[u8], w: &[u8], q: usize, first: usize, upto: usize, got: usize
     if got < 4 {
         return 4;
     }
-    4 + wide32(half(file, w, q, first, upto, 0))
+    4 + half(file, w, q, first, upto, 0) as usize
 }
 
 // Where the row of packet i's key stands.
@@ -43,20 +43,23 @@ pub fn row_of(w: &[u8], q: usize, i: usize) -> usize
     requires { RowPre w.now q i }
     ensures { result ≡ row_at w.now q i }
 {
-    3 * q + 4 * wide32(get32(w, 7 * q + 2 * i + 1))
+    3 * q + 4 * get32(w, 7 * q + 2 * i + 1) as usize
 }
 
-// What is open, by the row at word at.
-pub fn look(w: &[u8], at: usize) -> Open
+// What is open, if anything is, by the row at word at.
+pub fn look(w: &[u8], at: usize) -> Option<Open>
     requires { 4 * at + 16 ≤ length w.now }
     ensures { result ≡ open_in w.now at }
 {
-    let first = wide32(get32(w, at + 2));
-    let got = wide32(get32(w, at + 3));
-    if first == 0 {
-        return Open::Closed;
+    let next = get32(w, at + 2) as usize;
+    let got = get32(w, at + 3) as usize;
+    if next == 0 {
+        return None;
     }
-    Open::From(first - 1, got)
+    Some(Open {
+        first: next - 1,
+        got,
+    })
 }
 
 // Sets what is open.
@@ -69,20 +72,20 @@ fn set_open(w: &mut [u8], at: usize, a: u32, b: u32)
 }
 
 // What is open under packet i's key once it is read, by the row at word at.
-fn arrive(w: &[u8], at: usize, i: usize) -> Open
+fn arrive(w: &[u8], at: usize, i: usize) -> Option<Open>
     requires { Arrive w.now at i }
     ensures { result ≡ next_by w.now at i }
 {
     let start = get32(w, 6 * i + 1);
     let n = len_of(w, i);
     if start == 1 {
-        return Open::From(i, n);
+        return Some(Open { first: i, got: n });
     }
-    let o = look(w, at);
-    match o {
-        Open::Closed => Open::Closed,
-        Open::From(a, g) => Open::From(a, g + n),
-    }
+    let Open { first, got } = look(w, at)?;
+    Some(Open {
+        first,
+        got: got + n,
+    })
 }
 
 // Writes a PDU's row at word at.
@@ -142,8 +145,7 @@ fn step(file: &[u8], w: &mut [u8], q: usize, t: Tables, i: usize) -> Tables
     let made = t.made;
     let top = t.top;
     let at = row_of(w, q, i);
-    let next = arrive(w, at, i);
-    let Open::From(first, got) = next else {
+    let Some(Open { first, got }) = arrive(w, at, i) else {
         return t;
     };
     let need = needed(file, w, q, first, i + 1, got);
@@ -156,7 +158,7 @@ fn step(file: &[u8], w: &mut [u8], q: usize, t: Tables, i: usize) -> Tables
             top: end,
         };
     }
-    set_open(w, at, narrow(first + 1), narrow(got));
+    set_open(w, at, (first + 1) as u32, got as u32);
     t
 }
 
@@ -166,10 +168,8 @@ pub fn run(file: &[u8], w: &mut [u8], q: usize, t: Tables, from: usize, upto: us
     ensures { Ran file.now q w.old t from w.new result upto }
 {
     let mut s = t;
-    let mut i = from;
-    while i < upto {
+    for i in from..upto {
         s = step(file, w, q, s, i);
-        i += 1;
     }
     s
 }
@@ -195,8 +195,8 @@ pub fn payload<'a>(file: &'a [u8], w: &'a [u8], at: usize) -> &'a [u8]
     ensures { result.now ≡ (pdu_at file.now w.now at).payload }
 {
     let joined = get32(w, at + 2);
-    let s = wide32(get32(w, at + 3));
-    let n = wide32(get32(w, at + 4));
+    let s = get32(w, at + 3) as usize;
+    let n = get32(w, at + 4) as usize;
     if joined == 1 {
         return part(w, s, n);
     }

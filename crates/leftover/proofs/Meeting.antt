@@ -1,4 +1,5 @@
 -- Each packet is told by the row of its key; the walk leaves the packets that began what is open at the end.
+use Rattle.std.specs.Prelude.{Option as Maybe, Some, None}
 use Prim.Native.Nat.{ℕ, ◌+◌, ◌-◌, ◌/◌, ◌<◌, ◌≤◌}
 use mathlib.Core.Path.{◌≡◌, refl, sym, ap, ◌∙◌}
 use mathlib.Core.Bool.{Bool, true, false, cond}
@@ -18,10 +19,9 @@ use Rattle.trace.specs.Reader.{step_of}
 use Rattle.trace.specs.Walk.{RecordAt}
 use Rattle.trace.specs.declared.Format.{Format}
 use Rattle.trace.specs.declared.Step.{Step}
-use Rattle.trace.specs.declared.Step.TheVariants.{Record, Cut, End}
-use Rattle.l2cap.specs.Steps.{row_at, open_in}
+use Rattle.trace.specs.declared.Step.TheVariants.{Record}
+use Rattle.l2cap.specs.Steps.{open_from, row_at, open_in}
 use Rattle.l2cap.specs.declared.Open.{Open}
-use Rattle.l2cap.specs.declared.Open.TheVariants.{Closed, From}
 use Rattle.signs.specs.Places.{Placed, placed_packet, placed_packets, packets_at}
 use Rattle.signs.specs.Partial.{Begun, placed_key, at_end, began_at, left_open}
 use Rattle.signs.specs.Recorded.{is_none}
@@ -29,21 +29,21 @@ use Rattle.signs.specs.Counting.{Counted, noted}
 use Rattle.signs.specs.Following.{Followed, begun_place, open_place, place_at}
 use Rattle.signs.specs.declared.Gap.{Gap}
 use Rattle.signs.proofs.Counting.{counted_none, counted_one}
-use Rattle.signs.proofs.Places.{rest_at, rest_turn, packets_start, found_record, found_cut, found_end}
+use Rattle.signs.proofs.Places.{rest_at, rest_turn, packets_start, found_record, found_none}
 use Rattle.signs.proofs.PlaceOrder.{place_here, places_many, table_has, places_tell}
 use Rattle.leftover.specs.Meeting.{began_by, counted_at, met_at, CountPre, MeetPre}
 use Rattle.leftover.specs.declared.Met.{Met}
 
 -- ---- what the code returns
 
-module _ (w : List ℕ) (q i row : ℕ) (h : row ≡ row_at w q i) (o : Open) (e : o ≡ open_in w row) where
-  pub began_none : o ≡ Closed → false ≡ began_by (open_in w (row_at w q i)) i
+module _ (w : List ℕ) (q i row : ℕ) (h : row ≡ row_at w q i) (o : Maybe Open) (e : o ≡ open_in w row) where
+  pub began_none : o ≡ None → false ≡ began_by (open_in w (row_at w q i)) i
   unfolding began_by
   began_none t = rw (← h, ← e, t)
 
-  pub began_from : (a g : ℕ) → o ≡ From a g → eqb a i ≡ began_by (open_in w (row_at w q i)) i
+  pub began_from : (pdu : Open) → o ≡ Some pdu → eqb pdu.first i ≡ began_by (open_in w (row_at w q i)) i
   unfolding began_by
-  began_from a g t = rw (← h, ← e, t)
+  began_from pdu t = rw (← h, ← e, t)
 
 pub counts_one : (w : List ℕ) (q i : ℕ) (g : Gap) (at : ℕ) (b : Bool) → b ≡ began_by (open_in w (row_at w q i)) i → b ≡ true → (r : Gap) → r ≡ noted g 1 at → r ≡ counted_at w q i g at
 unfolding counted_at
@@ -86,15 +86,15 @@ module _ (g : Format) (f w : List ℕ) (count : ℕ) (d : Followed g f w count) 
         here = ap (λ (ps : List (Placed Packet)). place_at ps (length before)) (sym e) ∙ place_here before a rest
 
         go :
-            (o : Open) (b : Begun) → ((x n : ℕ) → o ≡ From x n → x < count) →
+            (o : Maybe Open) (b : Begun) → ((x n : ℕ) → o ≡ open_from x n → x < count) →
             open_place (packets_at g f) o ≡ begun_place b → began_by o (length before) ≡ began_at b a.at
-        go Closed none k q = refl
-        go Closed (some b) k q = not_some q
-        go (From x n) none k q = not_some (sym q)
-        go (From x n) (some b) k q =
+        go None none k q = refl
+        go None (some b) k q = not_some q
+        go (Some pdu) none k q = not_some (sym q)
+        go (Some pdu) (some b) k q =
             let many : length (packets_at g f) ≡ count = places_many g f w count d.list in
-            let p : place_at (packets_at g f) x ≡ b.at = cc in
-            sym (places_tell g f x (length before) (omega (arith, k x n refl)) (omega (arith, number_less))) ∙ rw (p, here)
+            let p : place_at (packets_at g f) pdu.first ≡ b.at = cc in
+            sym (places_tell g f pdu.first (length before) (omega (arith, k pdu.first pdu.got refl)) (omega (arith, number_less))) ∙ rw (p, here)
 
 -- ---- the walk
 
@@ -186,12 +186,6 @@ module _ (g : Format) (f w : List ℕ) (count : ℕ) (d : Followed g f w count) 
   pub leaving_less : (e : ℕ) → x ≡ Record e → length f - e < length f - at
   leaving_less e q = let r : RecordAt g f at e = found_record g f at x h e q in omega (arith, head_least g, r.least, r.most)
 
-  ended : rest_at g f at ≡ [] → Counted (left_open (packets_at g f)) m.left
+  pub leaving_end : ((e : ℕ) → x ≡ Record e → ⊥) → Counted (left_open (packets_at g f)) m.left
   unfolding left_open left_of placed_packets
-  ended n = let z : l.before ≡ packets_at g f = sym (append-nil l.before) ∙ (rw n at l.all) in rw z at l.counted
-
-  pub leaving_cut : (p : ℕ) → x ≡ Cut p → Counted (left_open (packets_at g f)) m.left
-  leaving_cut p q = ended (found_cut g f at x h p q)
-
-  pub leaving_end : x ≡ End → Counted (left_open (packets_at g f)) m.left
-  leaving_end q = ended (found_end g f at x h q)
+  leaving_end n = let z : l.before ≡ packets_at g f = sym (append-nil l.before) ∙ (rw (found_none g f at x h n) at l.all) in rw z at l.counted

@@ -1,21 +1,20 @@
 -- What the functions of the walk ask and promise.
-use Rattle.std.specs.Prelude.{ℕ, ◌+◌, ◌*◌, ◌≤◌, ◌≡◌, Bool, false, cond, List, length, eqb}
+use Rattle.std.specs.Prelude.{Option, Some, None, ℕ, ◌+◌, ◌*◌, ◌≤◌, ◌≡◌, Bool, false, cond, List, length, eqb}
 use Rattle.acl.specs.Reading.{between}
 use Rattle.trace.specs.Formats.{packet_by}
 use Rattle.trace.specs.Walk.{RecordPre}
 use Rattle.trace.specs.declared.Format.{Format}
 use Rattle.l2cap.specs.Steps.{row_at, RowPre, open_in}
 use Rattle.l2cap.specs.declared.Open.{Open}
-use Rattle.l2cap.specs.declared.Open.TheVariants.{Closed, From}
 use Rattle.signs.specs.Counting.{noted, NotePre}
 use Rattle.signs.specs.Recorded.{is_none}
 use Rattle.signs.specs.declared.Gap.{Gap}
 use Rattle.leftover.specs.declared.Met.{Met}
 
 -- what is open was begun by packet i
-unfoldable pub began_by : Open → ℕ → Bool
-began_by Closed i = false
-began_by (From a g) i = eqb a i
+unfoldable pub began_by : Option Open → ℕ → Bool
+began_by None i = false
+began_by (Some pdu) i = eqb pdu.first i
 
 -- packet i, whose record starts at a place
 unfoldable pub counted_at : List ℕ → ℕ → ℕ → Gap → ℕ → Gap

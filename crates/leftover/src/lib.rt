@@ -12,7 +12,7 @@ ghost use Rattle.signs.specs.Counting.{Counted};
 ghost use Rattle.signs.specs.Following.{Followed};
 ghost use Rattle.leftover.specs.Meeting.{began_by, counted_at, met_at, BeganPre, CountPre, MeetPre};
 
-use l2cap::{Open, look, row_of};
+use l2cap::{look, row_of};
 use signs::{Gap, lacks_packet, note};
 use trace::{Format, Step, file_head, read_at};
 
@@ -28,10 +28,9 @@ fn began(w: &[u8], q: usize, i: usize) -> bool
     requires { BeganPre w.now q i }
     ensures { result ≡ began_by (open_in w.now (row_at w.now q i)) i }
 {
-    let o = look(w, row_of(w, q, i));
-    match o {
-        Open::Closed => false,
-        Open::From(first, _) => first == i,
+    match look(w, row_of(w, q, i)) {
+        Some(open) => open.first == i,
+        None => false,
     }
 }
 
@@ -51,15 +50,12 @@ fn meet(file: &[u8], w: &[u8], q: usize, format: Format, at: usize, end: usize, 
     requires { MeetPre format file.now w.now q at end m }
     ensures { result ≡ met_at w.now q at m (is_none (packet_by format (between file.now at end))) }
 {
-    let i = m.packets;
-    let left = m.left;
-    let next = i + 1;
     if lacks_packet(file, at, end, format) {
-        return Met { packets: i, left };
+        return m;
     }
     Met {
-        packets: next,
-        left: count_packet(w, q, i, left, at),
+        packets: m.packets + 1,
+        left: count_packet(w, q, m.packets, m.left, at),
     }
 }
 
@@ -74,19 +70,9 @@ pub fn left_open(file: &[u8], w: &[u8], format: Format) -> Gap
         left: Gap { many: 0, first: 0 },
     };
     let mut at = file_head(format);
-    loop {
-        let x = read_at(file, at, format);
-        match x {
-            Step::Record(end) => {
-                m = meet(file, w, q, format, at, end, m);
-                at = end;
-            }
-            Step::Cut(_) => {
-                return m.left;
-            }
-            Step::End => {
-                return m.left;
-            }
-        }
+    while let Step::Record(end) = read_at(file, at, format) {
+        m = meet(file, w, q, format, at, end, m);
+        at = end;
     }
+    m.left
 }

@@ -1,20 +1,25 @@
 -- A name as its two parts, joined.
+use Rattle.std.specs.Prelude.{Option, Some, None}
+use Rattle.std.specs.Option.{MatchOption}
+use denote.Bor.{Bor}
+use lib.Pointwise.{pointwise}
+use Rattle.letters.specs.Search.{RestIs}
 use mathlib.Core.Path.{◌≡◌, refl, sym, ap, ◌∙◌}
 use mathlib.Core.Bool.{Bool, true, false}
 use mathlib.Core.List.{List, [], ◌∷◌, ◌++◌, map}
-use Prim.Native.Nat.{ℕ, zero, suc, ◌+◌, ◌-◌, ◌/◌, ◌%◌, ◌<◌, ◌≤◌}
+use Prim.Native.Nat.{ℕ, zero, suc, ◌+◌, ◌/◌, ◌%◌, ◌<◌, ◌≤◌}
 use native.Mathlib.Omega.{arith}
-use lib.Dec.{leb, ltb}
-use lib.ListN.{length, get_or, take, drop, length-append, length-map, length-drop, take-append-drop}
-use lib.Seq.{take_all, take-append_seam, length-take-le}
-use borrow.Author.Tests.{eq-eqb, leb-true, ltb-true}
-use Rattle.laws.proofs.Choice.{split_b, split≤, no_way}
+use lib.Dec.{leb, ltb, eqb}
+use lib.ListN.{length, get_or, take, drop, length-append, length-map, take-append-drop}
+use lib.Seq.{take_all, take-append_seam}
+use borrow.Author.Tests.{eq-eqb, ne_eqb, leb-true, ltb-true}
+use Rattle.laws.proofs.Choice.{split_b, split≡, split≤, no_way}
 use Rattle.laws.proofs.Keys.{eq_k_true, eq_eq_k, ne_eq_k}
 use Rattle.laws.proofs.Stores.{writes_then, writes_long}
 use Rattle.laws.specs.Keys.{eq_k}
 use Rattle.laws.specs.Stores.{Writes}
 use Rattle.commands.specs.Run.{all_names, name_at}
-use Rattle.letters.specs.Run.{NameLong, part_at, begins, joined, all_pairs, PartLen, HalvesAre}
+use Rattle.letters.specs.Run.{NameLong, part_at, begins, joined, all_pairs, PartIs, HalvesAre}
 use Rattle.letters.specs.declared.Halves.{Halves}
 use Rattle.letters.proofs.Computed.{names_joined, passes, is_below, all_below, names_count}
 
@@ -59,21 +64,25 @@ below_at hi l i e h = below_is hi (get_or l i 0) (passes_at (is_below hi) l i e 
 pub pair_below : (i : ℕ) → i < 246 → Below 63 (get_or all_pairs i 0)
 pair_below i h = below_at 63 all_pairs i all_below (omega (arith, pairs_count))
 
-pub halves_are : (i w : ℕ) (ws : List ℕ) → i < 246 → ws ≡ all_pairs → (w ≡ get_or ws i 0) × (w < 65536) → HalvesAre i (record { stem = w / 256; ending = w % 256 })
-halves_are i w ws h t p =
-    let f : w ≡ get_or all_pairs i 0 = rw t at p.0 in
-    record {
-      stem = omega (arith, (pair_below i h).stem);
-      ending = omega (arith, (pair_below i h).ending);
-      joins = rw f (name_joins i h);
-    }
+module _ (i : ℕ) (ws : List ℕ) (h : i < 246) (t : ws ≡ all_pairs) where
+  pub pair_place : i < length ws
+  pair_place = rw t (omega (arith, pairs_count))
+
+  pub halves_are : HalvesAre i (record { stem = get_or ws i 0 / 256; ending = get_or ws i 0 % 256 })
+  halves_are =
+      let f : get_or ws i 0 ≡ get_or all_pairs i 0 = rw t in
+      record {
+        stem = omega (arith, (pair_below i h).stem);
+        ending = omega (arith, (pair_below i h).ending);
+        joins = rw f (name_joins i h);
+      }
 
 module _ (i : ℕ) (r : Halves) (is : HalvesAre i r) where
   long : length (name_at i) ≡ length (part_at r.stem) + length (part_at r.ending)
   long = rw (← is.joins) (length-append (part_at r.stem) (part_at r.ending))
 
-  pub name_long : (a b : ℕ) → PartLen r.stem a → PartLen r.ending b → NameLong i (a + b)
-  name_long a b p q = record { is = omega (arith, long, p.is, q.is); small = omega (arith, p.small, q.small) }
+  pub name_long : (a b : List ℕ) → PartIs r.stem a → PartIs r.ending b → NameLong i (length a + length b)
+  name_long a b p q = record { is = omega (arith, long, ap length p.is, ap length q.is); small = omega (arith, p.small, q.small) }
 
   -- room for both, one after the other
   pub stem_room : (at n : ℕ) → at + length (name_at i) ≤ n → at + length (part_at r.stem) ≤ n
@@ -108,22 +117,25 @@ module _ (p n : List ℕ) where
   begins_joins e = ap (λ (l : List ℕ). l ++ drop (length p) n) (front e) ∙ take-append-drop (length p) n
 
 -- as the code has it
-module _ (p size : ℕ) (q : PartLen p size) (n : List ℕ) where
-  pub begins_not : length n < size → false ≡ begins (part_at p) n
-  begins_not h = split_b (begins (part_at p) n) (λ e. absurd (omega (arith, q.is, begins_fits (part_at p) n e))) sym
+strips : (p n : List ℕ) → pointwise eqb (take (length p) n) p ≡ begins p n
+unfolding begins
+strips [] n = refl
+strips (x ∷ p) [] = refl
+strips (x ∷ p) (y ∷ n) =
+    split≡ x y
+    (λ e. rw (eq-eqb x y e, eq-eqb y x (sym e), strips p n))
+    (λ d. rw (ne_eqb x y d, ne_eqb y x (λ e. d (sym e))))
 
-  pub front_long : size ≤ length n → size ≡ length (take size n)
-  front_long h = sym (length-take-le size n h)
+module _ (p : ℕ) (l : List ℕ) (q : PartIs p l) (n : List ℕ) where
+  rest_none : pointwise eqb (take (length l) n) l ≡ false → RestIs p n None
+  rest_none e = record { is = rw (← q.is) (sym (strips l n) ∙ e) }
 
-  pub begins_same : (b : Bool) → b ≡ eq_k (part_at p) (take size n) → b ≡ begins (part_at p) n
-  begins_same b e = rw q.is at e ∙ sym (begins_is (part_at p) n)
+  rest_some : (r : Bor (List ℕ)) → pointwise eqb (take (length l) n) l ≡ true → r.now ≡ drop (length l) n → RestIs p n (Some r)
+  rest_some r e d = record { is = (rw (← q.is) (sym (strips l n) ∙ e), rw (← q.is) d) }
 
-  pub rest_reach : (b : Bool) → b ≡ begins (part_at p) n → b ≡ true → size ≤ length n
-  rest_reach b e t = omega (arith, q.is, begins_fits (part_at p) n (sym e ∙ t))
-
--- what is left after a place, as a part of a slice
-pub rest_of : (size : ℕ) (n : List ℕ) → take (length n - size) (drop size n) ≡ drop size n
-rest_of size n = take_all (length n - size) (drop size n) (omega (arith, length-drop size n))
+  pub rest_by : (r : Option (Bor (List ℕ))) → MatchOption r (pointwise eqb (take (length l) n) l ≡ false) (λ x. (pointwise eqb (take (length l) n) l ≡ true) × (x.now ≡ drop (length l) n) × (length x.now + length l ≡ length n)) → RestIs p n r
+  rest_by None m = rest_none m
+  rest_by (Some r) m = rest_some r m.0 m.1
 
 pub joined_begins : (p q : List ℕ) → begins p (p ++ q) ≡ true
 joined_begins p q = begins_is p (p ++ q) ∙ eq_eq_k p (take (length p) (p ++ q)) (sym (take-append_seam p q))
@@ -133,14 +145,14 @@ unfolding eq_k
 eq_k_append [] a b = refl
 eq_k_append (x ∷ p) a b = rw (eq-eqb x x refl) (eq_k_append p a b)
 
-module _ (i : ℕ) (r : Halves) (is : HalvesAre i r) (n : List ℕ) (t : Bool) (f : t ≡ begins (part_at r.stem) n) where
-  pub name_same : (b : Bool) (size : ℕ) → t ≡ true → PartLen r.stem size → b ≡ eq_k (part_at r.ending) (take (length n - size) (drop size n)) → b ≡ eq_k (name_at i) n
-  name_same b size h q e =
-      rw (rest_of size n, q.is) at e
+module _ (i : ℕ) (r : Halves) (is : HalvesAre i r) (n : List ℕ) where
+  pub name_same : (m : Bor (List ℕ)) → RestIs r.stem n (Some m) → (l : List ℕ) → PartIs r.ending l → (b : Bool) → b ≡ eq_k l m.now → b ≡ eq_k (name_at i) n
+  name_same m h l q b e =
+      rw (q.is, h.is.1) at e
       ∙ sym (eq_k_append (part_at r.stem) (part_at r.ending) (drop (length (part_at r.stem)) n))
-      ∙ ap (λ (l : List ℕ). eq_k (part_at r.stem ++ part_at r.ending) l) (begins_joins (part_at r.stem) n (sym f ∙ h))
-      ∙ ap (λ (l : List ℕ). eq_k l n) is.joins
+      ∙ ap (λ (k : List ℕ). eq_k (part_at r.stem ++ part_at r.ending) k) (begins_joins (part_at r.stem) n h.is.0)
+      ∙ ap (λ (k : List ℕ). eq_k k n) is.joins
 
-  pub name_other : t ≡ false → false ≡ eq_k (name_at i) n
+  pub name_other : RestIs r.stem n None → false ≡ eq_k (name_at i) n
   name_other h =
-      sym (ne_eq_k (name_at i) n (λ e. no_way (rw (is.joins ∙ e) at (joined_begins (part_at r.stem) (part_at r.ending))) (sym f ∙ h)))
+      sym (ne_eq_k (name_at i) n (λ e. no_way (rw (is.joins ∙ e) at (joined_begins (part_at r.stem) (part_at r.ending))) h.is))

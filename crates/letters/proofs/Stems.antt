@@ -1,8 +1,10 @@
 -- Looking for a name stem by stem.
+use Rattle.std.specs.Prelude.{Some, None}
+use denote.Bor.{Bor}
 use mathlib.Core.Path.{◌≡◌, refl, sym, ap, ◌∙◌}
 use mathlib.Core.Bool.{Bool, true, false, cond}
 use mathlib.Core.List.{List, [], ◌∷◌, ◌++◌}
-use Prim.Native.Nat.{ℕ, zero, suc, ◌+◌, ◌-◌, ◌*◌, ◌/◌, ◌%◌, ◌<◌, ◌≤◌}
+use Prim.Native.Nat.{ℕ, zero, suc, ◌+◌, ◌*◌, ◌/◌, ◌%◌, ◌<◌, ◌≤◌}
 use native.Mathlib.Omega.{arith}
 use native.Mathlib.Numerals.{add-one}
 use lib.Dec.{eqb}
@@ -14,10 +16,10 @@ use Rattle.laws.proofs.Keys.{eq_k_true, eq_eq_k, ne_eq_k}
 use Rattle.laws.specs.Keys.{eq_k}
 use Rattle.commands.specs.Commands.{Entry, t1, t2, has_name, is_command_name}
 use Rattle.commands.specs.Run.{names_of, commands, name_at}
-use Rattle.letters.specs.Run.{endings, stems, parts, part_at, is_among, begins, first_of, ending_in, all_pairs, PartLen}
-use Rattle.letters.specs.Search.{EndingIs, is_in, is_pair, named_from}
+use Rattle.letters.specs.Run.{endings, stems, parts, part_at, is_among, begins, first_of, ending_in, all_pairs}
+use Rattle.letters.specs.Search.{RestIs, EndingIs, is_in, is_pair, named_from}
 use Rattle.letters.proofs.Computed.{distinct, parts_distinct, commands_below, endings_count}
-use Rattle.letters.proofs.Joining.{pairs_count, name_joins, Below, below_at, begins_joins, rest_of, joined_begins}
+use Rattle.letters.proofs.Joining.{pairs_count, name_joins, Below, below_at, begins_joins, joined_begins}
 use Rattle.commands.proofs.Searching.{commands_count, command_at}
 
 -- ---- whether one of some names is this one
@@ -108,8 +110,8 @@ module _ (l : List ℕ) (p : ℕ) (s : Ending l p) (t : Bool) (e : t ≡ eq_k (p
   here : drop p endings ≡ part_at p ∷ drop (p + 1) endings
   here = rw (add-one p, drop-cons endings p [] (omega (arith, endings_count)), part_ending p h)
 
-  pub ending_found : t ≡ true → EndingIs l p
-  ending_found q = record { is = let z : p + 0 ≡ ending_in l = rw (here, ← e, q) at s.same in omega arith; within = omega arith }
+  pub ending_found : t ≡ true → EndingIs l (Some p)
+  ending_found q = record { is = let z : p + 0 ≡ ending_in l = rw (here, ← e, q) at s.same in (omega arith, h) }
 
   pub ending_turn : t ≡ false → Ending l (p + 1)
   ending_turn q = record {
@@ -117,12 +119,11 @@ module _ (l : List ℕ) (p : ℕ) (s : Ending l p) (t : Bool) (e : t ≡ eq_k (p
     same = let z : p + suc (first_of (λ (k : List ℕ). eq_k k l) (drop (p + 1) endings)) ≡ ending_in l = rw (here, ← e, q) at s.same in omega arith;
   }
 
-pub ending_none : (l : List ℕ) (p : ℕ) → Ending l p → 36 ≤ p → EndingIs l 36
+pub ending_none : (l : List ℕ) (p : ℕ) → Ending l p → 36 ≤ p → EndingIs l None
 ending_none l p s h = record {
   is =
       let z : p + 0 ≡ ending_in l = rw (drop_of_length-le endings (let g : length endings ≤ p = omega (arith, endings_count) in g)) at s.same in
       omega (arith, s.within);
-  within = omega arith;
 }
 
 -- ---- two parts among the pairs of the commands
@@ -248,15 +249,34 @@ module _ (s : ℕ) (n : List ℕ) where
       (in_at (256 * s + ending_in left) (take 229 all_pairs) i (omega (arith, commands_long)) (get_or-take 229 all_pairs i 0 h ∙ w ∙ ap (λ (m : ℕ). 256 * s + m) (sym x)))
       z
 
--- as the code finds it
-module _ (s : ℕ) (n : List ℕ) (t : Bool) (f : t ≡ begins (part_at s) n) where
-  pub named_some : (b : Bool) (size e : ℕ) → t ≡ true → PartLen s size → EndingIs (take (length n - size) (drop size n)) e → b ≡ is_pair (256 * s + e) → b ≡ named_from s n
-  unfolding named_from
-  named_some b size e h q k z = rw (← f, h, ← q.is, ← rest_of size n, ← k.is) z
+-- no command has no ending
+no_ending : (s : ℕ) → is_pair (256 * s + 36) ≡ false
+unfolding is_pair
+no_ending s =
+    split_b (is_in (256 * s + 36) (take 229 all_pairs))
+    (λ e. in_some (256 * s + 36) (take 229 all_pairs) e
+    (λ i h p.
+    let g : i < 229 = omega (arith, commands_long) in
+    absurd (omega (arith, get_or-take 229 all_pairs i 0 g, (command_pair i g).ending))))
+    (λ e. e)
 
-  pub named_none : t ≡ false → false ≡ named_from s n
+-- as the code finds it
+module _ (s : ℕ) (n : List ℕ) where
+  pub named_some : (m : Bor (List ℕ)) → RestIs s n (Some m) → (e : ℕ) → EndingIs m.now (Some e) → (b : Bool) → b ≡ is_pair (256 * s + e) → b ≡ named_from s n
   unfolding named_from
-  named_none h = rw (← f, h)
+  named_some m h e k b z =
+      let f : e ≡ ending_in (drop (length (part_at s)) n) = k.is.0 ∙ ap ending_in h.is.1 in
+      rw (h.is.0, ← f) z
+
+  pub named_endless : (m : Bor (List ℕ)) → RestIs s n (Some m) → EndingIs m.now None → false ≡ named_from s n
+  unfolding named_from
+  named_endless m h k =
+      let f : ending_in (drop (length (part_at s)) n) ≡ 36 = ap ending_in (sym h.is.1) ∙ k.is in
+      rw (h.is.0, f) (sym (no_ending s))
+
+  pub named_none : RestIs s n None → false ≡ named_from s n
+  unfolding named_from
+  named_none h = rw h.is
 
 -- the code's loop: no command with a stem before this one has the name
 pub record Trying (n : List ℕ) (s : ℕ) : Type 0 where

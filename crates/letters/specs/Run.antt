@@ -1,9 +1,8 @@
 -- A name is a stem and an ending. Stems and endings lie in one run of letters, none of them twice.
-use Rattle.std.specs.Prelude.{◌≡◌, Bool, true, false, cond, List, [], ◌∷◌, ◌++◌, map, ℕ, suc, ◌+◌, ◌-◌, ◌*◌, ◌/◌, ◌%◌, ◌<◌, ◌≤◌, eqb, length, get_or, take, drop}
+use Rattle.std.specs.Prelude.{◌≡◌, Bool, true, false, cond, List, [], ◌∷◌, ◌++◌, map, ℕ, suc, ◌+◌, ◌*◌, ◌/◌, ◌%◌, ◌<◌, eqb, length, get_or, drop}
 use Rattle.laws.specs.Keys.{eq_k}
 use Rattle.commands.specs.Text.{ascii}
 use Rattle.commands.specs.Run.{all_names, name_at}
-use Rattle.letters.specs.declared.Place.{Place}
 use Rattle.letters.specs.declared.Halves.{Halves}
 
 unfoldable pub endings : List (List ℕ)
@@ -112,30 +111,13 @@ pub record NameLong (i r : ℕ) : Type 0 where
   pub is : r ≡ length (name_at i)
   pub small : r < 511
 
--- where a part stands in the run
-pub record PlaceIs (p : ℕ) (r : Place) : Type 0 where
-  pub order : r.start ≤ r.end
-  pub within : r.end ≤ 596
-  pub spells : take (r.end - r.start) (drop r.start all_letters) ≡ part_at p
-
--- how long a part is
-pub record PartLen (p r : ℕ) : Type 0 where
-  pub is : r ≡ length (part_at p)
-  pub small : r < 256
+-- these letters are the part with a number
+pub record PartIs (p : ℕ) (l : List ℕ) : Type 0 where
+  pub is : l ≡ part_at p
+  pub small : length l < 256
 
 -- the two parts of the name with a number
 pub record HalvesAre (i : ℕ) (r : Halves) : Type 0 where
   pub stem : r.stem < 63
   pub ending : r.ending < 63
   pub joins : part_at r.stem ++ part_at r.ending ≡ name_at i
-
--- the starts and lengths of the parts
-pub record PartTables (s n : List ℕ) : Type 0 where
-  pub starts : s ≡ all_starts
-  pub lens : n ≡ all_lens
-
--- the run of letters with them
-pub record Tables (l s n : List ℕ) : Type 0 where
-  pub letters : l ≡ all_letters
-  pub starts : s ≡ all_starts
-  pub lens : n ≡ all_lens

@@ -1,11 +1,23 @@
 -- Looking for a name: its stem, the ending that is left, and whether a command has both.
-use Rattle.std.specs.Prelude.{◌≡◌, Bool, true, false, cond, List, [], ◌∷◌, ℕ, ◌+◌, ◌*◌, ◌≤◌, eqb, length, take, drop}
+use Rattle.std.specs.Prelude.{Option, Some, None, ◌≡◌, Bool, true, false, cond, List, [], ◌∷◌, ℕ, ◌+◌, ◌*◌, ◌<◌, eqb, length, take, drop}
+use denote.Bor.{Bor}
 use Rattle.letters.specs.Run.{part_at, begins, ending_in, all_pairs}
 
--- the number of the ending that some letters are, or 36, as the code has it
-pub record EndingIs (l : List ℕ) (r : ℕ) : Type 0 where
-  pub is : r ≡ ending_in l
-  pub within : r ≤ 36
+-- what follows a part, where some letters begin with it
+abbrev pub rest_is : ℕ → List ℕ → Option (Bor (List ℕ)) → Type 0
+rest_is p n (Some r) = (begins (part_at p) n ≡ true) × (r.now ≡ drop (length (part_at p)) n)
+rest_is p n None = begins (part_at p) n ≡ false
+
+pub record RestIs (p : ℕ) (n : List ℕ) (r : Option (Bor (List ℕ))) : Type 0 where
+  pub is : rest_is p n r
+
+-- the number of the ending that some letters are
+abbrev pub ending_is : List ℕ → Option ℕ → Type 0
+ending_is l (Some e) = (e ≡ ending_in l) × (e < 36)
+ending_is l None = ending_in l ≡ 36
+
+pub record EndingIs (l : List ℕ) (r : Option ℕ) : Type 0 where
+  pub is : ending_is l r
 
 -- whether a number stands in a list
 unfoldable pub is_in : ℕ → List ℕ → Bool

@@ -7,15 +7,17 @@ ghost use Rattle.laws.specs.Stores.{Writes};
 ghost use Rattle.commands.specs.Commands.{is_command_name};
 ghost use Rattle.commands.specs.Labels.{command_name};
 ghost use Rattle.commands.specs.Run.{name_at};
-ghost use Rattle.letters.specs.Run.{NameLong, all_letters, all_starts, all_lens, all_pairs, part_at, begins, PlaceIs, PartLen, HalvesAre, PartTables, Tables};
-ghost use Rattle.letters.specs.Search.{EndingIs, is_pair, named_from};
+ghost use Rattle.letters.specs.Run.{NameLong, all_letters, all_starts, all_lens, all_pairs, PartIs, HalvesAre};
+ghost use Rattle.letters.specs.Search.{RestIs, EndingIs, is_pair, named_from};
 
-use commands::{Frame, command_name};
+use commands::command_name;
+use mdr::Frame;
+use words::{copy_to, same};
 
 // ---- a name is a stem and an ending; stems and endings are parts of one run of letters, none of which stands twice
 
 // The endings, then the stems. _MDR, COMMON_, PLAY_ and DATA lie within others.
-const LETTERS: [u8; 596] = *b"\
+static LETTERS: [u8; 596] = *b"\
     PROTOCOL_INFOCAPABILITY_INFODEVICE_INFOSUPPORT_FUNCTIONGET_CAPABILITYRET_CAPABILITYGET_STATUSRET_STATUS\
     SET_STATUSNTFY_STATUSGET_PARAMRET_PARAMSET_PARAMNTFY_PARAMNTNY_PARAMGET_EXT_PARAMRET_EXT_PARAMSET_EXT_PARAM\
     NTFY_EXT_PARAMGET_EXTENDED_PARAMRET_EXTENDED_PARAMSET_EXTENDED_PARAMNTFY_EXTENDED_PARAMGET_EXT_INFO\
@@ -24,7 +26,7 @@ const LETTERS: [u8; 596] = *b"\
     AUDIO_SYSTEM_UNKNOWNPERI_VOICE_GUIDANCE_SAFE_LISTENING_PARTY_ACKSHOTNO_COMMAND";
 
 // Where each part starts: 36 endings, then 27 stems.
-const STARTS: [u16; 63] = [
+static STARTS: [u16; 63] = [
     0, 13, 28, 39, 0, 55, 69, 83, 93, 103, 113, 124, 133, 142, 151, 161, 171, 184, 197, 210, 224,
     242, 260, 278, 297, 309, 321, 338, 355, 368, 380, 387, 391, 394, 401, 401, 409, 421, 433, 395,
     441, 447, 452, 456, 462, 468, 474, 478, 493, 484, 498, 502, 518, 524, 531, 538, 543, 558, 573,
@@ -32,14 +34,15 @@ const STARTS: [u16; 63] = [
 ];
 
 // How long each is.
-const LENS: [u8; 63] = *b"\
+// Stays: apart, starts and lengths take 189 bytes; an array of structs would take 252.
+static LENS: [u8; 63] = *b"\
     \x0D\x0F\x0B\x10\x00\x0E\x0E\x0A\x0A\x0A\x0B\x09\x09\x09\x0A\x0A\x0D\x0D\x0D\x0E\x12\x12\x12\x13\
     \x0C\x0C\x11\x11\x0D\x0C\x07\x04\x03\x07\x08\x04\x0C\x0C\x08\x07\x06\x05\x04\x06\x06\x06\x04\x06\
     \x05\x0E\x04\x10\x06\x07\x07\x05\x0F\x0F\x06\x04\x03\x04\x0A";
 
 // The two parts of each name, a byte for the number of its stem and one for that of its ending. The names of table 1, of
 // table 2, of the types, UNKNOWN and NO_COMMAND.
-const PAIRS: [u16; 246] = [
+static PAIRS: [u16; 246] = [
     0x2400, 0x2500, 0x2401, 0x2501, 0x2402, 0x2502, 0x2403, 0x2503, 0x2604, 0x2705, 0x2706, 0x2707,
     0x2708, 0x270A, 0x270D, 0x270E, 0x2805, 0x2806, 0x2807, 0x2808, 0x2809, 0x280A, 0x280B, 0x280C,
     0x280D, 0x280E, 0x2905, 0x2906, 0x2907, 0x2908, 0x2909, 0x290A, 0x290B, 0x290C, 0x290D, 0x290E,
@@ -63,58 +66,40 @@ const PAIRS: [u16; 246] = [
     0x3D20, 0x3D23, 0x3D21, 0x3D22, 0x3604, 0x3E04,
 ];
 
-fn all_letters() -> [u8; 596]
-    ensures { result ≡ all_letters }
+fn all_letters() -> &'static [u8]
+    ensures { result.now ≡ all_letters }
 {
-    LETTERS
+    &LETTERS
 }
 
-fn all_starts() -> [u16; 63]
-    ensures { result ≡ all_starts }
+fn all_starts() -> &'static [u16]
+    ensures { result.now ≡ all_starts }
 {
-    STARTS
+    &STARTS
 }
 
-fn all_lens() -> [u8; 63]
-    ensures { result ≡ all_lens }
+fn all_lens() -> &'static [u8]
+    ensures { result.now ≡ all_lens }
 {
-    LENS
+    &LENS
 }
 
-fn all_pairs() -> [u16; 246]
-    ensures { result ≡ all_pairs }
+fn all_pairs() -> &'static [u16]
+    ensures { result.now ≡ all_pairs }
 {
-    PAIRS
+    &PAIRS
 }
 
 // ---- the parts of a name
 
-#[derive(Clone, Copy)]
-struct Place {
-    start: usize,
-    end: usize,
-}
-
-// Where a part stands in the run.
-fn place_of(starts: &[u16], lens: &[u8], p: usize) -> Place
-    requires part_tables { PartTables starts.now lens.now }
-    requires p_bound { p < 63 }
-    ensures { PlaceIs p result }
+// The part with a number.
+fn part(p: usize) -> &'static [u8]
+    requires { p < 63 }
+    ensures { PartIs p result.now }
 {
-    let start = words::wide16(starts[p]);
-    let size = words::wide(lens[p]);
-    Place {
-        start: start,
-        end: start + size,
-    }
-}
-
-fn part_len(lens: &[u8], p: usize) -> usize
-    requires lens_value { lens.now ≡ all_lens }
-    requires p_bound { p < 63 }
-    ensures { PartLen p result }
-{
-    words::wide(lens[p])
+    let start = all_starts()[p] as usize;
+    let end = start + all_lens()[p] as usize;
+    &all_letters()[start..end]
 }
 
 #[derive(Clone, Copy)]
@@ -128,11 +113,10 @@ fn halves_of(i: usize) -> Halves
     requires { i < 246 }
     ensures { HalvesAre i result }
 {
-    let pairs = all_pairs();
-    let w = words::wide16(pairs[i]);
+    let pair = all_pairs()[i] as usize;
     Halves {
-        stem: w / 256,
-        ending: w % 256,
+        stem: pair / 256,
+        ending: pair % 256,
     }
 }
 
@@ -142,28 +126,7 @@ pub fn name_len(i: usize) -> usize
     ensures { NameLong i result }
 {
     let h = halves_of(i);
-    let lens = all_lens();
-    part_len(&lens, h.stem) + part_len(&lens, h.ending)
-}
-
-// Writes a part at a place, and returns the place after it.
-fn put_part(
-    letters: &[u8],
-    starts: &[u16],
-    lens: &[u8],
-    p: usize,
-    out: &mut [u8],
-    at: usize,
-) -> usize
-    requires tables { Tables letters.now starts.now lens.now }
-    requires p_bound { p < 63 }
-    requires p_in_bounds { at + length (part_at p) ≤ length out.old }
-    ensures { Writes out.old at (part_at p) result out.new }
-{
-    let place = place_of(starts, lens, p);
-    let start = place.start;
-    let end = place.end;
-    words::copy_to(&letters[start..end], out, at)
+    part(h.stem).len() + part(h.ending).len()
 }
 
 // Writes the name with a number at a place, its stem and then its ending, and returns the place after it.
@@ -173,140 +136,90 @@ pub fn put_name(out: &mut [u8], at: usize, i: usize) -> usize
     ensures { Writes out.old at (name_at i) result out.new }
 {
     let h = halves_of(i);
-    let letters = all_letters();
-    let starts = all_starts();
-    let lens = all_lens();
-    let then = put_part(&letters, &starts, &lens, h.stem, out, at);
-    put_part(&letters, &starts, &lens, h.ending, out, then)
+    let then = copy_to(part(h.stem), out, at);
+    copy_to(part(h.ending), out, then)
 }
 
-// Whether these letters are a part.
-fn is_part(letters: &[u8], starts: &[u16], lens: &[u8], p: usize, name: &[u8]) -> bool
-    requires tables { Tables letters.now starts.now lens.now }
-    requires p_bound { p < 63 }
-    ensures { result ≡ eq_k (part_at p) name.now }
+// What follows a part, where these letters begin with it.
+fn rest_after(p: usize, name: &[u8]) -> Option<&[u8]>
+    requires { p < 63 }
+    ensures { RestIs p name.now result }
 {
-    let place = place_of(starts, lens, p);
-    let start = place.start;
-    let end = place.end;
-    words::same(&letters[start..end], name)
-}
-
-// Whether these letters begin with a part.
-fn begins_with(letters: &[u8], starts: &[u16], lens: &[u8], p: usize, name: &[u8]) -> bool
-    requires tables { Tables letters.now starts.now lens.now }
-    requires p_bound { p < 63 }
-    ensures { result ≡ begins (part_at p) name.now }
-{
-    let size = part_len(lens, p);
-    if name.len() < size {
-        return false;
-    }
-    is_part(letters, starts, lens, p, &name[..size])
+    name.strip_prefix(part(p))
 }
 
 // Whether the name with a number is this one.
-fn is_name(letters: &[u8], starts: &[u16], lens: &[u8], i: usize, name: &[u8]) -> bool
-    requires tables { Tables letters.now starts.now lens.now }
-    requires i_bound { i < 246 }
+fn is_name(i: usize, name: &[u8]) -> bool
+    requires { i < 246 }
     ensures { result ≡ eq_k (name_at i) name.now }
 {
     let h = halves_of(i);
-    if begins_with(letters, starts, lens, h.stem, name) {
-        let size = part_len(lens, h.stem);
-        return is_part(letters, starts, lens, h.ending, &name[size..]);
+    match rest_after(h.stem, name) {
+        Some(rest) => same(part(h.ending), rest),
+        None => false,
     }
-    false
 }
 
 // Whether the command of a frame has this name.
+// Stays: commands answers this and is_command_name too, from more bytes; one of the two crates serves the calls at a time.
 pub fn is_command(f: Frame, name: &[u8]) -> bool
     ensures { result ≡ eq_k (command_name f) name.now }
 {
-    let i = command_name(f);
-    let letters = all_letters();
-    let starts = all_starts();
-    let lens = all_lens();
-    is_name(&letters, &starts, &lens, i, name)
+    is_name(command_name(f), name)
 }
 
 // ---- whether a table has a name
 
-// The number of the ending that these letters are, or 36.
-fn find_ending(letters: &[u8], starts: &[u16], lens: &[u8], rest: &[u8]) -> usize
-    requires { Tables letters.now starts.now lens.now }
+// The number of the ending that these letters are.
+fn find_ending(rest: &[u8]) -> Option<usize>
     ensures { EndingIs rest.now result }
 {
-    let mut p = 0;
-    while p < 36 {
-        if is_part(letters, starts, lens, p, rest) {
-            return p;
+    for p in 0..36 {
+        if same(part(p), rest) {
+            return Some(p);
         }
-        p += 1;
     }
-    36
+    None
 }
 
 // Whether a command has these two parts. There is no early way out, so that the loop runs on many names at once.
-fn has_pair(pairs: &[u16], pair: u16) -> bool
-    requires { pairs.now ≡ all_pairs }
-    ensures { result ≡ is_pair pair }
+fn is_pair(stem: usize, ending: usize) -> bool
+    requires { (stem < 63) × (ending ≤ 36) }
+    ensures { result ≡ is_pair (256 * stem + ending) }
 {
+    let pair = (256 * stem + ending) as u16;
+    let pairs = all_pairs();
     let mut found = false;
-    let mut i = 0;
-    while i < 229 {
-        let w = pairs[i];
-        i += 1;
-        if w == pair {
+    for i in 0..229 {
+        if pairs[i] == pair {
             found = true;
         }
     }
     found
 }
 
-fn is_pair(stem: usize, ending: usize) -> bool
-    requires { (stem < 63) × (ending ≤ 36) }
-    ensures { result ≡ is_pair (256 * stem + ending) }
-{
-    let pairs = all_pairs();
-    has_pair(&pairs, (256 * stem + ending) as u16)
-}
-
 // Whether a command with this stem has this name.
-fn is_named_from(letters: &[u8], starts: &[u16], lens: &[u8], stem: usize, name: &[u8]) -> bool
-    requires tables { Tables letters.now starts.now lens.now }
-    requires stem_bound { stem < 63 }
+fn is_named_from(stem: usize, name: &[u8]) -> bool
+    requires { stem < 63 }
     ensures { result ≡ named_from stem name.now }
 {
-    if begins_with(letters, starts, lens, stem, name) {
-        let size = part_len(lens, stem);
-        let ending = find_ending(letters, starts, lens, &name[size..]);
-        return is_pair(stem, ending);
+    let Some(rest) = rest_after(stem, name) else {
+        return false;
+    };
+    match find_ending(rest) {
+        Some(ending) => is_pair(stem, ending),
+        None => false,
     }
-    false
 }
 
-// Stem by stem: the commands' are the first 23.
-fn any_stem(letters: &[u8], starts: &[u16], lens: &[u8], name: &[u8]) -> bool
-    requires { Tables letters.now starts.now lens.now }
-    ensures { result ≡ is_command_name name.now }
-{
-    let mut stem = 36;
-    while stem < 59 {
-        if is_named_from(letters, starts, lens, stem, name) {
-            return true;
-        }
-        stem += 1;
-    }
-    false
-}
-
-// Whether either table has this name.
+// Whether either table has this name, stem by stem: the commands' are the first 23.
 pub fn is_command_name(name: &[u8]) -> bool
     ensures { result ≡ is_command_name name.now }
 {
-    let letters = all_letters();
-    let starts = all_starts();
-    let lens = all_lens();
-    any_stem(&letters, &starts, &lens, name)
+    for stem in 36..59 {
+        if is_named_from(stem, name) {
+            return true;
+        }
+    }
+    false
 }

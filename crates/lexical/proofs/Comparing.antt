@@ -1,82 +1,56 @@
 -- Laws of comparing byte strings.
-use mathlib.Core.Path.{◌≡◌, refl, sym, ap, ◌∙◌}
+use Rattle.std.specs.Ordering.{is_le, nat_cmp}
+use Rattle.std.specs.Cmp.Lexicographic.{slice_cmp}
+use Rattle.std.proofs.lemmas.List.{take_rest}
+use mathlib.Core.Path.{◌≡◌, refl, ◌∙◌}
 use mathlib.Core.Logic.{◌≢◌}
-use mathlib.Core.Bool.{Bool, true, false}
-use mathlib.Core.List.{List, [], ◌∷◌, ◌++◌}
+use mathlib.Core.List.{List, [], ◌∷◌}
 use Prim.Native.Nat.{ℕ, ◌+◌, ◌-◌, ◌<◌, ◌≤◌}
 use native.Mathlib.Omega.{arith}
-use lib.Dec.{ltb, eqb}
-use lib.ListN.{length, get_or, take, drop, take-append-drop}
-use lib.Seq.{drop-drop}
-use borrow.Author.Tests.{eq-eqb, ne_eqb, eqb-true, lt-ltb, le-ltb}
+use lib.Dec.{ltb}
+use lib.ListN.{length, get_or, take, drop}
+use borrow.Author.Tests.{eq-eqb, ne_eqb, lt-ltb, le-ltb}
 use Rattle.laws.proofs.Choice.{split≡, split≤}
-use Rattle.laws.proofs.Lists.{drop_step, drop_end}
+use Rattle.laws.proofs.Lists.{drop_step}
 use Rattle.laws.specs.Numbers.{be32, be64}
 use Rattle.lexical.specs.Bytes.{le_bytes}
-use Rattle.lexical.specs.Steps.{OneUnless, Agree, Comparing}
 
 -- ---- byte by byte
+
+-- the first i bytes of two lists decide nothing
+pub record Comparing (a b : List ℕ) (i : ℕ) : Type 0 where
+  pub left : i ≤ length a
+  pub right : i ≤ length b
+  pub same : le_bytes (drop i a) (drop i b) ≡ le_bytes a b
+
+-- the order of slices
+le_is : (a b : List ℕ) → is_le (slice_cmp nat_cmp a b) ≡ le_bytes a b
+unfolding le_bytes
+le_is [] [] = refl
+le_is [] (y ∷ b) = refl
+le_is (x ∷ a) [] = refl
+le_is (x ∷ a) (y ∷ b) =
+    split≡ x y
+    (λ e. rw (eq-eqb x y e, le-ltb x y (omega arith), le_is a b))
+    (λ n. split≤ y x
+    (λ h. rw (ne_eqb x y n, le-ltb x y h))
+    (λ h. rw (ne_eqb x y n, lt-ltb x y h)))
 
 pub compare_start : (a b : List ℕ) → Comparing a b 0
 compare_start a b = record { left = omega arith; right = omega arith; same = refl }
 
 module _ (a b : List ℕ) (i : ℕ) (c : Comparing a b i) where
-  pub compare_turn : i < length a → i < length b → get_or a i 0 ≡ get_or b i 0 → Comparing a b (i + 1)
+  compare_turn : i < length a → i < length b → get_or a i 0 ≡ get_or b i 0 → Comparing a b (i + 1)
   unfolding le_bytes
   compare_turn h k e = record { left = omega arith; right = omega arith; same = (rw (drop_step a i h, drop_step b i k, eq-eqb (get_or a i 0) (get_or b i 0) e) at c.same) }
 
-  pub compare_found : i < length a → i < length b → get_or a i 0 ≢ get_or b i 0 → ltb (get_or a i 0) (get_or b i 0) ≡ le_bytes a b
+  compare_found : i < length a → i < length b → get_or a i 0 ≢ get_or b i 0 → ltb (get_or a i 0) (get_or b i 0) ≡ le_bytes a b
   unfolding le_bytes
   compare_found h k n = rw (drop_step a i h, drop_step b i k, ne_eqb (get_or a i 0) (get_or b i 0) n) at c.same
 
-  pub compare_longer : i < length a → length b ≤ i → false ≡ le_bytes a b
-  unfolding le_bytes
-  compare_longer h k = rw (drop_step a i h, drop_end b i k) at c.same
-
-  pub compare_end : length a ≤ i → true ≡ le_bytes a b
-  unfolding le_bytes
-  compare_end h = rw (drop_end a i h) at c.same
-
--- ---- blocks of bytes
-
--- where most is 0, the first i bytes are the same
-pub record Agreeing (a b : List ℕ) (most i : ℕ) : Type 0 where
-  pub within : i ≤ length a
-  pub same : most ≡ 0 → drop i a ≡ drop i b → a ≡ b
-
-pub agreeing_start : (a b : List ℕ) → Agreeing a b 0 0
-agreeing_start a b = record { within = omega arith; same = λ z e. e }
-
-module _ (a b : List ℕ) (long : length a ≡ length b) (most i : ℕ) (v : Agreeing a b most i) where
-  pub agreeing_more : (y : ℕ) → i < length a → most < y → Agreeing a b y (i + 1)
-  agreeing_more y h g = record { within = omega arith; same = λ z e. absurd (omega arith) }
-
-  pub agreeing_same : (y : ℕ) → i < length a → OneUnless (get_or a i 0) (get_or b i 0) y → y ≤ most → Agreeing a b most (i + 1)
-  agreeing_same y h o g = record {
-    within = omega arith;
-    same = λ z e. v.same z (rw (drop_step a i h, drop_step b i (omega arith), o.same (omega arith), e));
-  }
-
-  pub agreeing_end : length a ≤ i → Agree a b (eqb most 0)
-  agreeing_end h =
-      record { same = λ t. v.same (eqb-true most 0 t) (drop_end a i h ∙ sym (drop_end b i (omega arith))) }
-
-front_same : (p x y : List ℕ) → le_bytes (p ++ x) (p ++ y) ≡ le_bytes x y
-unfolding le_bytes
-front_same [] x y = refl
-front_same (z ∷ p) x y = rw (eq-eqb z z refl) (front_same p x y)
-
--- a block that is the same decides nothing
-pub compare_block : (a b : List ℕ) (i j : ℕ) (t : Bool) → Comparing a b i → i ≤ j → j ≤ length a → j ≤ length b → Agree (take (j - i) (drop i a)) (take (j - i) (drop i b)) t → t ≡ true → Comparing a b j
-compare_block a b i j t c h p q g e =
-    let z : i + (j - i) ≡ j = omega arith in
-    let x : take (j - i) (drop i a) ++ drop j a ≡ drop i a = ap (λ (r : List ℕ). take (j - i) (drop i a) ++ r) (sym (rw z at (drop-drop (j - i) i a))) ∙ take-append-drop (j - i) (drop i a) in
-    let y : take (j - i) (drop i b) ++ drop j b ≡ drop i b = ap (λ (r : List ℕ). take (j - i) (drop i b) ++ r) (sym (rw z at (drop-drop (j - i) i b))) ∙ take-append-drop (j - i) (drop i b) in
-    record {
-      left = p;
-      right = q;
-      same = sym (front_same (take (j - i) (drop i b)) (drop j a) (drop j b)) ∙ rw (y, ← g.same e, x) c.same;
-    }
+  -- what is left decides
+  pub compare_rest : is_le (slice_cmp nat_cmp (take (length a - i) (drop i a)) (take (length b - i) (drop i b))) ≡ le_bytes a b
+  compare_rest = rw (take_rest a i, take_rest b i) (le_is (drop i a) (drop i b) ∙ c.same)
 
 -- ---- eight bytes at once, as numbers with the highest byte first
 

@@ -7,8 +7,8 @@ use Rattle.laws.specs.Answers.{refuses}
 use Rattle.mdr.specs.Sum.{checksum_of}
 use Rattle.mdr.specs.Escape.{within, escape}
 use Rattle.mdr.specs.Frame.{pack_of, judged, unpack_of}
-use Rattle.mdr.specs.Told.{told, glance}
-use Rattle.mdr.specs.declared.Unpacked.TheVariants.{BadEscapee, LengthMismatch, BadChecksum}
+use Rattle.mdr.specs.Told.{told_error, glance}
+use Rattle.mdr.specs.declared.UnpackError.TheVariants.{BadEscapee, LengthMismatch, BadChecksum}
 
 pub examples :
     (unpack_of [] ≡ refuses 10 [])
@@ -24,9 +24,9 @@ examples = (refl, refl, refl, refl, refl, refl, refl, refl)
 
 -- those with values, as the cases of the answer tell them
 pub cases :
-    (glance (unpack_of (0x3E ∷ 0x3D ∷ 0x00 ∷ 0x00 ∷ 0x00 ∷ 0x00 ∷ 0x00 ∷ 0x00 ∷ 0x3C ∷ [])) ≡ told (BadEscapee 0x00))
-    × (glance (unpack_of (0x3E ∷ 0x01 ∷ 0x00 ∷ 0x00 ∷ 0x00 ∷ 0x00 ∷ 0x01 ∷ 0x02 ∷ 0x3C ∷ [])) ≡ told (LengthMismatch 1 0))
-    × (glance (unpack_of (0x3E ∷ 0x01 ∷ 0x00 ∷ 0x00 ∷ 0x00 ∷ 0x00 ∷ 0x00 ∷ 0x02 ∷ 0x3C ∷ [])) ≡ told (BadChecksum 2 1))
+    (glance (unpack_of (0x3E ∷ 0x3D ∷ 0x00 ∷ 0x00 ∷ 0x00 ∷ 0x00 ∷ 0x00 ∷ 0x00 ∷ 0x3C ∷ [])) ≡ told_error (BadEscapee 0x00))
+    × (glance (unpack_of (0x3E ∷ 0x01 ∷ 0x00 ∷ 0x00 ∷ 0x00 ∷ 0x00 ∷ 0x01 ∷ 0x02 ∷ 0x3C ∷ [])) ≡ told_error (LengthMismatch 1 0))
+    × (glance (unpack_of (0x3E ∷ 0x01 ∷ 0x00 ∷ 0x00 ∷ 0x00 ∷ 0x00 ∷ 0x00 ∷ 0x02 ∷ 0x3C ∷ [])) ≡ told_error (BadChecksum 2 1))
 unfolding unpack_of judged within checksum_of be32 glance
 cases = (refl, refl, refl)
 

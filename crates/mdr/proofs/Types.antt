@@ -58,6 +58,3 @@ type_of_byte ShotMdr c = refl
 type_of_byte ShotCommon c = refl
 type_of_byte ShotMdrNo2 c = refl
 type_of_byte (Unknown b) c = kind_unlisted b kinds c
-
-pub kind_is : (b : ℕ) (t : DataType) → b ≡ byte_of t → Carried t → t ≡ type_of b
-kind_is b t e c = rw e (sym (type_of_byte t c))

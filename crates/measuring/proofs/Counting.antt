@@ -1,14 +1,14 @@
 -- The walk that counts.
 use Prim.Native.Nat.{ℕ, ◌+◌, ◌-◌, ◌*◌, ◌<◌, ◌≤◌}
 use mathlib.Core.Path.{◌≡◌, refl, sym, ap, ◌∙◌, fun_ext}
-use mathlib.Core.Bool.{Bool, true, false, cond}
+use mathlib.Core.Bool.{Bool, true, false, ◌||◌}
 use mathlib.Core.List.{List, [], ◌∷◌, ◌++◌, append-nil, append_assoc, map}
 use native.Mathlib.Omega.{arith}
 use native.Mathlib.Numerals.{add-one}
 use native.Mathlib.Nat.{zero-add, add-zero}
 use lib.ListN.{length, take, drop, length-append}
-use lib.Dec.{eqb, ltb}
-use borrow.Author.Tests.{eq-eqb, ne_eqb}
+use lib.Dec.{ltb}
+use borrow.Author.Tests.{eq-eqb}
 use Rattle.laws.proofs.Choice.{split_b, split≡, no_way}
 use Rattle.laws.specs.Keyed.{step, run, after}
 use Rattle.laws.specs.Count.{nub}
@@ -22,7 +22,7 @@ use Rattle.channels.specs.Channels.{any}
 use Rattle.spans.specs.Scan.{spans_of, rest_of}
 use Rattle.search.specs.Seek.{seek}
 use Rattle.spans.specs.Spans.{scanner, emptied, spans, unfinished}
-use Rattle.spans.specs.Parts.{tagged, bit, tally_one, tally_all, Room, CountedIs}
+use Rattle.spans.specs.Parts.{tagged, tally_one, tally_all, Room, CountedIs}
 use Rattle.spans.specs.Bytewise.{AllQuiet}
 use Rattle.spans.proofs.Bytewise.{quiet_emptied}
 use Rattle.spans.specs.Scans.{ScanPre, ScannedIs}
@@ -53,7 +53,7 @@ tally_spans t [] = t
 tally_spans t (s ∷ ss) = tally_spans (tally_one t s.wire) ss
 
 unfoldable pub nothing : Tally
-nothing = record { count = 0; bytes = 0; frame = 0 }
+nothing = record { count = 0; bytes = 0; frame = false }
 
 tally_tagged : (t : Tally) (rx time : ℕ) (ws : List (List ℕ)) (ss : List Span) → tally_spans t (tagged rx time ws ++ ss) ≡ tally_spans (tally_all t ws) ss
 unfolding tally_spans tally_all
@@ -70,25 +70,20 @@ unfolding tally_spans tally_one
 tally_bytes t [] = rw spans_none (omega arith)
 tally_bytes t (s ∷ ss) = tally_bytes (tally_one t s.wire) ss ∙ rw (spans_more s ss) (omega (arith, length-append (span_item s) (span_list ss), length_span s))
 
-tally_frame : (t : Tally) (ss : List Span) → (tally_spans t ss).frame ≡ cond (eqb t.frame 0) (bit (any (λ s. unpacks_of s.wire) ss)) t.frame
+tally_frame : (t : Tally) (ss : List Span) → (tally_spans t ss).frame ≡ (t.frame || any (λ s. unpacks_of s.wire) ss)
 unfolding tally_spans tally_one any
-tally_frame t [] = split≡ t.frame 0 (λ e. rw (eq-eqb t.frame 0 e) e) (λ e. rw (ne_eqb t.frame 0 e))
+tally_frame t [] = split_b t.frame (λ e. rw e) (λ e. rw e)
 tally_frame t (s ∷ ss) =
     tally_frame (tally_one t s.wire) ss
-    ∙ split≡ t.frame 0
-    (λ e. rw (eq-eqb t.frame 0 e) (split_b (unpacks_of s.wire) (λ g. rw g) (λ g. rw g)))
-    (λ e. rw (ne_eqb t.frame 0 e) (rw (ne_eqb t.frame 0 e)))
+    ∙ split_b t.frame (λ e. rw e) (λ e. rw e (split_b (unpacks_of s.wire) (λ g. rw g) (λ g. rw g)))
 
 -- ---- a piece
 
 pub known_none : (h : ℕ) (t : Tally) → h ≡ 0 → Known h t true
 known_none h t e = record { yes = λ z g. absurd (omega arith); no = λ z. no_way refl z }
 
-pub known_not : (h : ℕ) (t : Tally) → (h ≡ 0 → ⊥) → Known h t false
-known_not h t n = record { yes = λ z. no_way z refl; no = λ z. omega arith }
-
-pub known_frame : (h : ℕ) (t : Tally) → (t.frame ≡ 0 → ⊥) → Known h t true
-known_frame h t n = record { yes = λ z g. n; no = λ z. no_way refl z }
+pub known_frame : (h : ℕ) (t : Tally) → (h ≡ 0 → ⊥) → Known h t t.frame
+known_frame h t n = record { yes = λ z g. z; no = λ z. omega arith }
 
 module _ (f w : List ℕ) (p : Plan) (i h : ℕ) (t : Tally) (q : CountHeld f w p i h t) where
   -- what is held
@@ -270,7 +265,7 @@ pub record CountingTo (f w₀ : List ℕ) (p : Plan) (w : List ℕ) (i : ℕ) (s
   pub keys : keys_to w p i ++ map (λ x. x.key) (ahead f w p i) ≡ map (λ x. x.key) (all f w₀ p)
   pub told : AllTold f w p i
 
-pub counting_start : (f w : List ℕ) (p : Plan) → Laid f w p → CountingTo f w p w 0 (record { tally = record { count = 0; bytes = 0; frame = 0 }; unfinished = 0; taken = 0; cleared = 0; left = 0 })
+pub counting_start : (f w : List ℕ) (p : Plan) → Laid f w p → CountingTo f w p w 0 (record { tally = record { count = 0; bytes = 0; frame = false }; unfinished = 0; taken = 0; cleared = 0; left = 0 })
 unfolding nothing spans held_to keys_to nub total held_in cleared
 counting_start f w p l =
     let z : p.n - 0 ≡ p.n = omega arith in

@@ -1,8 +1,10 @@
 -- The sum over the different keys of a list, when a key comes at its end and the number of that key alone may change.
 use Prim.Native.Nat.{ℕ, ◌+◌, ◌<◌, ◌≤◌}
-use mathlib.Core.Path.{◌≡◌, refl, sym}
+use mathlib.Core.Path.{◌≡◌, refl, sym, ◌∙◌}
+use mir.Val.{bool_byte}
+use lib.Dec.{ltb}
 use mathlib.Core.Logic.{◌≢◌}
-use mathlib.Core.Bool.{Bool, true, false}
+use mathlib.Core.Bool.{Bool, true, false, cond}
 use mathlib.Core.List.{List, [], ◌∷◌, ◌++◌}
 use native.Mathlib.Omega.{arith}
 use borrow.Author.Tests.{lt-ltb, le-ltb}
@@ -11,14 +13,18 @@ use Rattle.laws.specs.Keys.{Key, eq_k}
 use Rattle.laws.proofs.Keys.{split_k, eq_eq_k, ne_eq_k}
 use Rattle.laws.specs.Count.{mem, nub, count}
 use Rattle.laws.specs.Totals.{total}
-use Rattle.spans.specs.Parts.{bit}
 use Rattle.measuring.specs.Counting.{sign}
 
--- a count is a sum of bits
-pub count_total : (p : Key → Bool) (ks : List Key) → count p ks ≡ total (λ k. bit (p k)) ks
+-- a count is a sum of ones
+pub count_total : (p : Key → Bool) (ks : List Key) → count p ks ≡ total (λ k. cond (p k) 1 0) ks
 unfolding count total
 count_total p [] = refl
 count_total p (k ∷ ks) = split_b (p k) (λ e. rw (e, count_total p ks) (omega arith)) (λ e. rw (e, count_total p ks) (omega arith))
+
+-- whether something is held, as a number
+pub sign_from : (n x : ℕ) → x ≡ bool_byte (ltb 0 n) → x ≡ sign n
+unfolding sign
+sign_from n x e = e ∙ split_b (ltb 0 n) (λ b. rw b) (λ b. rw b)
 
 mem_own : (k : Key) (xs : List Key) → mem k (xs ++ (k ∷ [])) ≡ true
 unfolding mem

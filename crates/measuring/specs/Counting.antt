@@ -12,7 +12,7 @@ use Rattle.spans.specs.Scan.{spans_of, rest_of}
 use Rattle.search.specs.Seek.{seek}
 use Rattle.spans.specs.Spans.{spans, unfinished}
 use Rattle.spans.specs.Account.{cleared_of, cleared, left, taken_in}
-use Rattle.spans.specs.Parts.{bit, tally_all, Room}
+use Rattle.spans.specs.Parts.{tally_all, Room}
 use Rattle.spans.specs.Bytewise.{Quiet, AllQuiet}
 use Rattle.spans.specs.declared.Tally.{Tally}
 use Rattle.spans.specs.declared.Scanned.{Scanned}
@@ -99,7 +99,7 @@ pub record CountHeld (f w : List ℕ) (p : Plan) (i h : ℕ) (t : Tally) : Type 
 
 -- a span of what is held can be counted by its length
 pub record Known (h : ℕ) (t : Tally) (r : Bool) : Type 0 where
-  pub yes : r ≡ true → 0 < h → t.frame ≡ 0 → ⊥
+  pub yes : r ≡ true → 0 < h → t.frame ≡ true
   pub no : r ≡ false → 0 < h
 
 pub record JoinHeld (f w : List ℕ) (p : Plan) (i h : ℕ) (t : Tally) : Type 0 where
@@ -128,7 +128,7 @@ pub record Stepped (f w : List ℕ) (p : Plan) (i : ℕ) (s : Sums) (u : List �
 pub record CountIs (f w : List ℕ) (p : Plan) (u : List ℕ) (r : Sums) : Type 0 where
   pub count : r.tally.count ≡ length (spans (all f w p))
   pub bytes : r.tally.bytes ≡ length (span_list (spans (all f w p)))
-  pub frame : r.tally.frame ≡ bit (any (λ s. unpacks_of s.wire) (spans (all f w p)))
+  pub frame : r.tally.frame ≡ any (λ s. unpacks_of s.wire) (spans (all f w p))
   pub live : r.unfinished ≡ unfinished (all f w p)
   pub takes : r.taken ≡ taken_in (all f w p)
   pub clears : r.cleared ≡ cleared (all f w p)

@@ -15,10 +15,7 @@ use words::{get32, put32};
 fn capped(n: usize) -> u32
     ensures { result ≡ capped_length n }
 {
-    if 65536 < n {
-        return 0;
-    }
-    n as u32
+    if 65536 < n { 0 } else { n as u32 }
 }
 
 // Stores how much is held after piece i, and where its first 3C stands.
@@ -41,37 +38,21 @@ pub struct Sums {
     pub left: usize,
 }
 
-// 1 if something is held.
-fn sign_of(n: usize) -> usize
-    ensures { result ≡ sign n }
-{
-    if 0 < n {
-        return 1;
-    }
-    0
-}
-
 // How many buffers are not empty, if there were so many, and one held h bytes and now holds r.
 fn count_open(many: usize, r: u32, h: usize) -> usize
     requires { OpenPre many r h }
     ensures { result ≡ many + sign r - sign h }
 {
-    let a = sign_of(r as usize);
-    let b = sign_of(h);
-    many + a - b
+    let after = usize::from(0 < r);
+    let before = usize::from(0 < h);
+    many + after - before
 }
 
 // Whether closing what is held needs no look at it: nothing is held, or a span has unpacked.
 fn is_known(h: usize, t: Tally) -> bool
     ensures { Known h t result }
 {
-    if h == 0 {
-        return true;
-    }
-    if t.frame == 0 {
-        return false;
-    }
-    true
+    h == 0 || t.frame
 }
 
 // Counts the spans that piece i brings behind the h bytes held, which are put before it if a 3C closes them.
@@ -163,7 +144,7 @@ pub fn count_spans(file: &[u8], w: &mut [u8], p: Plan) -> Sums
     let none = Tally {
         count: 0,
         bytes: 0,
-        frame: 0,
+        frame: false,
     };
     let mut s = Sums {
         tally: none,
@@ -172,12 +153,9 @@ pub fn count_spans(file: &[u8], w: &mut [u8], p: Plan) -> Sums
         cleared: 0,
         left: 0,
     };
-    let mut i = 0;
-    while i < n {
-        let j = i;
-        i += 1;
-        if get32(w, rows + 8 * j) == dlci {
-            s = count_piece(file, w, p, j, s);
+    for i in 0..n {
+        if get32(w, rows + 8 * i) == dlci {
+            s = count_piece(file, w, p, i, s);
         }
     }
     s

@@ -13,18 +13,16 @@ use Rattle.laws.proofs.Answers.{meets_refused, meets_short, meets_wrote, meets_a
 use Rattle.laws.specs.Stores.{Writes}
 use Rattle.mdr.specs.Escape.{unescape}
 use Rattle.mdr.specs.Frame.{last_of, computed_of, declared_of, payload_of, judged, bodied, unpack_of}
-use Rattle.mdr.specs.Told.{told, told_inspected, glance}
-use Rattle.mdr.specs.declared.Unpacked.{Unpacked}
-use Rattle.mdr.specs.declared.Unpacked.TheVariants as unpacked
-use Rattle.mdr.specs.declared.Inspected.{Inspected}
-use Rattle.mdr.specs.declared.Inspected.TheVariants.{Sound, Unsound}
+use Rattle.mdr.specs.Told.{told_error, told_inspected, glance}
+use Rattle.mdr.specs.declared.UnpackError.{UnpackError}
+use Rattle.mdr.specs.declared.UnpackError.TheVariants as unpacking
+use Rattle.std.specs.Prelude.{Some, None, Result, Ok, Err}
+use Rattle.std.specs.Result.{result_ok}
 use Rattle.names.specs.Names.{frame_name, look_of, look_at, given, named, fixture_name}
 use Rattle.names.specs.Parts.{NameLen}
 use Rattle.names.proofs.Parts.{length_frame_name, fixture_seen}
-use Rattle.names.specs.Told.{told_named, refusal_of}
-use Rattle.commands.specs.declared.Frame.{Frame}
-use Rattle.names.specs.declared.Look.TheVariants.{Seen, Unseen}
-use Rattle.names.specs.declared.Named.{Named}
+use Rattle.names.specs.Told.{told_named}
+use Rattle.mdr.specs.declared.Frame.{Frame}
 
 -- ---- unpacking gives three values, the last of them the payload's length
 
@@ -69,31 +67,18 @@ unpacked_three w vs p e =
     (λ b. no_gift _ _ vs p (rw (a, b) at e)))
     (λ a. no_gift _ _ vs p (rw a at e))
 
--- ---- a refusal of unpacking is one of naming
+-- ---- a refusal of unpacking carries two values at most
 
-no_three : {G : Type 0} (u : Unpacked) (a b c d : ℕ) → told u ≡ accepted (a ∷ b ∷ c ∷ d ∷ []) → G
-no_three (unpacked.Frame t q n) a b c d e = let z : ◌≡◌ {A = ℕ} 0 1 = cc in absurd (omega arith)
-no_three unpacked.TooShort a b c d e = let z : ◌≡◌ {A = ℕ} 0 1 = cc in absurd (omega arith)
-no_three unpacked.NoStart a b c d e = let z : ◌≡◌ {A = ℕ} 0 1 = cc in absurd (omega arith)
-no_three unpacked.NoEnd a b c d e = let z : ◌≡◌ {A = ℕ} 0 1 = cc in absurd (omega arith)
-no_three unpacked.TrailingSentry a b c d e = let z : ◌≡◌ {A = ℕ} 0 1 = cc in absurd (omega arith)
-no_three (unpacked.BadEscapee x) a b c d e = let z : ◌≡◌ {A = ℕ} 0 1 = cc in absurd (omega arith)
-no_three unpacked.BodyTooShort a b c d e = let z : ◌≡◌ {A = ℕ} 0 1 = cc in absurd (omega arith)
-no_three (unpacked.LengthMismatch x y) a b c d e = let z : ◌≡◌ {A = ℕ} 0 1 = cc in absurd (omega arith)
-no_three (unpacked.BadChecksum x y) a b c d e = let z : ◌≡◌ {A = ℕ} 0 1 = cc in absurd (omega arith)
-no_three (unpacked.OutShort x) a b c d e = let z : ◌≡◌ {A = ℕ} 0 1 = cc in absurd (omega arith)
-
-told_refusal_law : (u : Unpacked) (n : ℕ) (vs : List ℕ) → told u ≡ refused n vs → told_named (refusal_of u) ≡ refused n vs
-told_refusal_law (unpacked.Frame t q m) n vs e = let z : ◌≡◌ {A = ℕ} 0 1 = cc in absurd (omega arith)
-told_refusal_law unpacked.TooShort n vs e = e
-told_refusal_law unpacked.NoStart n vs e = e
-told_refusal_law unpacked.NoEnd n vs e = e
-told_refusal_law unpacked.TrailingSentry n vs e = e
-told_refusal_law (unpacked.BadEscapee x) n vs e = e
-told_refusal_law unpacked.BodyTooShort n vs e = e
-told_refusal_law (unpacked.LengthMismatch x y) n vs e = e
-told_refusal_law (unpacked.BadChecksum x y) n vs e = e
-told_refusal_law (unpacked.OutShort x) n vs e = e
+no_three : {G : Type 0} (u : UnpackError) (a b c d : ℕ) → told_error u ≡ accepted (a ∷ b ∷ c ∷ d ∷ []) → G
+no_three unpacking.TooShort a b c d e = let z : ◌≡◌ {A = ℕ} 0 1 = cc in absurd (omega arith)
+no_three unpacking.NoStart a b c d e = let z : ◌≡◌ {A = ℕ} 0 1 = cc in absurd (omega arith)
+no_three unpacking.NoEnd a b c d e = let z : ◌≡◌ {A = ℕ} 0 1 = cc in absurd (omega arith)
+no_three unpacking.TrailingSentry a b c d e = let z : ◌≡◌ {A = ℕ} 0 1 = cc in absurd (omega arith)
+no_three (unpacking.BadEscapee x) a b c d e = let z : ◌≡◌ {A = ℕ} 0 1 = cc in absurd (omega arith)
+no_three unpacking.BodyTooShort a b c d e = let z : ◌≡◌ {A = ℕ} 0 1 = cc in absurd (omega arith)
+no_three (unpacking.LengthMismatch x y) a b c d e = let z : ◌≡◌ {A = ℕ} 0 1 = cc in absurd (omega arith)
+no_three (unpacking.BadChecksum x y) a b c d e = let z : ◌≡◌ {A = ℕ} 0 1 = cc in absurd (omega arith)
+no_three (unpacking.OutShort x) a b c d e = let z : ◌≡◌ {A = ℕ} 0 1 = cc in absurd (omega arith)
 
 -- ---- what a look at a wire answers, of any outcome with three values
 
@@ -102,45 +87,40 @@ module _ (o : Outcome) (three : (vs p : List ℕ) → o ≡ gives vs p → Three
   unfolding glance
   four vs p e = rw e (ap (λ (l : List ℕ). accepted (l ++ (get_or p 0 0 ∷ []))) (three vs p e).is)
 
-seen_by : (t q n b : ℕ) (o : Outcome) → ((vs p : List ℕ) → o ≡ gives vs p → Three vs p) → accepted (t ∷ q ∷ n ∷ b ∷ []) ≡ glance o → look_of o ≡ Seen (record { kind = t; seq = q; size = n; first = b })
+seen_by : (f : Frame) (o : Outcome) → ((vs p : List ℕ) → o ≡ gives vs p → Three vs p) → accepted (f.kind ∷ f.seq ∷ f.size ∷ f.first ∷ []) ≡ glance o → look_of o ≡ Some f
 unfolding glance
-seen_by t q n b (gives vs p) three e =
-    let r : accepted (t ∷ q ∷ n ∷ b ∷ []) ≡ accepted (get_or vs 0 0 ∷ get_or vs 1 0 ∷ length p ∷ get_or p 0 0 ∷ []) = e ∙ four (gives vs p) three vs p refl in
-    let x : get_or vs 0 0 ≡ t = cc in
-    let y : get_or vs 1 0 ≡ q = cc in
-    let z : length p ≡ n = cc in
-    let w : get_or p 0 0 ≡ b = cc in
+seen_by f (gives vs p) three e =
+    let r : accepted (f.kind ∷ f.seq ∷ f.size ∷ f.first ∷ []) ≡ accepted (get_or vs 0 0 ∷ get_or vs 1 0 ∷ length p ∷ get_or p 0 0 ∷ []) = e ∙ four (gives vs p) three vs p refl in
+    let x : get_or vs 0 0 ≡ f.kind = cc in
+    let y : get_or vs 1 0 ≡ f.seq = cc in
+    let z : length p ≡ f.size = cc in
+    let w : get_or p 0 0 ≡ f.first = cc in
     rw (x, y, z, w)
-seen_by t q n b (refuses m vs) three e = let z : ◌≡◌ {A = ℕ} 0 1 = cc in absurd (omega arith)
+seen_by f (refuses m vs) three e = let z : ◌≡◌ {A = ℕ} 0 1 = cc in absurd (omega arith)
 
-unseen_by : (u : Unpacked) (o : Outcome) → ((vs p : List ℕ) → o ≡ gives vs p → Three vs p) → told u ≡ glance o → look_of o ≡ Unseen
+unseen_by : (u : UnpackError) (o : Outcome) → ((vs p : List ℕ) → o ≡ gives vs p → Three vs p) → told_error u ≡ glance o → look_of o ≡ None
 unfolding glance
 unseen_by u (gives vs p) three e = no_three u (get_or vs 0 0) (get_or vs 1 0) (length p) (get_or p 0 0) (e ∙ four (gives vs p) three vs p refl)
 unseen_by u (refuses n vs) three e = refl
 
-refused_by : (ms counter rx : ℕ) (d : List ℕ) (u : Unpacked) (o : Outcome) → look_of o ≡ Unseen → told u ≡ glance o → Meets (named ms counter rx o) d (told_named (refusal_of u)) d
+refused_by : (ms counter rx : ℕ) (d : List ℕ) (u : UnpackError) (o : Outcome) → look_of o ≡ None → told_error u ≡ glance o → Meets (named ms counter rx o) d (told_error u) d
 unfolding glance
 refused_by ms counter rx d u (gives vs p) l e = let z : ◌≡◌ {A = ℕ} 0 1 = cc in absurd (omega arith)
-refused_by ms counter rx d u (refuses n vs) l e = rw (told_refusal_law u n vs e) (meets_refused (refuses n vs) d n vs refl)
+refused_by ms counter rx d u (refuses n vs) l e = rw e (meets_refused (refuses n vs) d n vs refl)
 
-module _ (wire : List ℕ) (x : Inspected) (i : told_inspected x ≡ glance (unpack_of wire)) where
-  pub look_sound : (t q n b : ℕ) → x ≡ Sound t q n b → Seen (record { kind = t; seq = q; size = n; first = b }) ≡ look_at wire
+module _ (wire : List ℕ) where
+  pub looks : (x : Result Frame UnpackError) → told_inspected x ≡ glance (unpack_of wire) → result_ok x ≡ look_at wire
   unfolding look_at
-  look_sound t q n b e = sym (seen_by t q n b (unpack_of wire) (unpacked_three wire) (rw e at i))
-
-  pub look_unsound : (u : Unpacked) → x ≡ Unsound u → Unseen ≡ look_at wire
-  unfolding look_at
-  look_unsound u e = sym (unseen_by u (unpack_of wire) (unpacked_three wire) (rw e at i))
+  looks (Ok f) i = sym (seen_by f (unpack_of wire) (unpacked_three wire) i)
+  looks (Err u) i = sym (unseen_by u (unpack_of wire) (unpacked_three wire) i)
 
   module _ (ms counter rx : ℕ) (d : List ℕ) where
-    pub unsound : (u : Unpacked) (r : Named) → x ≡ Unsound u → r ≡ refusal_of u → Meets (fixture_name ms counter rx wire) d (told_named r) d
+    pub unsound : (u : UnpackError) → told_error u ≡ glance (unpack_of wire) → Meets (fixture_name ms counter rx wire) d (told_error u) d
     unfolding fixture_name
-    unsound u r e q =
-        let j : told u ≡ glance (unpack_of wire) = rw e at i in
-        rw q (refused_by ms counter rx d u (unpack_of wire) (unseen_by u (unpack_of wire) (unpacked_three wire) j) j)
+    unsound u i = refused_by ms counter rx d u (unpack_of wire) (unseen_by u (unpack_of wire) (unpacked_three wire) i) i
 
-    pub sound : (t q n b : ℕ) (a : Named) (e : List ℕ) → x ≡ Sound t q n b → Meets (given (frame_name ms counter rx (record { kind = t; seq = q; size = n; first = b }))) d (told_named a) e → Meets (fixture_name ms counter rx wire) d (told_named a) e
-    sound t q n b a e p m = meets_as _ _ d (fixture_seen ms counter rx wire _ (sym (look_sound t q n b p))) m
+    pub sound : (f : Frame) (a : Result ℕ UnpackError) (e : List ℕ) → told_inspected (Ok f) ≡ glance (unpack_of wire) → Meets (given (frame_name ms counter rx f)) d (told_named a) e → Meets (fixture_name ms counter rx wire) d (told_named a) e
+    sound f a e i m = meets_as _ _ d (fixture_seen ms counter rx wire f (sym (looks (Ok f) i))) m
 
 -- ---- the output's length, and the name
 

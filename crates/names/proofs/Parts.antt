@@ -14,8 +14,8 @@ use Rattle.names.specs.Digits.{hex2}
 use Rattle.names.proofs.Digits.{length_hex}
 use Rattle.commands.specs.Labels.{type_name, command_name}
 use Rattle.names.specs.Names.{way_name, frame_name, name_len, frame_of, look_of, look_at, given, named, fixture_name}
-use Rattle.commands.specs.declared.Frame.{Frame}
-use Rattle.names.specs.declared.Look.TheVariants.{Seen}
+use Rattle.mdr.specs.declared.Frame.{Frame}
+use Rattle.std.specs.Prelude.{Some}
 use Rattle.names.specs.Parts.{head_of, head_len, part_of, part_len, type_part, type_len, seq_part, command_part, command_len}
 
 regroup : (h a b c d s q e f g i j : List ℕ) → h ++ a ++ b ++ c ++ d ++ s ++ q ++ e ++ f ++ g ++ i ++ j ≡ h ++ (a ++ b ++ c ++ d) ++ (s ++ q) ++ (e ++ f ++ g ++ i) ++ j
@@ -56,10 +56,10 @@ length_frame_name ms counter rx f = simp length-append (omega (arith, length_way
 
 -- ---- naming a wire that was looked at
 
-fixture_named : (ms counter rx : ℕ) (o : Outcome) (f : Frame) → look_of o ≡ Seen f → named ms counter rx o ≡ given (frame_name ms counter rx f)
+fixture_named : (ms counter rx : ℕ) (o : Outcome) (f : Frame) → look_of o ≡ Some f → named ms counter rx o ≡ given (frame_name ms counter rx f)
 fixture_named ms counter rx (gives values payload) f e = let q : frame_of values payload ≡ f = cc in rw q
 fixture_named ms counter rx (refuses n values) f e = let z : ◌≡◌ {A = ℕ} 0 1 = cc in absurd (omega arith)
 
-pub fixture_seen : (ms counter rx : ℕ) (wire : List ℕ) (f : Frame) → look_at wire ≡ Seen f → fixture_name ms counter rx wire ≡ given (frame_name ms counter rx f)
+pub fixture_seen : (ms counter rx : ℕ) (wire : List ℕ) (f : Frame) → look_at wire ≡ Some f → fixture_name ms counter rx wire ≡ given (frame_name ms counter rx f)
 unfolding fixture_name look_at
 fixture_seen ms counter rx wire f e = fixture_named ms counter rx (unpack_of wire) f e

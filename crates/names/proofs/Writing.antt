@@ -16,7 +16,7 @@ use Rattle.names.specs.Parts.{head_of, part_of, type_part, seq_part, command_par
 use Rattle.names.proofs.Parts.{name_parts}
 use Rattle.commands.specs.Run.{name_at, Spot}
 use Rattle.mdr.specs.declared.DataType.{DataType}
-use Rattle.commands.specs.declared.Frame.{Frame}
+use Rattle.mdr.specs.declared.Frame.{Frame}
 
 module _ (d₀ : List ℕ) (at : ℕ) where
   pub head_written : (ms counter rx : ℕ) (a b c d e r : ℕ) (d₁ d₂ d₃ d₄ d₅ d₆ : List ℕ) → Writes d₀ at (ascii "mdr-packet-") a d₁ → Writes d₁ a (decimal ms) b d₂ → Writes d₂ b (ascii "-") c d₃ → Writes d₃ c (decimal6 counter) d d₄ → Writes d₄ d (ascii "-") e d₅ → Writes d₅ e (way_name rx) r d₆ → Writes d₀ at (head_of ms counter rx) r d₆

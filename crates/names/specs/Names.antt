@@ -1,14 +1,12 @@
 -- The name of a fixture: mdr-packet-<ms>-<counter>-<rx|tx>.type-<NAME>-<hex>.seq-<hex>.cmd-<NAME>-<hex>.bin
-use Rattle.std.specs.Prelude.{cond, List, [], ◌∷◌, ◌++◌, ℕ, ◌+◌, eqb, length, get_or}
+use Rattle.std.specs.Prelude.{cond, List, [], ◌∷◌, ◌++◌, ℕ, ◌+◌, eqb, length, get_or, Option, Some, None}
 use Rattle.laws.specs.Answers.{Outcome, gives, refuses}
 use Rattle.mdr.specs.Types.{type_of}
 use Rattle.mdr.specs.Frame.{unpack_of}
 use Rattle.commands.specs.Text.{ascii}
 use Rattle.commands.specs.Labels.{type_name, command_name}
 use Rattle.names.specs.Digits.{decimal, decimal6, hex2}
-use Rattle.commands.specs.declared.Frame.{Frame}
-use Rattle.names.specs.declared.Look.{Look}
-use Rattle.names.specs.declared.Look.TheVariants.{Seen, Unseen}
+use Rattle.mdr.specs.declared.Frame.{Frame}
 
 unfoldable pub way_name : ℕ → List ℕ
 way_name rx = cond (eqb rx 1) (ascii "rx") (ascii "tx")
@@ -31,11 +29,11 @@ abbrev pub frame_of : List ℕ → List ℕ → Frame
 frame_of values payload = record { kind = get_or values 0 0; seq = get_or values 1 0; size = length payload; first = get_or payload 0 0 }
 
 -- what a look at a wire sees: the frame that unpacking gives, or none
-abbrev pub look_of : Outcome → Look
-look_of (gives values payload) = Seen (frame_of values payload)
-look_of (refuses n values) = Unseen
+abbrev pub look_of : Outcome → Option Frame
+look_of (gives values payload) = Some (frame_of values payload)
+look_of (refuses n values) = None
 
-unfoldable pub look_at : List ℕ → Look
+unfoldable pub look_at : List ℕ → Option Frame
 look_at wire = look_of (unpack_of wire)
 
 -- a name, with its length as the answer

@@ -5,7 +5,7 @@ use Rattle.commands.specs.Text.{ascii}
 use Rattle.names.specs.Digits.{decimal, decimal6, hex2}
 use Rattle.commands.specs.Labels.{type_name, command_name}
 use Rattle.names.specs.Names.{way_name, name_len}
-use Rattle.commands.specs.declared.Frame.{Frame}
+use Rattle.mdr.specs.declared.Frame.{Frame}
 
 -- mdr-packet-<ms>-<counter>-<rx|tx>
 unfoldable pub head_of : ℕ → ℕ → ℕ → List ℕ

@@ -7,20 +7,13 @@ ghost use Rattle.laws.specs.Stores.{Writes};
 ghost use Rattle.items.specs.Items.{rx_of};
 ghost use Rattle.commands.specs.Run.{name_at};
 ghost use Rattle.names.specs.Names.{way_name, frame_name, name_len, given, look_at, fixture_name};
-ghost use Rattle.names.specs.Told.{told_named, refusal_of};
+ghost use Rattle.names.specs.Told.{told_named};
 ghost use Rattle.names.specs.Parts.{head_of, head_len, part_of, part_len, type_part, type_len, seq_part, command_part, command_len, NameLen};
 ghost use Rattle.names.specs.Digits.{hex_digit, hex2, decimal, decimal6, DigitCount};
 
-use commands::{Frame, command_name, data_type_name, name_len, put_name};
+use commands::{command_name, data_type_name, name_len, put_name};
 use items::Direction;
-use mdr::{Inspected, Unpacked};
-
-// What a look at a wire sees.
-#[derive(Clone, Copy)]
-pub enum Look {
-    Seen(Frame),
-    Unseen,
-}
+use mdr::{DataType, Frame, UnpackError};
 
 // ---- digits: each function returns the place after what it wrote
 
@@ -74,16 +67,6 @@ fn put_decimal(out: &mut [u8], at: usize, n: u64) -> usize
     end
 }
 
-// How many zeros stand before so many digits.
-fn missing(k: usize) -> usize
-    ensures { result ≡ 6 - k }
-{
-    if k < 6 {
-        return 6 - k;
-    }
-    0
-}
-
 fn put_zeros(out: &mut [u8], at: usize, k: usize) -> usize
     requires k_bound { k ≤ 6 }
     requires k_in_bounds { at + k ≤ length out.old }
@@ -99,7 +82,7 @@ fn put_counter(out: &mut [u8], at: usize, n: u32) -> usize
     ensures { Writes out.old at (decimal6 n) result out.new }
 {
     let n = n as u64;
-    let z = missing(decimal_len(n));
+    let z = 6usize.saturating_sub(decimal_len(n));
     let to = put_zeros(out, at, z);
     put_decimal(out, to, n)
 }
@@ -144,7 +127,7 @@ fn put_type(out: &mut [u8], at: usize, kind: u8) -> usize
     requires { at + type_len kind ≤ length out.old }
     ensures { Writes out.old at (type_part kind) result out.new }
 {
-    let i = data_type_name(mdr::from_wire(kind));
+    let i = data_type_name(DataType::from(kind));
     put_part(out, at, b".type-", i, kind)
 }
 
@@ -187,94 +170,48 @@ pub fn put_frame_name(
 pub fn frame_name_len(ms: u64, counter: u32, f: Frame) -> usize
     ensures { NameLen ms counter f result }
 {
-    let i = data_type_name(mdr::from_wire(f.kind));
+    let i = data_type_name(DataType::from(f.kind));
     let j = command_name(f);
     let k = decimal_len(counter as u64);
-    43 + decimal_len(ms) + missing(k) + k + name_len(i) + name_len(j)
+    43 + decimal_len(ms) + 6usize.saturating_sub(k) + k + name_len(i) + name_len(j)
 }
 
 // ---- naming
 
-// What naming answers: the name's length, or a refusal, as unpacking refuses.
-#[derive(Clone, Copy)]
-pub enum Named {
-    Name(usize),
-    TooShort,
-    NoStart,
-    NoEnd,
-    TrailingSentry,
-    BadEscapee(u8),
-    BodyTooShort,
-    LengthMismatch(u64, u64),
-    BadChecksum(u8, u8),
-    OutShort(usize),
-}
-
-fn refusal(u: Unpacked) -> Named
-    ensures { result ≡ refusal_of u }
-{
-    match u {
-        Unpacked::Frame(_, _, _) => Named::TooShort,
-        Unpacked::TooShort => Named::TooShort,
-        Unpacked::NoStart => Named::NoStart,
-        Unpacked::NoEnd => Named::NoEnd,
-        Unpacked::TrailingSentry => Named::TrailingSentry,
-        Unpacked::BadEscapee(b) => Named::BadEscapee(b),
-        Unpacked::BodyTooShort => Named::BodyTooShort,
-        Unpacked::LengthMismatch(declared, actual) => Named::LengthMismatch(declared, actual),
-        Unpacked::BadChecksum(declared, computed) => Named::BadChecksum(declared, computed),
-        Unpacked::OutShort(needed) => Named::OutShort(needed),
-    }
-}
-
-fn name_frame(ms: u64, counter: u32, direction: Direction, f: Frame, out: &mut [u8]) -> Named
+fn name_frame(
+    ms: u64,
+    counter: u32,
+    direction: Direction,
+    f: Frame,
+    out: &mut [u8],
+) -> Result<usize, UnpackError>
     ensures { Meets (given (frame_name ms counter (rx_of direction) f)) out.old (told_named result) out.new }
 {
     let needed = frame_name_len(ms, counter, f);
     if out.len() < needed {
-        return Named::OutShort(needed);
+        return Err(UnpackError::OutShort(needed));
     }
     put_frame_name(out, 0, ms, counter, direction, f);
-    Named::Name(needed)
+    Ok(needed)
 }
 
 // The frame of a wire, if it unpacks.
-pub fn look_at(wire: &[u8]) -> Look
+pub fn look_at(wire: &[u8]) -> Option<Frame>
     ensures { result ≡ look_at wire.now }
 {
-    let x = unpacking::inspect(wire);
-    match x {
-        Inspected::Unsound(_) => Look::Unseen,
-        Inspected::Sound(kind, seq, size, first) => Look::Seen(Frame {
-            kind: kind,
-            seq: seq,
-            size: size,
-            first: first,
-        }),
-    }
+    unpacking::inspect(wire).ok()
 }
 
-// Writes the name of a frame's wire to the front of out.
+// Writes the name of a frame's wire to the front of out, and returns its length; refuses as unpacking does.
 pub fn fixture_name(
     ms: u64,
     counter: u32,
     direction: Direction,
     wire: &[u8],
     out: &mut [u8],
-) -> Named
+) -> Result<usize, UnpackError>
     ensures { Meets (fixture_name ms counter (rx_of direction) wire.now) out.old (told_named result) out.new }
 {
-    let x = unpacking::inspect(wire);
-    match x {
-        Inspected::Unsound(u) => refusal(u),
-        Inspected::Sound(kind, seq, size, first) => {
-            let f = Frame {
-                kind: kind,
-                seq: seq,
-                size: size,
-                first: first,
-            };
-            name_frame(ms, counter, direction, f, out)
-        }
-    }
+    let f = unpacking::inspect(wire)?;
+    name_frame(ms, counter, direction, f, out)
 }

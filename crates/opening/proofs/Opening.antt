@@ -1,4 +1,5 @@
 -- Each refusal, and what is read where none is met.
+use Rattle.std.specs.Prelude.{Result, Ok, Err}
 use Prim.Native.Nat.{ℕ, ◌*◌, ◌<◌, ◌≤◌}
 use mathlib.Core.Path.{◌≡◌, refl, sym, ◌∙◌}
 use mathlib.Core.Bool.{Bool, true, false, not}
@@ -17,8 +18,6 @@ use Rattle.trace.specs.declared.Container.{Container}
 use Rattle.trace.specs.declared.Format.{Format}
 use Rattle.trace.specs.declared.Refusal.{Refusal}
 use Rattle.trace.specs.declared.Refusal.TheVariants.{FileLong, WorkShort, Truncated}
-use Rattle.trace.specs.declared.Header.{Header}
-use Rattle.trace.specs.declared.Header.TheVariants.{Read as Known, Refused as Unread}
 use Rattle.packets.specs.Adding.{ReadPre, ReadTo}
 use Rattle.packets.specs.declared.Packets.{Packets}
 use Rattle.outcome.specs.Import.{ends_well, fits, work_suffices}
@@ -27,7 +26,6 @@ use Rattle.opening.specs.Opening.{ends, heads, opened, tail_of, Opens, Sized, He
 use Rattle.opening.specs.declared.Tail.{Tail}
 use Rattle.opening.specs.declared.Tail.TheVariants.{Strict, Tolerant}
 use Rattle.opening.specs.declared.Opened.{Opened}
-use Rattle.opening.specs.declared.Opened.TheVariants.{Read, Refused}
 
 no_read : {G : Type 0} → ◌≡◌ {A = ℕ} 0 1 → G
 no_read z = absurd (omega arith)
@@ -63,11 +61,11 @@ module _ (g : Format) (f w : List ℕ) (p : Packets) (rp : ReadTo g f w p) where
   whole Tolerant q = refl
 
   module _ (tail : Tail) (t : Bool) (et : t ≡ truncates tail p.tail (length f)) where
-    pub records_truncated : t ≡ true → RecordsOpen g f (tail_of tail) (Refused (Truncated p.tail)) w
-    records_truncated q = record { answers = rw rp.tail (cut_off tail (sym et ∙ q)); read = λ x y e. no_read cc }
+    pub records_truncated : t ≡ true → RecordsOpen g f (tail_of tail) (Err (Truncated p.tail)) w
+    records_truncated q = record { answers = rw rp.tail (cut_off tail (sym et ∙ q)); read = λ t e. no_read cc }
 
-    pub records_read : t ≡ false → RecordsOpen g f (tail_of tail) (Read g p) w
-    records_read q = record { answers = whole tail (sym et ∙ q); read = λ x y e. (let i : x ≡ g = cc in i, (let i : p ≡ y = cc in rw i at rp)) }
+    pub records_read : t ≡ false → RecordsOpen g f (tail_of tail) (Ok (record { format = g; packets = p })) w
+    records_read q = record { answers = whole tail (sym et ∙ q); read = λ o e. (let i : record { format = g; packets = p } ≡ o = cc in rw (← i) (refl, rp)) }
 
 -- a file's header says how it ends
 ends_by_law : (b : Container) (f : List ℕ) (tail : import.Tail) → ends_by (format_of b f) f tail ≡ ends (container_of b) f tail
@@ -77,25 +75,25 @@ ends_by_law b f import.tolerant = refl
 
 -- ---- from the header on
 
-module _ (b : Container) (f : List ℕ) (h : Header) (m : HeaderIs b f h) where
-  pub header_pre : (w : List ℕ) → Sized f w → (g : Format) → h ≡ Known g → ReadPre g f w
+module _ (b : Container) (f : List ℕ) (h : Result Format Refusal) (m : HeaderIs b f h) where
+  pub header_pre : (w : List ℕ) → Sized f w → (g : Format) → h ≡ Ok g → ReadPre g f w
   header_pre w size g q =
-      let k = header_as b f h (Known g) m q in
+      let k = header_as b f h (Ok g) m q in
       let l : (container_of b).head ≤ length f = (lawful b).long f k.0 in
       record { some = rw (k.2, head_of b f) l; small = size.small; room = size.room }
 
   module _ (tail : import.Tail) where
-    pub header_refused : (x : Refusal) → h ≡ Unread x → (u : List ℕ) → HeaderOpens b f tail (Refused x) u
+    pub header_refused : (x : Refusal) → h ≡ Err x → (u : List ℕ) → HeaderOpens b f tail (Err x) u
     unfolding heads
-    header_refused x q u = record { answers = header_as b f h (Unread x) m q (ends (container_of b) f tail); read = λ g p e. no_read cc }
+    header_refused x q u = record { answers = header_as b f h (Err x) m q (ends (container_of b) f tail); read = λ t e. no_read cc }
 
-    pub header_read : (g : Format) → h ≡ Known g → (r : Opened) (u : List ℕ) → RecordsOpen g f tail r u → HeaderOpens b f tail r u
+    pub header_read : (g : Format) → h ≡ Ok g → (r : Result Opened Refusal) (u : List ℕ) → RecordsOpen g f tail r u → HeaderOpens b f tail r u
     unfolding heads headed
     header_read g q r u o =
-        let k = header_as b f h (Known g) m q in
+        let k = header_as b f h (Ok g) m q in
         record {
           answers = rw (k.0, k.1) (o.answers ∙ rw k.2 (ends_by_law b f tail));
-          read = λ x p e. let y = o.read x p e in record { says = y.0 ∙ k.2; reads = rw y.0 y.1 };
+          read = λ t e. let y = o.read t e in record { says = y.0 ∙ k.2; reads = rw y.0 y.1 };
         }
 
 -- ---- the call
@@ -104,19 +102,19 @@ pub open_sized : (f w : List ℕ) → length f ≤ 1048576 → 8 * length f ≤ 
 open_sized f w h g = record { small = h; room = g }
 
 module _ (b : Container) (f w : List ℕ) (tail : import.Tail) where
-  pub open_long : 1048576 < length f → Opens b f w tail (Refused FileLong) w
+  pub open_long : 1048576 < length f → Opens b f w tail (Err FileLong) w
   unfolding opened fits
-  open_long h = record { answers = rw (lt-leb (length f) 1048576 h); read = λ x p e. no_read cc; spared = λ e. refl }
+  open_long h = record { answers = rw (lt-leb (length f) 1048576 h); read = λ t e. no_read cc; spared = λ e. refl }
 
-  pub open_short : length f ≤ 1048576 → length w < 8 * length f → Opens b f w tail (Refused WorkShort) w
+  pub open_short : length f ≤ 1048576 → length w < 8 * length f → Opens b f w tail (Err WorkShort) w
   unfolding opened fits work_suffices
   open_short h g = record {
     answers = rw (le-leb (length f) 1048576 h, lt-leb (8 * length f) (length w) g);
-    read = λ x p e. no_read cc;
+    read = λ t e. no_read cc;
     spared = λ e. refl;
   }
 
-  pub open_read : length f ≤ 1048576 → 8 * length f ≤ length w → (r : Opened) (w' : List ℕ) → HeaderOpens b f tail r w' → Opens b f w tail r w'
+  pub open_read : length f ≤ 1048576 → 8 * length f ≤ length w → (r : Result Opened Refusal) (w' : List ℕ) → HeaderOpens b f tail r w' → Opens b f w tail r w'
   unfolding opened fits work_suffices
   open_read h g r w' m = record {
     answers = rw (le-leb (length f) 1048576 h, le-leb (8 * length f) (length w) g) m.answers;

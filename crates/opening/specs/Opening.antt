@@ -1,5 +1,5 @@
 -- Whether a trace is read: refusals 1 to 5, which are the same for every call that reads one.
-use Rattle.std.specs.Prelude.{ℕ, ◌*◌, ◌≤◌, ◌≡◌, Bool, false, cond, not, ◌&&◌, List, [], ◌∷◌, length, eqb}
+use Rattle.std.specs.Prelude.{ℕ, Result, Ok, Err, ◌*◌, ◌≤◌, ◌≡◌, Bool, false, cond, not, ◌&&◌, List, [], ◌∷◌, length, eqb}
 use Rattle.laws.specs.Answers.{Answer, accepted, refused}
 use Rattle.container.specs.Container as container
 use Rattle.trace.specs.Formats.{container_of, format_of, tail_by}
@@ -13,7 +13,7 @@ use Rattle.outcome.specs.Import as import
 use Rattle.opening.specs.declared.Tail.{Tail}
 use Rattle.opening.specs.declared.Tail.TheVariants.{Strict, Tolerant}
 use Rattle.opening.specs.declared.Opened.{Opened}
-use Rattle.opening.specs.declared.Opened.TheVariants.{Read, Refused}
+use Rattle.trace.specs.declared.Refusal.{Refusal}
 
 -- 1, 2, 3 (pcap: 21), 4 (22), 5, in this order; else it is read
 module _ (C : container.Container) where
@@ -33,9 +33,9 @@ tail_of Strict = import.strict
 tail_of Tolerant = import.tolerant
 
 -- each case's number and values in documents 01 and 02
-abbrev pub told_opened : Opened → Answer
-told_opened (Read g p) = accepted []
-told_opened (Refused x) = told_refusal x
+abbrev pub told_opened : Result Opened Refusal → Answer
+told_opened (Ok t) = accepted []
+told_opened (Err x) = told_refusal x
 
 -- what a trace that is read leaves in work, by what its header says
 pub record Reads (b : Container) (f w : List ℕ) (g : Format) (p : Packets) : Type 0 where
@@ -43,9 +43,9 @@ pub record Reads (b : Container) (f w : List ℕ) (g : Format) (p : Packets) : T
   pub reads : ReadTo g f w p
 
 -- The answer by the definition; where the trace is read, its packets stand in work; work is unchanged after 1 and 2.
-pub record Opens (b : Container) (f w : List ℕ) (tail : import.Tail) (r : Opened) (w' : List ℕ) : Type 0 where
+pub record Opens (b : Container) (f w : List ℕ) (tail : import.Tail) (r : Result Opened Refusal) (w' : List ℕ) : Type 0 where
   pub answers : told_opened r ≡ opened (container_of b) f (length w) tail
-  pub read : (g : Format) (p : Packets) → r ≡ Read g p → Reads b f w' g p
+  pub read : (t : Opened) → r ≡ Ok t → Reads b f w' t.format t.packets
   pub spared : (fits f && work_suffices f (length w)) ≡ false → w' ≡ w
 
 -- ---- from the header on, from the records on
@@ -54,18 +54,18 @@ pub record Sized (f w : List ℕ) : Type 0 where
   pub small : length f ≤ 1048576
   pub room : 8 * length f ≤ length w
 
-pub record HeaderOpens (b : Container) (f : List ℕ) (tail : import.Tail) (r : Opened) (w' : List ℕ) : Type 0 where
+pub record HeaderOpens (b : Container) (f : List ℕ) (tail : import.Tail) (r : Result Opened Refusal) (w' : List ℕ) : Type 0 where
   pub answers : told_opened r ≡ heads (container_of b) f tail
-  pub read : (g : Format) (p : Packets) → r ≡ Read g p → Reads b f w' g p
+  pub read : (t : Opened) → r ≡ Ok t → Reads b f w' t.format t.packets
 
 -- by the format alone: whose file it is is not known here
 abbrev pub ends_by : Format → List ℕ → import.Tail → Answer
 ends_by g f import.strict = cond (eqb (tail_by g f) (length f)) (accepted []) (refused 5 (tail_by g f ∷ []))
 ends_by g f import.tolerant = accepted []
 
-pub record RecordsOpen (g : Format) (f : List ℕ) (tail : import.Tail) (r : Opened) (w' : List ℕ) : Type 0 where
+pub record RecordsOpen (g : Format) (f : List ℕ) (tail : import.Tail) (r : Result Opened Refusal) (w' : List ℕ) : Type 0 where
   pub answers : told_opened r ≡ ends_by g f tail
-  pub read : (x : Format) (p : Packets) → r ≡ Read x p → (x ≡ g) × ReadTo g f w' p
+  pub read : (t : Opened) → r ≡ Ok t → (t.format ≡ g) × ReadTo g f w' t.packets
 
 -- 5, strict only
 unfoldable pub truncates : Tail → ℕ → ℕ → Bool

@@ -6,7 +6,7 @@ ghost use Rattle.packets.specs.Adding.{ReadPre};
 ghost use Rattle.opening.specs.Opening.{tail_of, Opens, Sized, HeaderOpens, RecordsOpen, truncates};
 
 use packets::{Packets, read_packets};
-use trace::{Container, Format, Header, Refusal, read_header};
+use trace::{Container, Format, Refusal, read_header};
 
 // Where a record passes the end: refuse, or read what comes before it.
 #[derive(Clone, Copy)]
@@ -15,11 +15,11 @@ pub enum Tail {
     Tolerant,
 }
 
-// How a trace opens: what its header says, how many packets it has and where its whole records end; or a refusal.
+// A trace that is open: what its header says, and how many packets it has and where its whole records end.
 #[derive(Clone, Copy)]
-pub enum Opened {
-    Read(Format, Packets),
-    Refused(Refusal),
+pub struct Opened {
+    pub format: Format,
+    pub packets: Packets,
 }
 
 // Whether a record passes the end and that is refused.
@@ -33,40 +33,47 @@ fn is_truncated(tail: Tail, at: usize, end: usize) -> bool
 }
 
 // Reads the packets of a file whose header is read.
-fn open_records(file: &[u8], work: &mut [u8], tail: Tail, format: Format) -> Opened
+fn open_records(file: &[u8], work: &mut [u8], tail: Tail, format: Format) -> Result<Opened, Refusal>
     requires { ReadPre format file.now work.old }
     ensures { RecordsOpen format file.now (tail_of tail) result work.new }
 {
-    let p = read_packets(file, work, format);
-    let at = p.tail;
+    let packets = read_packets(file, work, format);
+    let at = packets.tail;
     if is_truncated(tail, at, file.len()) {
-        return Opened::Refused(Refusal::Truncated(at));
+        return Err(Refusal::Truncated(at));
     }
-    Opened::Read(format, p)
+    Ok(Opened { format, packets })
 }
 
 // Opens a file of a size that is taken, with work enough.
-fn open_header(file: &[u8], work: &mut [u8], container: Container, tail: Tail) -> Opened
+fn open_header(
+    file: &[u8],
+    work: &mut [u8],
+    container: Container,
+    tail: Tail,
+) -> Result<Opened, Refusal>
     requires { Sized file.now work.old }
     ensures { HeaderOpens container file.now (tail_of tail) result work.new }
 {
-    let h = read_header(file, container);
-    match h {
-        Header::Refused(x) => Opened::Refused(x),
-        Header::Read(format) => open_records(file, work, tail, format),
-    }
+    let format = read_header(file, container)?;
+    open_records(file, work, tail, format)
 }
 
 // Opens a trace. A file that is too long, and work that is too short, are refused first.
-pub fn open_trace(file: &[u8], work: &mut [u8], container: Container, tail: Tail) -> Opened
+pub fn open_trace(
+    file: &[u8],
+    work: &mut [u8],
+    container: Container,
+    tail: Tail,
+) -> Result<Opened, Refusal>
     ensures { Opens container file.now work.old (tail_of tail) result work.new }
 {
     let n = file.len();
     if 1048576 < n {
-        return Opened::Refused(Refusal::FileLong);
+        return Err(Refusal::FileLong);
     }
     if work.len() < 8 * n {
-        return Opened::Refused(Refusal::WorkShort);
+        return Err(Refusal::WorkShort);
     }
     open_header(file, work, container, tail)
 }

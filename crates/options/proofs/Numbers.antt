@@ -29,14 +29,6 @@ pub container_pcap : (n : ℕ) → (n ≡ 0 → ⊥) → Pcap ≡ container_numb
 unfolding container_number
 container_pcap n e = rw (ne_eqb n 0 e)
 
-pub option_there : (l : List ℕ) (i d : ℕ) → i < length l → get_or l i 0 ≡ get_or l i d
-option_there [] i d h = absurd (not-suc-le-zero h)
-option_there (x ∷ l) zero d h = refl
-option_there (x ∷ l) (suc i) d h = option_there l i d (le_of_suc-le-suc h)
-
-pub option_lacks : (l : List ℕ) (i d : ℕ) → length l ≤ i → d ≡ get_or l i d
-option_lacks l i d h = sym (get_or-eq_default l d h)
-
 pub tail_in_law : (l : List ℕ) (n : ℕ) → n ≡ get_or l 1 0 → (t : Tail) → tail_of t ≡ tail_number n → tail_of t ≡ tail_in l
 tail_in_law l n e t q = rw (← e) q
 

@@ -13,30 +13,28 @@ use trace::Container;
 pub fn option_at(options: &[u64], at: usize, default: u64) -> u64
     ensures { result ≡ get_or options.now at default }
 {
-    if at < options.len() {
-        return options[at];
-    }
-    default
+    options.get(at).copied().unwrap_or(default)
 }
 
 // The tail rule by number: 0 is strict, any other tolerant.
+// Stays: as the two functions below, since each makes another type of its number; a trait for them would be longer than the three.
 pub fn tail_of(tolerant: u64) -> Tail
     ensures { tail_of result ≡ tail_number tolerant }
 {
-    if tolerant == 0 {
-        return Tail::Strict;
+    match tolerant {
+        0 => Tail::Strict,
+        _ => Tail::Tolerant,
     }
-    Tail::Tolerant
 }
 
 // The container by number: 0 is btsnoop, any other pcap.
 fn container_of(container: u64) -> Container
     ensures { result ≡ container_number container }
 {
-    if container == 0 {
-        return Container::Btsnoop;
+    match container {
+        0 => Container::Btsnoop,
+        _ => Container::Pcap,
     }
-    Container::Pcap
 }
 
 // The switch by number: 0 is off, any other on.

@@ -209,7 +209,7 @@ size_by_law l (suc k) at w h =
     split≤ (length l) at
     (λ g. omega (arith, w.within, size_none (names_from l at) (names_end l at w g)))
     (λ g.
-    let p = name_is l at w g (le32 l at) (le32 l at) refl refl in
+    let p = name_is l at w g (le32 l at) refl in
     let x : List ℕ = take (at + 6 + le32 l at - (at + 6)) (drop (at + 6) l) in
     let e : at + 6 + le32 l at - (at + 6) ≡ le32 l at = omega arith in
     let b : length (take (le32 l at) (drop (at + 6) l)) ≡ le32 l at = length-take-le (le32 l at) (drop (at + 6) l) (omega (arith, length-drop (at + 6) l, p.next.within)) in

@@ -1,4 +1,5 @@
 -- Laws of the call: how the names of a list stand, and what is answered.
+use Rattle.std.specs.Prelude.{Result, Ok, Err}
 use mathlib.Core.Path.{◌≡◌, refl, sym, ap, ◌∙◌}
 use mathlib.Core.Bool.{Bool, true, false}
 use mathlib.Core.List.{List, [], ◌∷◌, ◌++◌, append-nil}
@@ -13,13 +14,10 @@ use Rattle.laws.proofs.Answers.{meets_refused, meets_short, meets_wrote}
 use Rattle.items.specs.Items.{name_list, name_test, read_items}
 use Rattle.items.specs.Walks.{items_from, names_from, Good, check_of}
 use Rattle.items.proofs.Walks.{names_in_law, names_ill, checked_good, checked_ill}
-use Rattle.items.specs.declared.Checked.{Checked}
-use Rattle.items.specs.declared.Checked.TheVariants.{Well as CheckedWell, Ill as CheckedIll}
-use Rattle.order.specs.declared.Ordered.TheVariants.{IllFormed, OutShort}
+use Rattle.order.specs.declared.OrderError.{OrderError}
+use Rattle.order.specs.declared.OrderError.TheVariants.{IllFormed, OutShort}
 use Rattle.order.specs.declared.Way.{Way}
 use Rattle.order.specs.declared.Way.TheVariants.{Up, Down, Mixed}
-use Rattle.order.specs.declared.Read.{Read}
-use Rattle.order.specs.declared.Read.TheVariants.{Names, Ill}
 use Rattle.sorting.specs.Names.{le_name}
 use Rattle.order.specs.Order.{in_order, capture_order, told_ordered}
 use Rattle.sorting.specs.Chains.{back}
@@ -32,24 +30,24 @@ use Rattle.order.proofs.Arranging.{listed, listed_long}
 -- ---- how the names stand
 
 module _ (l : List ℕ) (r : Bool) where
-  pub read_up : Runs l true r → r ≡ true → ReadIs l (Names Up)
+  pub read_up : Runs l true r → r ≡ true → ReadIs l (Ok Up)
   unfolding ReadAs WayOf
   read_up s e = record { is = s.told e }
 
-  pub read_down : Runs l false r → r ≡ true → ReadIs l (Names Down)
+  pub read_down : Runs l false r → r ≡ true → ReadIs l (Ok Down)
   unfolding ReadAs WayOf
   read_down s e = record { is = s.told e }
 
-module _ (l : List ℕ) (r : Checked) (n : ℕ) (e : r ≡ check_of (read_items name_test l)) where
-  pub read_mixed : r ≡ CheckedWell n → ReadIs l (Names (Mixed n))
+module _ (l : List ℕ) (r : Result ℕ ℕ) (n : ℕ) (e : r ≡ check_of (read_items name_test l)) where
+  pub read_mixed : r ≡ Ok n → ReadIs l (Ok (Mixed n))
   unfolding ReadAs WayOf
   read_mixed q = record { is = checked_good name_test l r n e q }
 
-  pub read_ill : r ≡ CheckedIll n → ReadIs l (Ill n)
+  pub read_ill : r ≡ Err n → ReadIs l (Err (IllFormed n))
   unfolding ReadAs
   read_ill q = record { is = checked_ill name_test l r n e q }
 
-pub way_pre : (l : List ℕ) (r : Read) (way : Way) (w : List ℕ) → ReadIs l r → r ≡ Names way → length w ≡ length l → WayPre l way w
+pub way_pre : (l : List ℕ) (r : Result Way OrderError) (way : Way) (w : List ℕ) → ReadIs l r → r ≡ Ok way → length w ≡ length l → WayPre l way w
 unfolding ReadAs
 way_pre l r way w s e h = record { is = rw e at s.is; long = h }
 
@@ -87,12 +85,13 @@ module _ (l : List ℕ) (way : Way) (w : List ℕ) (p : WayPre l way w) where
 
 -- ---- what is answered
 
-module _ (l d : List ℕ) (r : Read) (s : ReadIs l r) where
-  pub order_ill : (n : ℕ) → r ≡ Ill n → Meets (capture_order l) d (told_ordered (IllFormed n)) d
-  unfolding capture_order in_order told_ordered ReadAs
-  order_ill n q = meets_refused (capture_order l) d 20 (n ∷ []) (rw (names_ill l n (rw q at s.is)))
+module _ (l d : List ℕ) (r : Result Way OrderError) (s : ReadIs l r) where
+  pub order_ill : (e : OrderError) → r ≡ Err e → Meets (capture_order l) d (told_ordered (Err e)) d
+  unfolding capture_order in_order ReadAs
+  order_ill (IllFormed n) q = meets_refused (capture_order l) d 20 (n ∷ []) (rw (names_ill l n (rw q at s.is)))
+  order_ill (OutShort n) q = absurd (rw q at s.is)
 
-  module _ (way : Way) (q : r ≡ Names way) where
+  module _ (way : Way) (q : r ≡ Ok way) where
     good : Good name_test l (length (items_from name_test l 0))
     unfolding ReadAs
     good = way_good l way (rw q at s.is)
@@ -104,8 +103,7 @@ module _ (l d : List ℕ) (r : Read) (s : ReadIs l r) where
     listed_as : length (listed l) ≡ length l
     listed_as = listed_long l (length (items_from name_test l 0)) good
 
-    pub order_short : length d < length l → Meets (capture_order l) d (told_ordered (OutShort (length l))) d
-    unfolding told_ordered
+    pub order_short : length d < length l → Meets (capture_order l) d (told_ordered (Err (OutShort (length l)))) d
     order_short h = meets_short (capture_order l) d (length (listed l) ∷ []) (listed l) (length l) gives_listed (sym listed_as) h
 
     pub order_wrote : (o : List ℕ) → length l ≤ length d → o ≡ listed l → Meets (capture_order l) d (accepted (length l ∷ [])) (o ++ drop (length l) d)

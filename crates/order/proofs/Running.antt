@@ -1,50 +1,35 @@
 -- Laws of lists that run one way: how they are found, and what is written of them.
+use Rattle.std.specs.Prelude.{Option, Some}
 use mathlib.Core.Path.{◌≡◌, refl, sym, ap, ◌∙◌}
-use mathlib.Core.Logic.{◌≢◌}
-use mathlib.Core.Bool.{Bool, true, false}
+use mathlib.Core.Bool.{Bool, true, false, not, beq}
 use mathlib.Core.List.{List, [], ◌∷◌}
 use Prim.Native.Nat.{ℕ, ◌<◌, ◌≤◌}
 use native.Mathlib.Omega.{arith}
+use lib.Dec.{eqb}
 use lib.ListN.{length}
-use borrow.Author.Tests.{le-leb, eq-eqb, ne_eqb}
-use Rattle.laws.proofs.Choice.{split_b, no_way}
+use borrow.Author.Tests.{le-leb, eq-eqb, eqb-true}
+use Rattle.laws.proofs.Choice.{split≡, no_way}
 use Rattle.items.specs.Items.{item_at, end_at, Test, is_item, well_formed, name_test, read_items}
 use Rattle.items.specs.Reading.{read_from}
 use Rattle.items.proofs.Reading.{read_good, read_end}
-use Rattle.items.specs.Walks.{step_at, pass_at, held, items_from, names_from, Walks, Good}
-use Rattle.items.proofs.Walks.{good_fits, end_past}
-use Rattle.items.specs.declared.Step.{Step}
-use Rattle.items.specs.declared.Step.TheVariants.{Whole}
-use Rattle.items.proofs.Steps.{pass_to, pass_not}
+use Rattle.items.specs.Walks.{pass_at, held, items_from, names_from, Walks, Good}
+use Rattle.items.proofs.Walks.{good_fits, end_past, some_is, some_end}
 use Rattle.sorting.specs.Names.{le_name}
 use Rattle.sorting.specs.Chains.{chain_nil, chain_one, chain_more}
 use Rattle.sorting.specs.Steps.{name_at, HeadOf, first_of, le_at}
-use Rattle.order.specs.Steps.{Same, RunPre, RunFrom, RunsOn, Runs}
+use Rattle.order.specs.Steps.{RunPre, RunFrom, RunsOn, Runs}
 use Rattle.sorting.specs.declared.Head.{Head}
 use Rattle.sorting.proofs.Comparing.{head_self, first_is}
 
 -- ---- the name at a place
-
-module _ (l : List ℕ) (at : ℕ) (r : Step) (p : r ≡ step_at l at) (kind start end : ℕ) (e : r ≡ Whole kind start end) where
-  pub next_is_law : kind ≡ 3 → end ≡ pass_at name_test l at
-  unfolding name_test
-  next_is_law k = pass_to l at r p kind start end e name_test true (sym (eq-eqb kind 3 k)) refl
-
-  pub next_not : kind ≢ 3 → 0 ≡ pass_at name_test l at
-  unfolding name_test
-  next_not n = pass_not l at r p kind start end e name_test false (sym (ne_eqb kind 3 n)) refl
 
 -- an item may stand there, and end is its end
 record Passed (ok : Test) (l : List ℕ) (at end : ℕ) : Type 0 where
   item : is_item ok l at ≡ true
   next : end ≡ end_at l at
 
-passed : (ok : Test) (l : List ℕ) (at end : ℕ) → end ≡ pass_at ok l at → end ≢ 0 → Passed ok l at end
-unfolding pass_at
-passed ok l at end e n =
-    split_b (is_item ok l at)
-    (λ g. record { item = g; next = rw g at e })
-    (λ g. absurd (n (rw g at e)))
+passed : (ok : Test) (l : List ℕ) (at : ℕ) (r : Option ℕ) (end : ℕ) → r ≡ pass_at ok l at → r ≡ Some end → Passed ok l at end
+passed ok l at r end e n = record { item = some_is ok l at end (sym e ∙ n); next = some_end ok l at end (sym e ∙ n) }
 
 module _ (ok : Test) (l : List ℕ) (at end : ℕ) (h : at < length l) (p : Passed ok l at end) where
   passed_low : at < end
@@ -77,16 +62,20 @@ names_none : (l : List ℕ) (at : ℕ) → length l ≡ at → names_from l at �
 unfolding names_from items_from
 names_none l at h = rw (read_end name_test l at (omega arith))
 
--- ---- two answers
+-- ---- tests
 
-pub same_true : (x y : Bool) → x ≡ true → Same x y y
-same_true x y p = record { told = λ e. p ∙ sym e }
+pub same_bools : (x y : Bool) → not (beq x y) ≡ false → x ≡ y
+same_bools true true e = refl
+same_bools true false e = no_way refl e
+same_bools false true e = no_way refl e
+same_bools false false e = refl
 
-pub same_not : (x y : Bool) → Same x y false
-same_not x y = record { told = λ e. no_way e refl }
+module _ (n : ℕ) (r : Bool) (e : r ≡ eqb n 0) where
+  pub empty : r ≡ true → n ≡ 0
+  empty t = eqb-true n 0 (sym e ∙ t)
 
-pub same_false : (x y : Bool) → x ≡ false → y ≡ false → Same x y true
-same_false x y p q = record { told = λ e. p ∙ sym q }
+  pub filled : r ≡ false → 0 < n
+  filled f = split≡ n 0 (λ z. no_way (e ∙ eq-eqb n 0 z) f) (λ z. omega arith)
 
 -- ---- the walk: what is still to come, if it runs on, makes a run of the whole
 
@@ -108,16 +97,16 @@ module _ (l : List ℕ) (start at : ℕ) (first a : Head) (up : Bool) (v : Runni
       let e : length l ≡ at = omega (arith, v.within) in
       record { told = λ t. v.rest (record { walks = walks_none name_test l at e; chain = rw (names_none l at e) chain_one }) }
 
-  module _ (end : ℕ) (e : end ≡ pass_at name_test l at) (n : end ≢ 0) (h : at < length l) where
+  module _ (o : Option ℕ) (end : ℕ) (e : o ≡ pass_at name_test l at) (n : o ≡ Some end) (h : at < length l) where
     pub running_less : at < end
-    running_less = passed_low name_test l at end h (passed name_test l at end e n)
+    running_less = passed_low name_test l at end h (passed name_test l at o end e n)
 
-    pub running_turn : (b : Head) (t s : Bool) → HeadOf l at b → t ≡ first_of l a b → Same t up s → s ≡ true → Running l start end first b up
+    pub running_turn : (b : Head) (t : Bool) → HeadOf l at b → t ≡ first_of l a b → t ≡ up → Running l start end first b up
     unfolding le_at
-    running_turn b t s hb f g k =
-        let p = passed name_test l at end e n in
+    running_turn b t hb f g =
+        let p = passed name_test l at o end e n in
         let q : b.place ≡ at = hb.place in
-        let z : le_name (name_at l a.place) (name_at l at) ≡ up = sym (first_is l a.place at a b v.head hb) ∙ sym f ∙ g.told k in
+        let z : le_name (name_at l a.place) (name_at l at) ≡ up = sym (first_is l a.place at a b v.head hb) ∙ sym f ∙ g in
         record {
           within = passed_within name_test l at end h p;
           small = v.small;
@@ -141,16 +130,16 @@ pub whole_none : (l : List ℕ) (up : Bool) → length l ≤ 16777216 → length
 whole_none l up h e =
     record { told = λ t. record { good = good_whole l h (walks_none name_test l 0 e); chain = rw (names_none l 0 e) chain_nil } }
 
-module _ (l : List ℕ) (end : ℕ) (a : Head) (e : end ≡ pass_at name_test l 0) (n : end ≢ 0) (h : 0 < length l) (s : length l ≤ 16777216) (p : HeadOf l 0 a) where
+module _ (l : List ℕ) (o : Option ℕ) (end : ℕ) (a : Head) (e : o ≡ pass_at name_test l 0) (n : o ≡ Some end) (h : 0 < length l) (s : length l ≤ 16777216) (p : HeadOf l 0 a) where
   pub whole_pre : RunPre l end a
-  whole_pre = record { within = passed_within name_test l 0 end h (passed name_test l 0 end e n); small = s; head = head_self l 0 a p }
+  whole_pre = record { within = passed_within name_test l 0 end h (passed name_test l 0 o end e n); small = s; head = head_self l 0 a p }
 
   pub whole_runs : (up r : Bool) → RunsOn l end a up r → Runs l up r
-  whole_runs up r o = record {
+  whole_runs up r v = record {
     told = λ t.
-        let f = o.told t in
+        let f = v.told t in
         let q : a.place ≡ 0 = p.place in
-        let d = passed name_test l 0 end e n in
+        let d = passed name_test l 0 o end e n in
         record {
           good = good_whole l s (walks_more name_test l 0 end h d f.walks);
           chain = rw (names_more l 0 end h d f.walks) (rw q at f.chain);

@@ -63,7 +63,7 @@ module _ (l : List ℕ) (bytes : (k : ℕ) → get_or l k 0 < 256) where
       split≤ (length l) at
       (λ g. rw (names_end l at w g, drop_end l at g))
       (λ g.
-      let p = name_is l at w g (le32 l at) (le32 l at) refl refl in
+      let p = name_is l at w g (le32 l at) refl in
       let e : at + 6 + le32 l at - (at + 6) ≡ le32 l at = omega arith in
       let q = whole_by k (at + 6 + le32 l at) p.next (omega arith) in
       rw (p.head, e, q) (item_back at p.next.within (kind_is at w g)))

@@ -1,5 +1,5 @@
 -- What the functions inside promise to each other.
-use Rattle.std.specs.Prelude.{◌≡◌, Bool, true, false, List, ◌∷◌, map, ℕ, ◌≤◌, length}
+use Rattle.std.specs.Prelude.{Result, Ok, Err, ◌≡◌, Bool, true, false, List, ◌∷◌, map, ℕ, ◌≤◌, length}
 use Rattle.items.specs.Items.{name_test, name_list, ill_formed, read_items}
 use Rattle.items.specs.Walks.{items_from, names_from, Walks, Good}
 use Rattle.sorting.specs.Names.{le_name}
@@ -8,8 +8,8 @@ use Rattle.sorting.specs.Steps.{name_at, HeadOf, words}
 use Rattle.sorting.specs.declared.Head.{Head}
 use Rattle.order.specs.declared.Way.{Way}
 use Rattle.order.specs.declared.Way.TheVariants.{Up, Down, Mixed}
-use Rattle.order.specs.declared.Read.{Read}
-use Rattle.order.specs.declared.Read.TheVariants.{Names, Ill}
+use Rattle.order.specs.declared.OrderError.{OrderError}
+use Rattle.order.specs.declared.OrderError.TheVariants.{IllFormed, OutShort}
 
 -- a list of n names that was checked, and an output of its length
 pub record Lent (l : List ℕ) (n : ℕ) (w : List ℕ) : Type 0 where
@@ -34,9 +34,6 @@ pub record Fills (l : List ℕ) (n : ℕ) (w : List ℕ) : Type 0 where
 pub record Backed (l w : List ℕ) : Type 0 where
   pub walks : Walks name_test l 0
   pub long : length w ≡ length l
-
-pub record Same (x y r : Bool) : Type 0 where
-  pub told : r ≡ true → x ≡ y
 
 -- a name, and a place behind it
 pub record RunPre (l : List ℕ) (start : ℕ) (a : Head) : Type 0 where
@@ -65,11 +62,12 @@ WayOf l Up = Run l true
 WayOf l Down = Run l false
 WayOf l (Mixed n) = Good name_test l n
 
-unfoldable pub ReadAs : List ℕ → Read → Type 0
-ReadAs l (Names way) = WayOf l way
-ReadAs l (Ill at) = read_items name_test l ≡ ill_formed at
+unfoldable pub ReadAs : List ℕ → Result Way OrderError → Type 0
+ReadAs l (Ok way) = WayOf l way
+ReadAs l (Err (IllFormed at)) = read_items name_test l ≡ ill_formed at
+ReadAs l (Err (OutShort n)) = ⊥
 
-pub record ReadIs (l : List ℕ) (r : Read) : Type 0 where
+pub record ReadIs (l : List ℕ) (r : Result Way OrderError) : Type 0 where
   pub is : ReadAs l r
 
 -- how the names stand, and an output of the list's length

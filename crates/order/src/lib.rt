@@ -2,24 +2,22 @@
 #![tactic(auto)]
 
 ghost use Rattle.std.specs.Prelude.{◌≡◌, ◌<◌, length};
-ghost use Rattle.items.specs.Items.{name_test, name_list};
-ghost use Rattle.items.specs.Walks.{pass_at, names_from};
+ghost use Rattle.items.specs.Items.{name_list};
+ghost use Rattle.items.specs.Walks.{names_from};
 ghost use Rattle.laws.specs.Answers.{Meets};
 ghost use Rattle.sorting.specs.Names.{le_name};
 ghost use Rattle.sorting.specs.Sort.{isort};
 ghost use Rattle.sorting.specs.Chains.{back};
 ghost use Rattle.order.specs.Order.{capture_order, told_ordered};
-ghost use Rattle.order.specs.Steps.{Lent, names_at, Placed, Fills, Backed, Same, RunPre, RunsOn, Runs, ReadIs, WayPre};
+ghost use Rattle.order.specs.Steps.{Lent, names_at, Placed, Fills, Backed, RunPre, RunsOn, Runs, ReadIs, WayPre};
 
-use items::{Checked, Listing, Step, check, item_at, name_at, put_item};
+use items::{Listing, check, name_at, pass, put_item};
 use sorting::{Head, head_of, is_first, name_of, sort};
 use words::{copy_to, get32, put32};
 
-// What ordering answers: the length of the list written; the offset at which the list of names is ill-formed; the length
-// that the output would need.
+// Why a list is not put in order: the offset at which it is ill-formed; the length that the output would need.
 #[derive(Clone, Copy)]
-pub enum Ordered {
-    Wrote(usize),
+pub enum OrderError {
     IllFormed(usize),
     OutShort(usize),
 }
@@ -47,10 +45,8 @@ fn write_names(names: &[u8], out: &mut [u8], n: usize)
     requires { Fills names.now n out.old }
     ensures { out.new ≡ name_list (names_at names.now n out.old) }
 {
-    let mut i = n;
     let mut to = out.len();
-    while 0 < i {
-        i -= 1;
+    for i in (0..n).rev() {
         let place = get32(out, i);
         let name = name_of(names, place);
         to = to - 6 - name.len();
@@ -88,33 +84,6 @@ fn write_back(names: &[u8], out: &mut [u8])
 
 // ---- lists that run one way
 
-// The place after the name at a place, or 0 where no name stands.
-fn next_name(names: &[u8], at: usize) -> usize
-    requires { at < length names.now }
-    ensures { result ≡ pass_at name_test names.now at }
-{
-    match item_at(names, at) {
-        Step::Whole(kind, start, end) => {
-            if kind == 3 {
-                return end;
-            }
-            0
-        }
-        Step::Passes => 0,
-        Step::End => 0,
-    }
-}
-
-// Whether two answers are the same.
-fn is_same(x: bool, y: bool) -> bool
-    ensures { Same x y result }
-{
-    if x {
-        return y;
-    }
-    if y { false } else { true }
-}
-
 // Whether a list is well-formed from a place on, where each name from the given one on comes before the next or equals it
 // (up), or each comes after the next.
 fn runs_on(names: &[u8], start: usize, first: Head, up: bool) -> bool
@@ -124,17 +93,15 @@ fn runs_on(names: &[u8], start: usize, first: Head, up: bool) -> bool
     let mut at = start;
     let mut a = first;
     while at < names.len() {
-        let end = next_name(names, at);
-        if end == 0 {
+        let Some(end) = pass(names, Listing::Names, at) else {
             return false;
-        }
+        };
         let b = head_of(names, at as u32);
-        if is_same(is_first(names, a, b), up) {
-            a = b;
-            at = end;
-        } else {
+        if is_first(names, a, b) != up {
             return false;
         }
+        a = b;
+        at = end;
     }
     true
 }
@@ -146,13 +113,12 @@ fn runs(names: &[u8], up: bool) -> bool
     if 16777216 < names.len() {
         return false;
     }
-    if names.len() == 0 {
+    if names.is_empty() {
         return true;
     }
-    let end = next_name(names, 0);
-    if end == 0 {
+    let Some(end) = pass(names, Listing::Names, 0) else {
         return false;
-    }
+    };
     runs_on(names, end, head_of(names, 0), up)
 }
 
@@ -166,26 +132,19 @@ enum Way {
     Mixed(usize),
 }
 
-// What a list is: names, or ill-formed at an offset.
-#[derive(Clone, Copy)]
-enum Read {
-    Names(Way),
-    Ill(usize),
-}
-
 // Checks a list. Most are in order, and are read but once for both.
-fn read_names(names: &[u8]) -> Read
+fn read_names(names: &[u8]) -> Result<Way, OrderError>
     ensures { ReadIs names.now result }
 {
     if runs(names, true) {
-        return Read::Names(Way::Up);
+        return Ok(Way::Up);
     }
     if runs(names, false) {
-        return Read::Names(Way::Down);
+        return Ok(Way::Down);
     }
     match check(names, Listing::Names) {
-        Checked::Ill(at) => Read::Ill(at),
-        Checked::Well(n) => Read::Names(Way::Mixed(n)),
+        Ok(n) => Ok(Way::Mixed(n)),
+        Err(at) => Err(OrderError::IllFormed(at)),
     }
 }
 
@@ -207,19 +166,15 @@ fn write_in_order(names: &[u8], out: &mut [u8], way: Way)
     }
 }
 
-// Writes a list of names in the order in which their frames crossed the link.
-pub fn capture_order(names: &[u8], out: &mut [u8]) -> Ordered
+// Writes a list of names in the order in which their frames crossed the link, and returns its length.
+pub fn capture_order(names: &[u8], out: &mut [u8]) -> Result<usize, OrderError>
     ensures { Meets (capture_order names.now) out.old (told_ordered result) out.new }
 {
-    match read_names(names) {
-        Read::Ill(at) => Ordered::IllFormed(at),
-        Read::Names(way) => {
-            let need = names.len();
-            if out.len() < need {
-                return Ordered::OutShort(need);
-            }
-            write_in_order(names, &mut out[..need], way);
-            Ordered::Wrote(need)
-        }
+    let way = read_names(names)?;
+    let need = names.len();
+    if out.len() < need {
+        return Err(OrderError::OutShort(need));
     }
+    write_in_order(names, &mut out[..need], way);
+    Ok(need)
 }

@@ -1,9 +1,11 @@
 -- The table of packets, one packet more, and the loop over the records.
+use Rattle.std.specs.Prelude.{Option, Some, None}
+use Rattle.std.specs.Int.{from_bool}
 use Prim.Native.Nat.{ℕ, suc, ◌+◌, ◌-◌, ◌*◌, ◌<◌, ◌≤◌}
 use mathlib.Core.Path.{◌≡◌, refl, sym, ◌∙◌}
-use mathlib.Core.Bool.{Bool, true, false}
+use mathlib.Core.Bool.{Bool, true, false, cond}
 use mathlib.Core.List.{List, [], ◌++◌, append_assoc, append-nil}
-use mathlib.Core.Option.{Option, none, some}
+use mathlib.Core.Option.{Option as Maybe, none, some}
 use native.Mathlib.Omega.{arith}
 use native.Mathlib.Numerals.{add-one}
 use lib.ListN.{length, get_or, take, drop, length-drop}
@@ -20,8 +22,6 @@ use Rattle.container.specs.Container.{is_whole}
 use Rattle.container.specs.Packets.{Packet, or_none, packets}
 use Rattle.acl.specs.Reading.{between, packet_from, shown}
 use Rattle.acl.specs.declared.Fragment.{Fragment}
-use Rattle.acl.specs.declared.Acl.{Acl}
-use Rattle.acl.specs.declared.Acl.TheVariants.{Packet as Known, Skipped}
 use Rattle.btsnoop.specs.Reading as btsnoop_reading
 use Rattle.btsnoop.specs.Packets as btsnoop_packets
 use Rattle.pcap.specs.Reading as pcap_reading
@@ -31,12 +31,12 @@ use Rattle.trace.specs.Formats.{file_head, record_head, size_by, time_by, packet
 use Rattle.trace.proofs.Formats.{head_least, head_most, file_head_least, size_least, packet_room, packet_none, time_part}
 use Rattle.trace.specs.Walk.{RecordAt, RecordPre, is_empty}
 use Rattle.trace.proofs.Walk.{flat_step}
-use Rattle.trace.specs.Reader.{step_of, is_record}
-use Rattle.trace.proofs.ReaderLaws.{record_told, none_told, empty_told}
+use Rattle.trace.specs.Reader.{step_of}
+use Rattle.trace.proofs.ReaderLaws.{record_told, all_met, empty_told}
 use Rattle.trace.specs.declared.Format.{Format}
 use Rattle.trace.specs.declared.Format.TheVariants.{Btsnoop as ByDatalink, Pcap as ByEncoding}
 use Rattle.trace.specs.declared.Step.{Step}
-use Rattle.trace.specs.declared.Step.TheVariants.{Record, Cut, End}
+use Rattle.trace.specs.declared.Step.TheVariants.{Record}
 use Rattle.packets.specs.PacketTable.{packet_at, packets_from, data_of}
 use Rattle.packets.proofs.PacketFrames.{packets_front, packets_snoc, data_front}
 use Rattle.packets.specs.Adding.{RecordIs, AddPre, Added, Passed, ReadPre, ReadTo, Walking, put_packet, row_of}
@@ -49,7 +49,7 @@ module _ (g : Format) (f : List ℕ) (at end : ℕ) where
     unfolding record_head
     btsnoop_pre p = let h : at + 24 ≤ end = rw q at p.least in record { least = h; most = p.most; small = p.small }
 
-    pub btsnoop_packet : (r : Acl) → btsnoop_reading.RecordIs f at end d r → RecordIs g f at end r
+    pub btsnoop_packet : (r : Option Fragment) → btsnoop_reading.RecordIs f at end d r → RecordIs g f at end r
     unfolding packet_by time_by
     btsnoop_packet r m = record { shows = rw q m.shows; held = m.held }
 
@@ -66,7 +66,7 @@ module _ (g : Format) (f : List ℕ) (at end : ℕ) where
     unfolding record_head
     pcap_pre p = let h : at + 16 ≤ end = rw q at p.least in record { least = h; most = p.most; small = p.small }
 
-    pub pcap_packet : (r : Acl) → pcap_reading.RecordIs f at end r → RecordIs g f at end r
+    pub pcap_packet : (r : Option Fragment) → pcap_reading.RecordIs f at end r → RecordIs g f at end r
     unfolding packet_by time_by pcap_packets.packet_of
     pcap_packet r m = record { shows = rw q (m.shows (pcap_packets.milliseconds x.big x.nano (between f at end))); held = m.held }
 
@@ -80,7 +80,15 @@ module _ (g : Format) (f : List ℕ) (at end : ℕ) where
 
 -- ---- a row
 
-put_is : (w : List ℕ) (at : ℕ) (x : Fragment) (t : ℕ) → put_long (put_word (put_word (put_word (put_word w at x.key) (at + 1) x.start) (at + 2) x.place) (at + 3) x.len) (at + 4) t ≡ put_words w at (row_of x t)
+bool_word : (b : Bool) → from_bool b ≡ cond b 1 0
+bool_word true = refl
+bool_word false = refl
+
+start_back : (b : Bool) → eqb (cond b 1 0) 1 ≡ b
+start_back true = refl
+start_back false = refl
+
+put_is : (w : List ℕ) (at : ℕ) (x : Fragment) (t : ℕ) → put_long (put_word (put_word (put_word (put_word w at x.key) (at + 1) (cond x.start 1 0)) (at + 2) x.place) (at + 3) x.len) (at + 4) t ≡ put_words w at (row_of x t)
 unfolding put_words row_of put_long
 put_is w at x t =
     let a : at + 1 ≡ suc at = omega arith in
@@ -90,14 +98,14 @@ put_is w at x t =
     let e : at + 4 + 1 ≡ suc (suc (suc (suc (suc at)))) = omega arith in
     rw (e, a, b, c, d)
 
-pub put_all : (w : List ℕ) (i : ℕ) (x : Fragment) (t : ℕ) (a b c d u : List ℕ) → a ≡ put_word w (6 * i) x.key → b ≡ put_word a (6 * i + 1) x.start → c ≡ put_word b (6 * i + 2) x.place → d ≡ put_word c (6 * i + 3) x.len → u ≡ put_long d (6 * i + 4) t → u ≡ put_packet w i x t
+pub put_all : (w : List ℕ) (i : ℕ) (x : Fragment) (t : ℕ) (a b c d u : List ℕ) (s : ℕ) → a ≡ put_word w (6 * i) x.key → s ≡ from_bool x.start → b ≡ put_word a (6 * i + 1) s → c ≡ put_word b (6 * i + 2) x.place → d ≡ put_word c (6 * i + 3) x.len → u ≡ put_long d (6 * i + 4) t → u ≡ put_packet w i x t
 unfolding put_packet
-put_all w i x t a b c d u p q r s e = e ∙ rw (s, r, q, p) (put_is w (6 * i) x t)
+put_all w i x t a b c d u y p o q r s e = e ∙ rw (s, r, q, p, o, bool_word x.start) (put_is w (6 * i) x t)
 
 -- ---- one packet more
 
-module _ (g : Format) (f w : List ℕ) (at end count : ℕ) (pre : AddPre g f w at end count) (x : Acl) (is : RecordIs g f at end x) where
-  pub add_none : x ≡ Skipped → Added g f w at end count w count
+module _ (g : Format) (f w : List ℕ) (at end count : ℕ) (pre : AddPre g f w at end count) (x : Option Fragment) (is : RecordIs g f at end x) where
+  pub add_none : x ≡ None → Added g f w at end count w count
   unfolding shown
   add_none e =
       let q : packet_by g (between f at end) ≡ none = is.shows ∙ rw e in
@@ -112,7 +120,7 @@ module _ (g : Format) (f w : List ℕ) (at end count : ℕ) (pre : AddPre g f w 
   pub add_time : at + record_head g ≤ length f
   add_time = omega (arith, pre.here.least, pre.here.most)
 
-  module _ (y : Fragment) (e : x ≡ Known y) (ms : ℕ) (em : ms ≡ time_by g (drop at f)) (u : List ℕ) (eu : u ≡ put_packet w count y ms) where
+  module _ (y : Fragment) (e : x ≡ Some y) (ms : ℕ) (em : ms ≡ time_by g (drop at f)) (u : List ℕ) (eu : u ≡ put_packet w count y ms) where
     held : y.place + y.len ≤ end
     held = rw e at is.held
 
@@ -129,7 +137,7 @@ module _ (g : Format) (f w : List ℕ) (at end count : ℕ) (pre : AddPre g f w 
     packet_is =
         let a : word u (6 * count) ≡ y.key = (let z : 6 * count + 0 ≡ 6 * count = omega arith in rw z at (row 0 (omega arith))) in
         let t : long u (6 * count + 4) ≡ ms = rw eu (long_puts (row_of y ms) w (6 * count) 4 ms (omega (arith, pre.room)) (omega arith) refl refl) in
-        rw (a, row 1 (omega arith), row 2 (omega arith), row 3 (omega arith), t)
+        rw (a, row 1 (omega arith), row 2 (omega arith), row 3 (omega arith), t, start_back y.start)
 
     shows_it : packet_by g (between f at end) ≡ some (packet_from f ms y)
     unfolding shown
@@ -165,7 +173,7 @@ pub walk_start : (g : Format) (f w : List ℕ) → ReadPre g f w → (at : ℕ) 
 unfolding packets_from data_of
 walk_start g f w p at e = record { least = omega (arith, file_head_least g); within = rw e p.some; size = refl; fits = record { fits = λ i h. absurd (omega arith) }; total = omega (arith, file_head_least g); same = rw e; tail = rw e }
 
-or_none_append : (o : Option Packet) (xs : List Packet) → or_none o [] ++ xs ≡ or_none o xs
+or_none_append : (o : Maybe Packet) (xs : List Packet) → or_none o [] ++ xs ≡ or_none o xs
 or_none_append none xs = refl
 or_none_append (some p) xs = refl
 
@@ -276,10 +284,10 @@ module _ (g : Format) (f w₀ : List ℕ) (p : ReadPre g f w₀) (w : List ℕ) 
             tail = sym y.tail ∙ v.tail;
           }
 
-  ended : is_record x ≡ false → ReadTo g f w (record { count = count; tail = at })
+  pub ended : ((e : ℕ) → x ≡ Record e → ⊥) → ReadTo g f w (record { count = count; tail = at })
   unfolding packets
   ended m =
-      let s : records_from g f at ≡ [] = none_told g f at (rw n at m) in
+      let s : records_from g f at ≡ [] = all_met g f at x n m in
       record {
         read = record {
           tabled = record { fits = v.fits; total = omega (arith, v.total, v.within); small = p.small; room = rw v.size p.room };
@@ -287,9 +295,3 @@ module _ (g : Format) (f w₀ : List ℕ) (p : ReadPre g f w₀) (w : List ℕ) 
         };
         tail = (let z : at + 0 ≡ at = omega arith in sym z) ∙ (rw s at v.tail);
       }
-
-  pub walk_cut : (c : ℕ) → x ≡ Cut c → ReadTo g f w (record { count = count; tail = at })
-  walk_cut c q = ended (rw q)
-
-  pub walk_end : x ≡ End → ReadTo g f w (record { count = count; tail = at })
-  walk_end q = ended (rw q)

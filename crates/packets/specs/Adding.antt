@@ -1,11 +1,10 @@
 -- The table of packets, one packet more, and the loop over the records.
-use Rattle.std.specs.Prelude.{ℕ, ◌+◌, ◌-◌, ◌*◌, ◌/◌, ◌%◌, ◌≤◌, ◌≡◌, List, [], ◌∷◌, ◌++◌, length}
+use Rattle.std.specs.Prelude.{ℕ, Option, cond, ◌+◌, ◌-◌, ◌*◌, ◌/◌, ◌%◌, ◌≤◌, ◌≡◌, List, [], ◌∷◌, ◌++◌, length}
 use Rattle.laws.specs.Lists.{flat}
 use Rattle.words.specs.Rows.{put_words}
 use Rattle.container.specs.Packets.{or_none, packets}
 use Rattle.acl.specs.Reading.{between, shown, Held}
 use Rattle.acl.specs.declared.Fragment.{Fragment}
-use Rattle.acl.specs.declared.Acl.{Acl}
 use Rattle.trace.specs.Formats.{file_head, time_by, packet_by, records_from, packets_by, tail_by}
 use Rattle.trace.specs.Walk.{RecordPre}
 use Rattle.trace.specs.declared.Format.{Format}
@@ -14,14 +13,14 @@ use Rattle.packets.specs.declared.Packets.{Packets}
 
 -- ---- the packet of a record
 
-pub record RecordIs (g : Format) (f : List ℕ) (at end : ℕ) (r : Acl) : Type 0 where
+pub record RecordIs (g : Format) (f : List ℕ) (at end : ℕ) (r : Option Fragment) : Type 0 where
   pub shows : packet_by g (between f at end) ≡ shown f (time_by g (between f at end)) r
   pub held : Held end r
 
 -- ---- a packet as a row of words
 
 unfoldable pub row_of : Fragment → ℕ → List ℕ
-row_of x t = x.key ∷ x.start ∷ x.place ∷ x.len ∷ t % 4294967296 ∷ t / 4294967296 ∷ []
+row_of x t = x.key ∷ cond x.start 1 0 ∷ x.place ∷ x.len ∷ t % 4294967296 ∷ t / 4294967296 ∷ []
 
 unfoldable pub put_packet : List ℕ → ℕ → Fragment → ℕ → List ℕ
 put_packet w i x t = put_words w (6 * i) (row_of x t)

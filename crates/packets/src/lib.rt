@@ -6,12 +6,12 @@ ghost use Rattle.trace.specs.Formats.{record_head, time_by};
 ghost use Rattle.trace.specs.Walk.{RecordPre, is_empty};
 ghost use Rattle.packets.specs.Adding.{RecordIs, put_packet, AddPre, Added, Passed, ReadPre, ReadTo};
 
-use acl::{Acl, Fragment};
+use acl::Fragment;
 use trace::{Format, Step, file_head, read_at, record_head, size_at};
 use words::{put32, put64};
 
 // The packet of the record from one place up to another.
-fn read_packet(file: &[u8], at: usize, end: usize, format: Format) -> Acl
+fn read_packet(file: &[u8], at: usize, end: usize, format: Format) -> Option<Fragment>
     requires { RecordPre format file.now at end }
     ensures { RecordIs format file.now at end result }
 {
@@ -39,7 +39,7 @@ fn put_packet(w: &mut [u8], i: usize, g: Fragment, ms: u64)
 {
     let at = 6 * i;
     put32(w, at, g.key);
-    put32(w, at + 1, g.start);
+    put32(w, at + 1, u32::from(g.start));
     put32(w, at + 2, g.place);
     put32(w, at + 3, g.len);
     put64(w, at + 4, ms);
@@ -57,8 +57,7 @@ fn add_packet(
     requires { AddPre format file.now w.old at end count }
     ensures { Added format file.now w.old at end count w.new result }
 {
-    let x = read_packet(file, at, end, format);
-    let Acl::Packet(g) = x else {
+    let Some(g) = read_packet(file, at, end, format) else {
         return count;
     };
     let ms = time_at(file, at, format);
@@ -67,6 +66,7 @@ fn add_packet(
 }
 
 // What reading a file finds: how many packets, and where the first record starts that passes the end.
+// Stays: beside trace::Walked, whose count is of records; under one name a caller would not see which is counted.
 #[derive(Clone, Copy)]
 pub struct Packets {
     pub count: usize,
@@ -107,23 +107,13 @@ pub fn read_packets(file: &[u8], w: &mut [u8], format: Format) -> Packets
     let head = record_head(format);
     let mut at = file_head(format);
     let mut count = 0;
-    loop {
-        let x = read_at(file, at, format);
-        match x {
-            Step::Record(end) => {
-                if end == at + head {
-                    at = pass_empty(file, end, format);
-                } else {
-                    count = add_packet(file, w, at, end, format, count);
-                    at = end;
-                }
-            }
-            Step::Cut(_) => {
-                return Packets { count, tail: at };
-            }
-            Step::End => {
-                return Packets { count, tail: at };
-            }
+    while let Step::Record(end) = read_at(file, at, format) {
+        if end == at + head {
+            at = pass_empty(file, end, format);
+        } else {
+            count = add_packet(file, w, at, end, format, count);
+            at = end;
         }
     }
+    Packets { count, tail: at }
 }

@@ -1,5 +1,5 @@
 -- Storing escaped bytes, and a frame's parts one after another.
-use Rattle.std.proofs.Common.{◌≡◌, ℕ, ◌+◌, ◌-◌, ◌%◌, ◌<◌, ◌≤◌, Bool, true, false, cond, eqb, List, [], ◌∷◌, ◌++◌, length, get_or, take, drop, set, sym, refl, ap, ◌∙◌, append_assoc, add-one, arith, length-append, length-drop, take-append-drop, length-take-le, take_all, drop-drop, take-add, eqb-true, le-leb}
+use Rattle.std.proofs.Common.{◌≡◌, ℕ, ◌+◌, ◌-◌, ◌*◌, ◌/◌, ◌%◌, ◌<◌, ◌≤◌, Bool, true, false, cond, eqb, List, [], ◌∷◌, ◌++◌, length, get_or, take, drop, set, sym, refl, ap, ◌∙◌, append_assoc, add-one, arith, length-append, length-drop, take-append-drop, length-take-le, take_all, drop-drop, take-add, eqb-true, le-leb}
 use borrow.Author.Tests.{lt-leb}
 use Rattle.laws.proofs.Choice.{split_b}
 use Rattle.laws.proofs.Lists.{drop_step, drop_end}
@@ -13,11 +13,12 @@ use Rattle.mdr.specs.Escaping.{count_in, specials}
 use Rattle.mdr.proofs.Escaping.{within_range, count_append, escape_append, escape_length}
 use Rattle.mdr.specs.Frame.{head_of, summed_of, body_of, packed, pack_of}
 use Rattle.mdr.proofs.Wire.{packed_length}
-use Rattle.blocks.specs.Blocks.{OneIf, Tallied, Bare, Full}
+use Rattle.std.specs.Int.{from_bool, to_be_bytes, w64}
+use Rattle.blocks.specs.Blocks.{Tallied, Bare, Full}
 use Rattle.packing.specs.Escapes.{RanIs, MixedIs, framed}
 use Rattle.blocks.specs.declared.Totals.{Totals}
 use Rattle.packing.specs.declared.Ran.{Ran}
-use Rattle.blocks.proofs.Counting.{total_append, drop_part}
+use Rattle.blocks.proofs.Counting.{bit, total_append, drop_part}
 
 -- ---- one byte
 
@@ -147,8 +148,16 @@ module _ (part out₀ : List ℕ) (at₀ : ℕ) (out : List ℕ) (at i : ℕ) (s
     done = rw (escape_cut part i k) (writes_then out₀ at₀ (escape (take i part)) at out (escape (take (i + k - i) (drop i part))) r out' s.done w);
   }
 
+  pub run_blocks : (k : ℕ) → i ≡ 16 * k → k < length part / 16 → (r : ℕ) (out' : List ℕ) → Writes out at (escape (take (i + 16 - i) (drop i part))) r out' → Running part out₀ at₀ out' r (16 * (k + 1))
+  run_blocks k e h r out' w =
+      let q : i + 16 ≡ 16 * (k + 1) = omega arith in
+      rw q at (run_turn 16 (omega arith) r out' w)
+
   pub run_end : (r : Ran) → r.used ≡ i → r.at ≡ at → RanIs part out₀ at₀ r out
   run_end r p q = record { few = omega (arith, s.few); writes = rw (p, q) s.done }
+
+pub run_all : (part out₀ : List ℕ) (at₀ : ℕ) (out : List ℕ) (at k : ℕ) → Running part out₀ at₀ out at (16 * k) → k ≡ length part / 16 → (r : Ran) → r.used ≡ 16 * (length part / 16) → r.at ≡ at → RanIs part out₀ at₀ r out
+run_all part out₀ at₀ out at k s e r p q = run_end part out₀ at₀ out at (16 * k) s r (p ∙ rw e) q
 
 -- the first block, and what goes on
 module _ (part : List ℕ) (i : ℕ) (d : List ℕ) (at : ℕ) (n : i + 16 ≤ length part) where
@@ -184,6 +193,13 @@ pub full_is : (l : List ℕ) (t : Bool) → Full 0x3C 0x3E l t → t ≡ true �
 full_is l t v z = v.all z
 
 -- ---- a frame's parts
+
+pub head_bytes : (k q n : ℕ) (l : List ℕ) → l ≡ to_be_bytes w64 n → k ∷ q ∷ get_or l 4 0 ∷ get_or l 5 0 ∷ get_or l 6 0 ∷ get_or l 7 0 ∷ [] ≡ head_of k q n
+unfolding head_of
+head_bytes k q n l e =
+    let a : n / 256 / 256 / 256 % 256 ≡ n / 16777216 % 256 = omega arith in
+    let b : n / 256 / 256 % 256 ≡ n / 65536 % 256 = omega arith in
+    rw (a, b, e) refl
 
 framed_length : (head p : List ℕ) (sum : ℕ) → length (framed head p sum) ≡ 1 + length (escape head) + length (escape p) + length (escape_byte sum ++ (0x3C ∷ []))
 unfolding framed
@@ -234,7 +250,7 @@ pub bare_if : (l : List ℕ) (lo hi : ℕ) (t : Totals) → Tallied l lo hi t �
 bare_if l lo hi t v = record { none = λ e. sym v.hits ∙ eqb-true t.hits 0 e }
 
 -- header and payload counted, the sum known
-module _ (k q : ℕ) (p head : List ℕ) (h t : Totals) (sum m : ℕ) (e : head ≡ head_of k q (length p)) (v : Tallied head 0x3C 0x3E h) (w : Tallied p 0x3C 0x3E t) (s : sum ≡ (h.sum + t.sum) % 256) (o : OneIf (special sum) m) where
+module _ (k q : ℕ) (p head : List ℕ) (h t : Totals) (sum m : ℕ) (e : head ≡ head_of k q (length p)) (v : Tallied head 0x3C 0x3E h) (w : Tallied p 0x3C 0x3E t) (s : sum ≡ (h.sum + t.sum) % 256) (b : Bool) (y : b ≡ special sum) (o : m ≡ from_bool b) where
   sum_is : sum ≡ checksum_of (summed_of k q p)
   unfolding checksum_of summed_of
   sum_is = rw (← e) (omega (arith, v.sum, w.sum, total_append head p))
@@ -242,13 +258,16 @@ module _ (k q : ℕ) (p head : List ℕ) (h t : Totals) (sum m : ℕ) (e : head 
   framed_is : packed k q p ≡ framed head p sum
   framed_is = packed_framed_as k q p ∙ rw (sym sum_is, sym e)
 
+  one_is : m ≡ cond (special sum) 1 0
+  one_is = o ∙ (bit b).0 ∙ ap (λ (t : Bool). cond t 1 0) y
+
   needed_is : 9 + length p + h.hits + t.hits + m ≡ length (packed k q p)
   unfolding body_of summed_of
   needed_is =
       let c : specials (body_of k q p) ≡ specials (head_of k q (length p)) + specials p + (cond (special sum) 1 0 + 0)
       = rw (sym sum_is) (simp (count_append 0x3C 0x3E)) in
       let x : specials (head_of k q (length p)) ≡ h.hits = rw (← e) (sym v.hits) in
-      omega (arith, packed_length k q p, w.hits, o.is)
+      omega (arith, packed_length k q p, w.hits, one_is)
 
   pub frame_room : (d : List ℕ) → 9 + length p + h.hits + t.hits + m ≤ length d → length (framed head p sum) ≤ length d
   frame_room d l = rw (← framed_is) (omega (arith, needed_is))

@@ -1,6 +1,7 @@
 -- Bytes that all are escaped: each escaped form as one number, sixteen at once.
 use Rattle.std.proofs.Common.{◌≡◌, ℕ, zero, suc, ◌+◌, ◌-◌, ◌*◌, ◌/◌, ◌%◌, ◌<◌, ◌≤◌, true, List, [], ◌∷◌, length, get_or, drop, set, refl, ap, ◌∙◌, append-nil, add-one, arith, length-set}
 use lib.Seq.{sets-eq}
+use Rattle.std.specs.Int.{to_le_bytes, w16}
 use Rattle.laws.proofs.Choice.{split_b}
 use Rattle.laws.proofs.Lists.{drop_step, drop_end}
 use Rattle.laws.specs.Stores.{Writes, Emitting}
@@ -8,7 +9,6 @@ use Rattle.laws.proofs.Stores.{writes_long, emit_start, emit_turn, emit_end}
 use Rattle.mdr.specs.Escape.{special, escape}
 use Rattle.mdr.specs.Escaping.{count_in}
 use Rattle.mdr.proofs.Escaping.{within_range, count_most, escape_length}
-use Rattle.blocks.specs.Blocks.{Joined}
 use Rattle.packing.specs.Escapes.{twins, parted}
 
 -- a count of all bytes is one of each
@@ -49,12 +49,12 @@ pub twin_start : (part pairs : List ℕ) → Twinning part pairs pairs 0
 twin_start part pairs = record { few = omega arith; emits = emit_start pairs 0 (twins part) }
 
 module _ (part pairs₀ pairs : List ℕ) (i : ℕ) (s : Twinning part pairs₀ pairs i) (m : length part ≡ 16) where
-  pub twin_turn : i < 16 → (w : ℕ) → Joined 0x3D (get_or part i 0 - 0x10) w → Twinning part pairs₀ (set pairs i w) (i + 1)
+  pub twin_turn : i < 16 → (w : ℕ) → w ≡ 0x3D + 256 * (get_or part i 0 - 0x10) → Twinning part pairs₀ (set pairs i w) (i + 1)
   unfolding twins
   twin_turn h w j =
       let v : Writes pairs i (w ∷ []) (i + 1) (set pairs i w) = record { next = refl; writes = refl } in record {
         few = omega arith;
-        emits = emit_turn pairs₀ 0 (twins part) pairs i (twins (drop i part)) s.emits (w ∷ []) (twins (drop (i + 1) part)) (i + 1) (set pairs i w) (ap twins (drop_step part i (omega arith)) ∙ rw j.is) v;
+        emits = emit_turn pairs₀ 0 (twins part) pairs i (twins (drop i part)) s.emits (w ∷ []) (twins (drop (i + 1) part)) (i + 1) (set pairs i w) (ap twins (drop_step part i (omega arith)) ∙ rw j) v;
       }
 
   pub twin_end : 16 ≤ i → length pairs₀ ≡ 16 → pairs ≡ twins part
@@ -90,6 +90,10 @@ module _ (pairs out₀ : List ℕ) (from : ℕ) (out : List ℕ) (at i : ℕ) (s
   pub part_end : length pairs ≤ i → Writes out₀ «from» (parted pairs) at out
   unfolding parted
   part_end h = emit_end out₀ «from» (parted pairs) out at (parted (drop i pairs)) s.emits (rw (drop_end pairs i h))
+
+-- the bytes of a number, the lowest first
+pub low_high : (w : ℕ) (l : List ℕ) → l ≡ to_le_bytes w16 w → w < 65536 → (get_or l 0 0 ≡ w % 256) × (get_or l 1 0 ≡ w / 256)
+low_high w l e h = (rw e refl, rw e (omega arith))
 
 -- ---- a block of them
 

@@ -11,10 +11,8 @@ ghost use Rattle.mdr.specs.Told.{told_packed};
 ghost use Rattle.blocks.specs.Blocks.{Bare};
 ghost use Rattle.packing.specs.Escapes.{twins, parted, RanIs, MixedIs, framed};
 
-use blocks::{
-    copy, copy_block, is_bare, is_full, is_within, join_two, one_within, tally, tally_few,
-};
-use mdr::Packed;
+use blocks::{copy, copy_block, is_bare, is_full, is_within, tally, tally_few};
+use mdr::PackError;
 
 // ---- escaping
 
@@ -36,11 +34,9 @@ fn escape_few(part: &[u8], out: &mut [u8], from: usize) -> usize
     requires { from + length (escape part.now) ≤ length out.old }
     ensures { Writes out.old from (escape part.now) result out.new }
 {
-    let mut at: usize = from;
-    let mut i: usize = 0;
-    while i < part.len() {
-        at = put(out, at, part[i]);
-        i += 1;
+    let mut at = from;
+    for &b in part {
+        at = put(out, at, b);
     }
     at
 }
@@ -52,38 +48,22 @@ fn pairs_of(part: &[u8]) -> [u16; 16]
     ensures { result ≡ twins part.now }
 {
     let mut pairs = [0u16; 16];
-    let mut i: usize = 0;
-    while i < 16 {
-        pairs[i] = join_two(0x3D, part[i] - 16);
-        i += 1;
+    for i in 0..16 {
+        pairs[i] = u16::from_le_bytes([0x3D, part[i] - 16]);
     }
     pairs
-}
-
-fn low_of(w: u16) -> u8
-    ensures { result ≡ w % 256 }
-{
-    (w % 256) as u8
-}
-
-fn high_of(w: u16) -> u8
-    ensures { result ≡ w / 256 }
-{
-    (w / 256) as u8
 }
 
 fn put_pairs(pairs: &[u16], out: &mut [u8], from: usize) -> usize
     requires { from + 2 * length pairs.now ≤ length out.old }
     ensures { Writes out.old from (parted pairs.now) result out.new }
 {
-    let mut at: usize = from;
-    let mut i: usize = 0;
-    while i < pairs.len() {
-        let w = pairs[i];
-        out[at] = low_of(w);
-        out[at + 1] = high_of(w);
+    let mut at = from;
+    for &w in pairs {
+        let [low, high] = w.to_le_bytes();
+        out[at] = low;
+        out[at + 1] = high;
         at += 2;
-        i += 1;
     }
     at
 }
@@ -111,19 +91,20 @@ fn escape_run(src: &[u8], out: &mut [u8], from: usize) -> Ran
     requires { from + length (escape src.now) ≤ length out.old }
     ensures { RanIs src.now out.old from result out.new }
 {
-    let n = src.len();
-    let mut i: usize = 0;
-    let mut at: usize = from;
-    while 16 <= n - i {
-        let j = i + 16;
-        if is_full(&src[i..j], 0x3C, 0x3E) {
-            at = pair_block(&src[i..j], out, at);
-            i = j;
-        } else {
+    let blocks = src.len() / 16;
+    let mut at = from;
+    for k in 0..blocks {
+        let i = 16 * k;
+        let part = &src[i..i + 16];
+        if !is_full(part, 0x3C, 0x3E) {
             return Ran { used: i, at };
         }
+        at = pair_block(part, out, at);
     }
-    Ran { used: i, at }
+    Ran {
+        used: 16 * blocks,
+        at,
+    }
 }
 
 // The next sixteen bytes from a place on, and, if every one of them was escaped, a run after them.
@@ -183,14 +164,8 @@ fn write_escaped(src: &[u8], bare: bool, out: &mut [u8], at: usize) -> usize
 fn head_of(kind: u8, seq: u8, n: usize) -> [u8; 6]
     ensures { result ≡ head_of kind seq n }
 {
-    [
-        kind,
-        seq,
-        (n / 256 / 256 / 256 % 256) as u8,
-        (n / 256 / 256 % 256) as u8,
-        (n / 256 % 256) as u8,
-        (n % 256) as u8,
-    ]
+    let [_, _, _, _, a, b, c, d] = n.to_be_bytes();
+    [kind, seq, a, b, c, d]
 }
 
 fn put_byte(out: &mut [u8], at: usize, b: u8) -> usize
@@ -228,22 +203,22 @@ fn write_frame(head: &[u8; 6], payload: &[u8], bare: bool, sum: u8, out: &mut [u
 }
 
 // Writes a frame to the front of out.
-pub fn pack(kind: u8, seq: u8, payload: &[u8], out: &mut [u8]) -> Packed
+pub fn pack(kind: u8, seq: u8, payload: &[u8], out: &mut [u8]) -> Result<usize, PackError>
     ensures { Meets (pack_of kind seq payload.now) out.old (told_packed result) out.new }
 {
     let n = payload.len();
     if 32760 < n {
-        return Packed::TooLong;
+        return Err(PackError::TooLong);
     }
     let head = head_of(kind, seq, n);
     let h = tally_few(&head, 0x3C, 0x3E);
     let t = tally(payload, 0x3C, 0x3E);
-    let sum = std::num::wrapping_add_u8(h.sum, t.sum);
-    let more = one_within(sum, 0x3C, 0x3E) as usize;
+    let sum = h.sum.wrapping_add(t.sum);
+    let more = usize::from(is_within(sum, 0x3C, 0x3E));
     let needed = 9 + n + h.hits + t.hits + more;
     if out.len() < needed {
-        return Packed::OutShort(needed);
+        return Err(PackError::OutShort(needed));
     }
     write_frame(&head, payload, t.hits == 0, sum, out);
-    Packed::Wrote(needed)
+    Ok(needed)
 }

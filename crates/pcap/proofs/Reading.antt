@@ -1,4 +1,5 @@
 -- The size, the time and the packet of a record that stands at a place of a file.
+use Rattle.std.specs.Prelude.{Option, None}
 use Prim.Native.Nat.{ℕ, ◌+◌, ◌-◌, ◌*◌, ◌/◌, ◌<◌, ◌≤◌}
 use mathlib.Core.Path.{◌≡◌, sym, ◌∙◌}
 use mathlib.Core.Bool.{Bool, true, false, cond}
@@ -11,8 +12,7 @@ use Rattle.laws.proofs.Choice.{split≤}
 use Rattle.laws.specs.Numbers.{be32}
 use Rattle.acl.proofs.Parts.{be32_part, be32_drop, le32_drop, drop_part}
 use Rattle.acl.specs.Reading.{AclPre, H4Is, between, shown}
-use Rattle.acl.specs.declared.Acl.{Acl}
-use Rattle.acl.specs.declared.Acl.TheVariants.{Skipped}
+use Rattle.acl.specs.declared.Fragment.{Fragment}
 use Rattle.pcap.specs.Header.{number}
 use Rattle.pcap.specs.Records.{record_size}
 use Rattle.pcap.specs.Packets.{milliseconds, directed_packet}
@@ -57,7 +57,7 @@ module _ (f : List ℕ) (at end : ℕ) (pre : RecordPre f at end) where
   part_length : length (between f (at + 16) end) ≡ end - (at + 16)
   part_length = length-take-le (end - (at + 16)) (drop (at + 16) f) (simp length-drop (omega (arith, pre.most)))
 
-  pub packet_short : end - at < 20 → RecordIs f at end Skipped
+  pub packet_short : end - at < 20 → RecordIs f at end None
   unfolding shown
   packet_short h = record { shows = λ time. rw part (too_short time (between f (at + 16) end) (omega (arith, part_length))); held = tt }
 
@@ -74,11 +74,11 @@ module _ (f : List ℕ) (at end : ℕ) (pre : RecordPre f at end) where
         let y : at + 16 + 4 ≡ at + 20 = omega arith in
         drop_part f (at + 16) (end - (at + 16)) 4 (omega arith) ∙ rw (z, y)
 
-    pub packet_other : 2 ≤ way → RecordIs f at end Skipped
+    pub packet_other : 2 ≤ way → RecordIs f at end None
     unfolding shown directed_packet
     packet_other g = record { shows = λ time. rw (part, way_is, ne_eqb way 0 (λ z. absurd (omega arith)), ne_eqb way 1 (λ z. absurd (omega arith))); held = tt }
 
-    pub packet_directed : way < 2 → (r : Acl) → H4Is f (at + 20) end way r → RecordIs f at end r
+    pub packet_directed : way < 2 → (r : Option Fragment) → H4Is f (at + 20) end way r → RecordIs f at end r
     unfolding directed_packet
     packet_directed g r a = record {
       shows = λ time. rw (part, way_is, rest_is) (split≤ 1 way

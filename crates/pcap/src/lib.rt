@@ -2,14 +2,14 @@
 #![tactic(auto)]
 
 ghost use Rattle.std.specs.Prelude.{◌≡◌, cond, ◌+◌, ◌/◌, ◌<◌, ◌≤◌, length, drop};
-ghost use Rattle.pcap.specs.Header.{is_big, is_little, is_nano, is_pcap, number};
-ghost use Rattle.pcap.specs.Headers.{header_of};
+ghost use Rattle.pcap.specs.Header.{number};
+ghost use Rattle.pcap.specs.Headers.{encoding_of, header_of};
 ghost use Rattle.pcap.specs.Records.{record_size};
 ghost use Rattle.pcap.specs.Packets.{milliseconds};
 ghost use Rattle.pcap.specs.Reading.{RecordPre, RecordIs};
 
-use acl::{Acl, read_h4};
-use words::{get_be32, get_le32, same, wide32};
+use acl::{Fragment, read_h4};
+use words::{get_be32, get_le32, same};
 
 // How the numbers of a file are written, by its magic: the highest byte first, fractions of a second in nanoseconds.
 #[derive(Clone, Copy)]
@@ -18,58 +18,33 @@ pub struct Encoding {
     pub nano: bool,
 }
 
-// What the header says: how numbers are written, refusal 21, or refusal 22 with the link type.
+// Why a header is not taken: it is none of pcap, or its link type is another.
 #[derive(Clone, Copy)]
-pub enum Header {
-    Read(Encoding),
+pub enum HeaderError {
     NotPcap,
-    Other(u32),
+    LinkType(u32),
 }
 
-// Whether the magic is one with the highest byte first.
-fn is_big(file: &[u8]) -> bool
-    requires { 4 ≤ length file.now }
-    ensures { result ≡ is_big file.now }
-{
-    if same(&file[..4], b"\xA1\xB2\xC3\xD4") {
-        return true;
-    }
-    same(&file[..4], b"\xA1\xB2\x3C\x4D")
-}
-
-// Whether it is one with the lowest byte first.
-fn is_little(file: &[u8]) -> bool
-    requires { 4 ≤ length file.now }
-    ensures { result ≡ is_little file.now }
-{
-    if same(&file[..4], b"\xD4\xC3\xB2\xA1") {
-        return true;
-    }
-    same(&file[..4], b"\x4D\x3C\xB2\xA1")
-}
-
-// Whether it is one for nanoseconds.
-fn is_nano(file: &[u8]) -> bool
-    requires { 4 ≤ length file.now }
-    ensures { result ≡ is_nano file.now }
-{
-    if same(&file[..4], b"\xA1\xB2\x3C\x4D") {
-        return true;
-    }
-    same(&file[..4], b"\x4D\x3C\xB2\xA1")
-}
-
-// Whether the file begins as a pcap file does.
-fn is_pcap(file: &[u8]) -> bool
-    ensures { result ≡ is_pcap file.now }
+// How the numbers of a pcap file are written, by its magic; none of another file.
+fn encoding_of(file: &[u8]) -> Option<Encoding>
+    ensures { result ≡ encoding_of file.now }
 {
     if file.len() < 24 {
-        return false;
+        return None;
     }
-    if is_big(file) {
-        return true;
-    }
-    is_little(file)
+    let magic = &file[..4];
+    let (big, nano) = if same(magic, b"\xA1\xB2\xC3\xD4") {
+        (true, false)
+    } else if same(magic, b"\xA1\xB2\x3C\x4D") {
+        (true, true)
+    } else if same(magic, b"\xD4\xC3\xB2\xA1") {
+        (false, false)
+    } else if same(magic, b"\x4D\x3C\xB2\xA1") {
+        (false, true)
+    } else {
+        return None;
+    };
+    Some(Encoding { big, nano })
 }
 
 // The number at a place, by the byte order.
@@ -83,20 +58,18 @@ pub fn get_number(file: &[u8], at: usize, big: bool) -> u32
     get_le32(file, at)
 }
 
-// Reads the header.
-pub fn read_header(file: &[u8]) -> Header
+// Reads the header: how numbers are written.
+pub fn read_header(file: &[u8]) -> Result<Encoding, HeaderError>
     ensures { result ≡ header_of file.now }
 {
-    if is_pcap(file) {
-        let big = is_big(file);
-        let nano = is_nano(file);
-        let n = get_number(file, 20, big);
-        if n == 201 {
-            return Header::Read(Encoding { big, nano });
-        }
-        return Header::Other(n);
+    let Some(encoding) = encoding_of(file) else {
+        return Err(HeaderError::NotPcap);
+    };
+    let n = get_number(file, 20, encoding.big);
+    if n != 201 {
+        return Err(HeaderError::LinkType(n));
     }
-    Header::NotPcap
+    Ok(encoding)
 }
 
 // The size of the record at a place, from its front.
@@ -104,22 +77,22 @@ pub fn record_size(file: &[u8], at: usize, big: bool) -> usize
     requires { at + 12 ≤ length file.now }
     ensures { result ≡ record_size big (drop at file.now) }
 {
-    16 + wide32(get_number(file, at + 8, big))
+    16 + get_number(file, at + 8, big) as usize
 }
 
 // The packet of the record from one place up to another: a direction, then H4.
-pub fn read_packet(file: &[u8], at: usize, end: usize) -> Acl
+pub fn read_packet(file: &[u8], at: usize, end: usize) -> Option<Fragment>
     requires { RecordPre file.now at end }
     ensures { RecordIs file.now at end result }
 {
     if end - at < 20 {
-        return Acl::Skipped;
+        return None;
     }
     let way = get_be32(file, at + 16);
     if way < 2 {
         return read_h4(file, at + 20, end, way);
     }
-    Acl::Skipped
+    None
 }
 
 // A fraction of a second in milliseconds, rounded down.

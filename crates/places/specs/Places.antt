@@ -1,20 +1,16 @@
 -- What import promises where a list of stretches is lent.
-use Rattle.std.specs.Prelude.{ℕ, ◌*◌, ◌/◌, ◌≤◌, ◌≡◌, Bool, true, false, ◌&&◌, List, [], ◌++◌, length, drop}
+use Rattle.std.specs.Prelude.{Result, Ok, Err, ℕ, ◌≤◌, ◌≡◌, Bool, true, false, ◌&&◌, List, [], ◌++◌, length, drop}
 use Rattle.std.proofs.Math.Option.{Option, none, some}
 use Rattle.laws.specs.Answers.{Answer, accepted, refused, answer, Meets}
 use Rattle.trace.specs.Formats.{container_of}
 use Rattle.trace.specs.declared.Container.{Container}
 use Rattle.rfcomm.specs.Pieces.{Piece}
 use Rattle.spans.specs.Spans.{on_dlci}
-use Rattle.split.specs.Rows.{Laid}
 use Rattle.outcome.specs.Import.{Options, file_pieces, chosen, fits, work_suffices, places_suffice, imported_in}
 use Rattle.cut.specs.Claim.{CutClaim}
-use Rattle.streams.specs.Streams.{plan_of}
-use Rattle.capture.specs.Calls.{told_imported, Left}
-use Rattle.capture.specs.declared.Found.{Found}
-use Rattle.capture.specs.declared.Summary.{Summary}
-use Rattle.capture.specs.declared.Imported.{Imported}
-use Rattle.capture.specs.declared.Imported.TheVariants.{Spans}
+use Rattle.capture.specs.Calls.{told_imported, Imported}
+use Rattle.capture.specs.declared.ImportError.{ImportError}
+use Rattle.places.specs.declared.Placed.{Placed}
 use Rattle.stretches.specs.Open.{open_stretches}
 use Rattle.stretches.specs.Filled.{stretches_to}
 use Rattle.stretches.specs.declared.Stretch.{Stretch}
@@ -47,6 +43,15 @@ listed_by (refused n vs) l = []
 unfoldable pub suffices : List ℕ → ℕ → ℕ → Bool
 suffices f work places = fits f && (work_suffices f work && places_suffice f places)
 
+-- what import gave, and how many stretches are listed: none after a refusal
+abbrev pub summed : Result Placed ImportError → Imported
+summed (Ok p) = Ok p.summary
+summed (Err e) = Err e
+
+abbrev pub listed_of : Result Placed ImportError → ℕ
+listed_of (Ok p) = p.listed
+listed_of (Err e) = 0
+
 -- Answer and output by the definition; work is unchanged after 1 and 2; the open stretches are listed at the start of work, none after a
 -- refusal; and with enough places the claim of the cut.
 pub record ImportsIn (b : Container) (f w : List ℕ) (places : ℕ) (o : Options) (out : List ℕ) (r : Imported) (listed : ℕ) (w' out' : List ℕ) : Type 0 where
@@ -63,16 +68,3 @@ pub record ToldIn (b : Container) (f w : List ℕ) (places : ℕ) (out : List �
   pub list : stretches_to w' listed ≡ listed_by (answer (imported_in (container_of b) f (length w) places o) (length out)) (file_stretches b f o)
   pub few : listed ≤ places
   pub cut : places_suffice f places ≡ true → CutClaim (container_of b) f (length w) o out (answer (imported_in (container_of b) f (length w) places o) (length out)) out'
-
--- ---- from what import found
-
--- where it gave spans, the table of pieces stands in work
-pub record Listable (f w : List ℕ) (r : Found) : Type 0 where
-  pub laid : (s : Summary) → r.answer ≡ Spans s → Laid f w (plan_of (length f / 4) r.pieces s.dlci)
-  pub few : (s : Summary) → r.answer ≡ Spans s → 32 * r.pieces ≤ length f
-  pub small : length f ≤ 1048576
-
--- the open stretches are listed, whichever container and options the import had
-pub record FoundListed (f w : List ℕ) (r : Found) (u : List ℕ) (listed : ℕ) : Type 0 where
-  pub list : (b : Container) (o : Options) → Left b f o r w → stretches_to u listed ≡ listed_by (told_imported r.answer) (file_stretches b f o)
-  pub few : listed ≤ length f / 24

@@ -6,12 +6,13 @@ ghost use Rattle.capture.specs.Options.{options_of};
 ghost use Rattle.trace.specs.declared.Container.TheVariants.{Btsnoop};
 ghost use Rattle.options.specs.Numbers.{container_in};
 ghost use Rattle.imports.specs.Numbers.{options_in, options_number};
-ghost use Rattle.places.specs.Places.{ImportsIn, ToldIn, Listable, FoundListed};
+ghost use Rattle.places.specs.Places.{ImportsIn, ToldIn, summed, listed_of};
 
-use capture::{Found, Imported, Options, import_found};
-use imports::{options_in, tell_imported};
+use capture::{ImportError, Options, Summary, import};
+use imports::options_in;
 use streams::plan;
 use stretches::list_open;
+use telling::Tell;
 use trace::Refusal;
 
 // An answer's number, and how many stretches stand at the start of work.
@@ -33,11 +34,15 @@ pub fn places_told(
     ensures { ToldIn (container_in options.now) file.now work.old places out.old (options_in options.now) values.old result.number result.listed work.new out.new values.new }
 {
     let o = options_in(options);
-    let p = import_places(file, work, out, o, places);
-    let answer = p.answer;
-    Told {
-        number: tell_imported(answer, values),
-        listed: p.listed,
+    match import_places(file, work, out, o, places) {
+        Ok(p) => Told {
+            number: p.summary.tell(values),
+            listed: p.listed,
+        },
+        Err(e) => Told {
+            number: e.tell(values),
+            listed: 0,
+        },
     }
 }
 
@@ -57,10 +62,10 @@ pub fn places_by(
     places_told(file, work, out, &options, values, places)
 }
 
-// An answer, and how many stretches stand at the start of work.
+// What import gives, and how many stretches stand at the start of work.
 #[derive(Clone, Copy)]
 pub struct Placed {
-    pub answer: Imported,
+    pub summary: Summary,
     pub listed: usize,
 }
 
@@ -71,44 +76,21 @@ pub fn import_places(
     out: &mut [u8],
     options: Options,
     places: usize,
-) -> Placed
-    ensures { ImportsIn options.container file.now work.old places (options_of options) out.old result.answer result.listed work.new out.new }
+) -> Result<Placed, ImportError>
+    ensures { ImportsIn options.container file.now work.old places (options_of options) out.old (summed result) (listed_of result) work.new out.new }
 {
     let n = file.len();
     if 1048576 < n {
-        return Placed {
-            answer: Imported::Refused(Refusal::FileLong),
-            listed: 0,
-        };
+        return Err(ImportError::Refused(Refusal::FileLong));
     }
     if work.len() < 8 * n {
-        return Placed {
-            answer: Imported::Refused(Refusal::WorkShort),
-            listed: 0,
-        };
+        return Err(ImportError::Refused(Refusal::WorkShort));
     }
     if places < n / 24 {
-        return Placed {
-            answer: Imported::Refused(Refusal::WorkShort),
-            listed: 0,
-        };
+        return Err(ImportError::Refused(Refusal::WorkShort));
     }
-    let found = import_found(file, work, out, options);
-    let answer = found.answer;
-    let listed = list_found(file, work, found);
-    Placed { answer, listed }
-}
-
-// Lists the stretches that are open after an import at the start of work, and returns how many: none where it gave no spans.
-fn list_found(file: &[u8], w: &mut [u8], found: Found) -> usize
-    requires { Listable file.now w.old found }
-    ensures { FoundListed file.now w.old found w.new result }
-{
-    let answer = found.answer;
-    let Imported::Spans(s) = answer else {
-        return 0;
-    };
-    let q = file.len() / 4;
-    let p = plan(q, found.pieces, s.dlci as u32);
-    list_open(w, p)
+    let summary = import(file, work, out, options)?;
+    let p = plan(n / 4, summary.pieces, summary.stream.dlci as u32);
+    let listed = list_open(work, p);
+    Ok(Placed { summary, listed })
 }

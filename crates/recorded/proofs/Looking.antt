@@ -2,7 +2,7 @@
 use Prim.Native.Nat.{ℕ, ◌+◌, ◌-◌, ◌<◌, ◌≤◌}
 use mathlib.Core.Path.{◌≡◌, ap}
 use mathlib.Core.Bool.{Bool, true, false}
-use mathlib.Core.List.{List, []}
+use mathlib.Core.List.{List}
 use native.Mathlib.Omega.{arith}
 use lib.ListN.{length}
 use borrow.Author.Tests.{lt-ltb, le-ltb}
@@ -13,12 +13,12 @@ use Rattle.trace.specs.Reader.{step_of}
 use Rattle.trace.specs.Walk.{RecordAt}
 use Rattle.trace.specs.declared.Format.{Format}
 use Rattle.trace.specs.declared.Step.{Step}
-use Rattle.trace.specs.declared.Step.TheVariants.{Record, Cut, End}
+use Rattle.trace.specs.declared.Step.TheVariants.{Record}
 use Rattle.signs.specs.Places.{records_at}
 use Rattle.signs.specs.Recorded.{is_zeros, is_skipped}
 use Rattle.signs.specs.Gaps.{record_gaps}
 use Rattle.signs.specs.Counting.{noted}
-use Rattle.signs.proofs.Places.{rest_at, rest_start, rest_turn, found_record, found_cut, found_end}
+use Rattle.signs.proofs.Places.{rest_at, rest_start, rest_turn, found_record, found_none}
 use Rattle.signs.specs.declared.Gap.{Gap}
 use Rattle.recorded.specs.Looking.{recorded_of, Readable, ShortIs, DropsIs, noted_if, noted_rise, looked, looked_all, unseen, Risen, Bounded, LookPre, Looks}
 use Rattle.recorded.specs.declared.Seen.{Seen}
@@ -93,12 +93,6 @@ module _ (g : Format) (f : List ℕ) (at : ℕ) (s : Seen) (l : Looking g f s at
   unfolding looked_all
   looking_turn e q t k = record { bounded = k.bounded; same = rw k.is (rw (rest_turn g f at e (found_record g f at x h e q)) at l.same) }
 
-  ended : rest_at g f at ≡ [] → recorded_of s.signs ≡ record_gaps g f
+  pub looking_end : ((e : ℕ) → x ≡ Record e → ⊥) → recorded_of s.signs ≡ record_gaps g f
   unfolding looked_all
-  ended n = let z : s ≡ looked_all g unseen (records_at g f) = rw n at l.same in rw z (all_gaps g f)
-
-  pub looking_cut : (p : ℕ) → x ≡ Cut p → recorded_of s.signs ≡ record_gaps g f
-  looking_cut p q = ended (found_cut g f at x h p q)
-
-  pub looking_end : x ≡ End → recorded_of s.signs ≡ record_gaps g f
-  looking_end q = ended (found_end g f at x h q)
+  looking_end n = let z : s ≡ looked_all g unseen (records_at g f) = rw (found_none g f at x h n) at l.same in rw z (all_gaps g f)

@@ -1,14 +1,12 @@
 -- What one record shows, as the code finds it in the file.
-use Prim.Native.Nat.{ℕ, ◌+◌, ◌-◌, ◌<◌, ◌≤◌}
-use mathlib.Core.Path.{◌≡◌, refl, sym, ◌∙◌}
-use mathlib.Core.Bool.{Bool, true, false}
-use mathlib.Core.List.{List}
+use Rattle.std.specs.List.{list_all}
+use Prim.Native.Nat.{ℕ, ◌+◌, ◌-◌, ◌≤◌}
+use mathlib.Core.Path.{◌≡◌, refl, sym, ap, ◌∙◌}
+use mathlib.Core.Bool.{Bool, true, false, ◌&&◌}
+use mathlib.Core.List.{List, [], ◌∷◌}
 use native.Mathlib.Omega.{arith}
-use native.Mathlib.Numerals.{add-one}
-use lib.ListN.{length, get_or, take, drop, drop_of_length-le}
-use lib.Seq.{drop-cons}
-use lib.Dec.{ltb}
-use borrow.Author.Tests.{eq-eqb, ne_eqb}
+use lib.ListN.{length, take, drop}
+use lib.Dec.{ltb, eqb}
 use Rattle.laws.specs.Numbers.{be32}
 use Rattle.acl.proofs.Parts.{be32_part, le32_part}
 use Rattle.pcap.specs.Header.{number}
@@ -81,28 +79,13 @@ module _ (g : Format) (r : List ℕ) (a : Bool) (h : a ≡ is_acl g r) where
   unfolding is_skipped
   skipped_acl q t e = rw (sym h ∙ q) e
 
-  pub skipped_not : a ≡ false → false ≡ is_skipped g r
+  pub skipped_not : a ≡ false → a ≡ is_skipped g r
   unfolding is_skipped
-  skipped_not q = rw (sym h ∙ q)
+  skipped_not q = q ∙ rw (sym h ∙ q)
 
 -- ---- zeros
 
--- from a byte on the same is to be seen as in all of them
-pub record Zeroing (b : List ℕ) (i : ℕ) : Type 0 where
-  pub same : is_zeros (drop i b) ≡ is_zeros b
-
-pub zeros_start : (b : List ℕ) → Zeroing b 0
-zeros_start b = record { same = refl }
-
-module _ (b : List ℕ) (i : ℕ) (z : Zeroing b i) where
-  pub zeros_not : i < length b → (get_or b i 0 ≡ 0 → ⊥) → false ≡ is_zeros b
-  unfolding is_zeros
-  zeros_not h n = sym (sym z.same ∙ rw (drop-cons b i 0 h, ne_eqb (get_or b i 0) 0 n))
-
-  pub zeros_turn : i < length b → get_or b i 0 ≡ 0 → Zeroing b (i + 1)
-  unfolding is_zeros
-  zeros_turn h e = record { same = rw add-one (rw (drop-cons b i 0 h, eq-eqb (get_or b i 0) 0 e) at z.same) }
-
-  pub zeros_end : length b ≤ i → true ≡ is_zeros b
-  unfolding is_zeros
-  zeros_end h = rw (drop_of_length-le b h) at z.same
+pub zeros_all : (b : List ℕ) → list_all (λ x. eqb x 0) b ≡ is_zeros b
+unfolding is_zeros
+zeros_all [] = refl
+zeros_all (x ∷ xs) = ap (λ t. eqb x 0 && t) (zeros_all xs)

@@ -57,10 +57,7 @@ fn is_skipped(file: &[u8], at: usize, end: usize, format: Format) -> bool
     requires { RecordPre format file.now at end }
     ensures { result ≡ is_skipped format (between file.now at end) }
 {
-    if is_acl(file, at, end, format) {
-        return lacks_packet(file, at, end, format);
-    }
-    false
+    is_acl(file, at, end, format) && lacks_packet(file, at, end, format)
 }
 
 // Whether it is zeros only.
@@ -68,15 +65,7 @@ fn is_zeros(file: &[u8], at: usize, end: usize) -> bool
     requires { (at ≤ end) × (end ≤ length file.now) }
     ensures { result ≡ is_zeros (between file.now at end) }
 {
-    let b = &file[at..end];
-    let mut i = 0;
-    while i < b.len() {
-        if b[i] != 0 {
-            return false;
-        }
-        i += 1;
-    }
-    true
+    file[at..end].iter().all(|&b| b == 0)
 }
 
 // A sign that comes once more, at a place, if the record there shows it.
@@ -133,19 +122,9 @@ pub fn record_signs(file: &[u8], format: Format) -> Recorded
         last: 0,
     };
     let mut at = file_head(format);
-    loop {
-        let x = read_at(file, at, format);
-        match x {
-            Step::Record(end) => {
-                s = look_at(file, at, end, format, s);
-                at = end;
-            }
-            Step::Cut(_) => {
-                return s.signs;
-            }
-            Step::End => {
-                return s.signs;
-            }
-        }
+    while let Step::Record(end) = read_at(file, at, format) {
+        s = look_at(file, at, end, format, s);
+        at = end;
     }
+    s.signs
 }

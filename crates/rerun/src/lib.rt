@@ -1,12 +1,9 @@
 // Runs the call of a sample's case: the calls on frames, names and lists.
 #![tactic(auto)]
 
-ghost use Rattle.std.specs.Prelude.{◌≡◌, ◌<◌};
+ghost use Rattle.std.specs.Prelude.{None, ◌≡◌, ◌<◌};
 
 use samples::{Call, byte, long, part, sum, word};
-
-// The number where no call is run: no answer has it.
-pub const NO_CALL: u32 = 4294967295;
 
 fn run_codec(s: &[u8], c: Call, out: &mut [u8], values: &mut [u64]) -> u32 {
     let input = part(s, c.first, c.first_size);
@@ -40,16 +37,16 @@ fn run_order(s: &[u8], c: Call, out: &mut [u8], values: &mut [u64]) -> u32 {
     lumbryth::lumbryth_capture_order(names, out, values)
 }
 
-// Runs the call that the op names, 1 to 6; none for another.
-pub fn run_plain(s: &[u8], c: Call, out: &mut [u8], values: &mut [u64]) -> u32
-    ensures { 6 < c.op → result ≡ 4294967295 }
+// Runs the call that the op names, 1 to 6, and returns its number; none for another.
+pub fn run_plain(s: &[u8], c: Call, out: &mut [u8], values: &mut [u64]) -> Option<u32>
+    ensures { 6 < c.op → result ≡ None }
 {
     let op = c.op;
     match op {
-        1 | 2 => run_codec(s, c, out, values),
-        3 | 4 => run_names(s, c, out, values),
-        5 => run_plan(s, c, out, values),
-        6 => run_order(s, c, out, values),
-        _ => NO_CALL,
+        1 | 2 => Some(run_codec(s, c, out, values)),
+        3 | 4 => Some(run_names(s, c, out, values)),
+        5 => Some(run_plan(s, c, out, values)),
+        6 => Some(run_order(s, c, out, values)),
+        _ => None,
     }
 }

@@ -38,9 +38,9 @@ module _ (w : List ℕ) (row : ℕ) (u : Uih) where
   unfolding placed_uih
   placed_empty n e = rw (ne_eqb u.dlci 0 n, eq-eqb u.len 0 e)
 
-  pub placed_info : (u.dlci ≡ 0 → ⊥) → (u.len ≡ 0 → ⊥) → (a j p s : ℕ) → a ≡ word w (row + 2) → j ≡ cond (eqb a 1) 1 0 → p ≡ word w (row + 3) → s ≡ p → Carries (record { dlci = u.dlci; start = s + u.start; len = u.len; joined = j }) ≡ placed_uih w row u
+  pub placed_info : (u.dlci ≡ 0 → ⊥) → (u.len ≡ 0 → ⊥) → (a p s : ℕ) → a ≡ word w (row + 2) → p ≡ word w (row + 3) → s ≡ p → Carries (record { dlci = u.dlci; start = s + u.start; len = u.len; joined = eqb a 1 }) ≡ placed_uih w row u
   unfolding placed_uih
-  placed_info n m a j p s ea ej ep es = rw (ne_eqb u.dlci 0 n, ne_eqb u.len 0 m, es, ep, ej, ea)
+  placed_info n m a p s ea ep es = rw (ne_eqb u.dlci 0 n, ne_eqb u.len 0 m, es, ep, ea)
 
 -- a UIH frame in the payload of a row, that is judged by what it carries
 module _ (fcs : Bool) (f w : List ℕ) (row : ℕ) (l : Lent f w row) (u : Uih) (lies : UihLies (pdu_at f w row).payload u) (shown : frame_kind fcs (frame_of (pdu_at f w row).payload) ≡ uih_kind (uih_at (pdu_at f w row).payload u)) where
@@ -48,7 +48,7 @@ module _ (fcs : Bool) (f w : List ℕ) (row : ℕ) (l : Lent f w row) (u : Uih) 
   info_length_law = length-take-le u.len (drop u.start (pdu_at f w row).payload) (simp length-drop (omega (arith, lies.inside)))
 
   -- the information, in the file or in work
-  info_is : take u.len (drop u.start (pdu_at f w row).payload) ≡ take u.len (drop (word w (row + 3) + u.start) (cond (eqb (cond (eqb (word w (row + 2)) 1) 1 0) 1) w f))
+  info_is : take u.len (drop u.start (pdu_at f w row).payload) ≡ take u.len (drop (word w (row + 3) + u.start) (cond (eqb (word w (row + 2)) 1) w f))
   unfolding pdu_at
   info_is =
       let n : u.start + u.len ≤ word w (row + 4) = omega (arith, lies.inside, payload_length f w row l) in
@@ -56,7 +56,7 @@ module _ (fcs : Bool) (f w : List ℕ) (row : ℕ) (l : Lent f w row) (u : Uih) 
       (λ t. rw t (part_part w (word w (row + 3)) (word w (row + 4)) u.start u.len n))
       (λ t. rw t (part_part f (word w (row + 3)) (word w (row + 4)) u.start u.len n))
 
-  kind_is : frame_kind fcs (frame_of (pdu_at f w row).payload) ≡ cond (ltb 0 u.dlci && ltb 0 u.len) (carries u.dlci (take u.len (drop (word w (row + 3) + u.start) (cond (eqb (cond (eqb (word w (row + 2)) 1) 1 0) 1) w f)))) passed
+  kind_is : frame_kind fcs (frame_of (pdu_at f w row).payload) ≡ cond (ltb 0 u.dlci && ltb 0 u.len) (carries u.dlci (take u.len (drop (word w (row + 3) + u.start) (cond (eqb (word w (row + 2)) 1) w f)))) passed
   unfolding uih_kind uih_at
   kind_is = rw (shown, info_length_law, info_is)
 
@@ -68,7 +68,7 @@ module _ (fcs : Bool) (f w : List ℕ) (row : ℕ) (l : Lent f w row) (u : Uih) 
       (λ z. split≡ u.len 0
       (λ y. let v : r ≡ Passed = q ∙ rw (ne_eqb u.dlci 0 z, eq-eqb u.len 0 y) in rw v (record { shows = kind_is ∙ rw (lt-ltb 0 u.dlci (pos u.dlci z), le-ltb 0 u.len (omega arith)); borne = tt }))
       (λ y.
-      let v : r ≡ Carries (record { dlci = u.dlci; start = word w (row + 3) + u.start; len = u.len; joined = cond (eqb (word w (row + 2)) 1) 1 0 }) = q ∙ rw (ne_eqb u.dlci 0 z, ne_eqb u.len 0 y) in
+      let v : r ≡ Carries (record { dlci = u.dlci; start = word w (row + 3) + u.start; len = u.len; joined = eqb (word w (row + 2)) 1 }) = q ∙ rw (ne_eqb u.dlci 0 z, ne_eqb u.len 0 y) in
       rw v (record {
         shows = kind_is ∙ rw (lt-ltb 0 u.dlci (pos u.dlci z), lt-ltb 0 u.len (pos u.len y));
         borne = record { least = pos u.dlci z; most = lies.dlci; few = lies.few; inside = omega (arith, lies.inside, payload_length f w row l); less = omega (arith, lies.first, lies.inside, payload_length f w row l); joined = refl };

@@ -14,7 +14,13 @@ use Rattle.rfcomm.specs.PieceTable.{piece_at, Within, pieces_from, infos_of}
 use Rattle.rfcomm.specs.declared.Part.{Part}
 use Rattle.rfcomm.specs.PieceRows.{stretch_of, bytes_of, row_of, PutPre, part_piece}
 use native.Mathlib.Nat.{add-zero}
+use Rattle.std.specs.Int.{from_bool}
 use Rattle.words.specs.Front.{Front}
+
+-- a bit in a word is read as it was written
+bit_is : (b : Bool) → eqb (cond b 1 0) 1 ≡ b
+bit_is true = refl
+bit_is false = refl
 
 module _ (f w : List ℕ) (at : ℕ) (p : Part) (t : ℕ) (pre : PutPre w at p) (u : List ℕ) (e : u ≡ put_words w at (row_of p t)) where
   row : (j : ℕ) → j < 8 → word u (at + j) ≡ get_or (row_of p t) j 0
@@ -25,28 +31,28 @@ module _ (f w : List ℕ) (at : ℕ) (p : Part) (t : ℕ) (pre : PutPre w at p) 
   unfolding row_of stretch_of bytes_of
   row_len = rw (row 5 (omega arith)) (omega (arith, pre.len))
 
-  row_joined : word u (at + 5) / 65536 ≡ p.joined
+  row_joined : eqb (word u (at + 5) / 65536) 1 ≡ p.joined
   unfolding row_of stretch_of bytes_of
-  row_joined = rw (row 5 (omega arith)) (omega (arith, pre.len))
+  row_joined = let z : (p.len + 65536 * cond p.joined 1 0) / 65536 ≡ cond p.joined 1 0 = omega (arith, pre.len) in rw (row 5 (omega arith), z) (bit_is p.joined)
 
   row_start : word u at ≡ p.dlci
   unfolding row_of stretch_of bytes_of
   row_start = let z : at + 0 ≡ at = omega arith in rw z at (row 0 (omega arith))
 
   -- the bytes that the row means are not touched by the row
-  pub row_piece : (top : ℕ) → top ≤ 4 * at → p.start + p.len ≤ cond (eqb p.joined 1) top (length f) → piece_at f u at ≡ part_piece f w p t
+  pub row_piece : (top : ℕ) → top ≤ 4 * at → p.start + p.len ≤ cond p.joined top (length f) → piece_at f u at ≡ part_piece f w p t
   unfolding piece_at part_piece row_of stretch_of bytes_of
   row_piece top h i =
       let s1 : (p.sessions + 65536 * p.links) % 65536 ≡ p.sessions = omega (arith, pre.sessions) in
       let s2 : (p.sessions + 65536 * p.links) / 65536 ≡ p.links = omega (arith, pre.sessions) in
       let tm : long u (at + 6) ≡ t = rw e (long_puts (row_of p t) w at 6 t (omega (arith, pre.room)) (omega arith) refl refl) in
-      let same : take p.len (drop p.start (cond (eqb p.joined 1) u f)) ≡ take p.len (drop p.start (cond (eqb p.joined 1) w f)) = go (eqb p.joined 1) i in
+      let same : take p.len (drop p.start (cond p.joined u f)) ≡ take p.len (drop p.start (cond p.joined w f)) = go p.joined i in
       rw (row_start, row 1 (omega arith), row 2 (omega arith), row 3 (omega arith), row 4 (omega arith), row_len, row_joined, s1, s2, tm, same) where
         go : (b : Bool) → p.start + p.len ≤ cond b top (length f) → take p.len (drop p.start (cond b u f)) ≡ take p.len (drop p.start (cond b w f))
         go true q = front_part top u w p.start p.len q (rw e (front_puts top (row_of p t) w at h))
         go false q = refl
 
-  pub row_within : (top : ℕ) → p.start + p.len ≤ cond (eqb p.joined 1) top (length f) → 0 < p.dlci → p.dlci < 64 → Within f u at top
+  pub row_within : (top : ℕ) → p.start + p.len ≤ cond p.joined top (length f) → 0 < p.dlci → p.dlci < 64 → Within f u at top
   unfolding row_of stretch_of bytes_of
   row_within top i lo hi = record { inside = rw (row 4 (omega arith), row_len, row_joined) i; least = rw row_start lo; most = rw row_start hi }
 
@@ -71,9 +77,13 @@ put_bytes w at start size t a b u pa pb pu =
     let k2 : at + 2 ≡ suc (suc at) = omega arith in
     pu ∙ rw (pb, pa, k3, k1, k2)
 
-pub put_row_law : (w : List ℕ) (at : ℕ) (p : Part) (t n : ℕ) (a u : List ℕ) → n ≡ p.len + 65536 * p.joined → a ≡ put_words w at (stretch_of p) → u ≡ put_words a (at + 4) (bytes_of p.start n t) → u ≡ put_words w at (row_of p t)
+bit_of : (b : Bool) → from_bool b ≡ cond b 1 0
+bit_of true = refl
+bit_of false = refl
+
+pub put_row_law : (w : List ℕ) (at : ℕ) (p : Part) (t j n : ℕ) (a u : List ℕ) → j ≡ from_bool p.joined → n ≡ p.len + 65536 * j → a ≡ put_words w at (stretch_of p) → u ≡ put_words a (at + 4) (bytes_of p.start n t) → u ≡ put_words w at (row_of p t)
 unfolding row_of stretch_of
-put_row_law w at p t n a u en pa pu = pu ∙ rw (pa, en) (sym (puts_append (stretch_of p) (bytes_of p.start (p.len + 65536 * p.joined) t) w at))
+put_row_law w at p t j n a u ej en pa pu = pu ∙ rw (pa, en, ej, bit_of p.joined) (sym (puts_append (stretch_of p) (bytes_of p.start (p.len + 65536 * cond p.joined 1 0) t) w at))
 
 -- ---- the table under a frame that keeps it and the payloads
 

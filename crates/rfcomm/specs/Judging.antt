@@ -16,7 +16,7 @@ use Rattle.rfcomm.specs.declared.Verdict.TheVariants.{Asks, Opens, Carries, Wron
 unfoldable pub kind_shown : List ℕ → List ℕ → Verdict → Kind
 kind_shown f w Asks = asks
 kind_shown f w (Opens d) = opens d
-kind_shown f w (Carries i) = carries i.dlci (take i.len (drop i.start (cond (eqb i.joined 1) w f)))
+kind_shown f w (Carries i) = carries i.dlci (take i.len (drop i.start (cond i.joined w f)))
 kind_shown f w (Wrong d) = wrong d
 kind_shown f w Passed = passed
 
@@ -27,7 +27,7 @@ pub record Carried (w : List ℕ) (row : ℕ) (i : Info) : Type 0 where
   pub few : i.len < 32768
   pub inside : i.start + i.len ≤ word w (row + 3) + word w (row + 4)
   pub less : i.len + 4 ≤ word w (row + 4)
-  pub joined : i.joined ≡ cond (eqb (word w (row + 2)) 1) 1 0
+  pub joined : i.joined ≡ eqb (word w (row + 2)) 1
 
 abbrev pub Borne : List ℕ → ℕ → Verdict → Type 0
 Borne w row Asks = Unit {0}
@@ -44,7 +44,7 @@ unfoldable pub placed_uih : List ℕ → ℕ → Uih → Verdict
 placed_uih w row u =
     cond (eqb u.dlci 0) Passed
     (cond (eqb u.len 0) Passed
-    (Carries (record { dlci = u.dlci; start = word w (row + 3) + u.start; len = u.len; joined = cond (eqb (word w (row + 2)) 1) 1 0 })))
+    (Carries (record { dlci = u.dlci; start = word w (row + 3) + u.start; len = u.len; joined = eqb (word w (row + 2)) 1 })))
 
 pub record FrameVerdict (fcs : Bool) (f w : List ℕ) (row : ℕ) (r : Verdict) : Type 0 where
   pub shows : frame_kind fcs (frame_of (pdu_at f w row).payload) ≡ kind_shown f w r

@@ -1,5 +1,5 @@
 -- The rows of pieces: one more, and all of them under a frame.
-use Rattle.std.specs.Prelude.{ℕ, ◌+◌, ◌*◌, ◌/◌, ◌%◌, ◌<◌, ◌≤◌, cond, List, [], ◌∷◌, ◌++◌, length, take, drop, eqb}
+use Rattle.std.specs.Prelude.{ℕ, ◌+◌, ◌*◌, ◌/◌, ◌%◌, ◌<◌, ◌≤◌, cond, List, [], ◌∷◌, ◌++◌, length, take, drop}
 use Rattle.rfcomm.specs.Pieces.{Piece}
 use Rattle.rfcomm.specs.declared.Part.{Part}
 
@@ -10,14 +10,13 @@ unfoldable pub bytes_of : ℕ → ℕ → ℕ → List ℕ
 bytes_of start size t = start ∷ size ∷ t % 4294967296 ∷ t / 4294967296 ∷ []
 
 unfoldable pub row_of : Part → ℕ → List ℕ
-row_of p t = stretch_of p ++ bytes_of p.start (p.len + 65536 * p.joined) t
+row_of p t = stretch_of p ++ bytes_of p.start (p.len + 65536 * cond p.joined 1 0) t
 
 pub record PutPre (w : List ℕ) (at : ℕ) (p : Part) : Type 0 where
   pub room : 4 * at + 32 ≤ length w
   pub sessions : p.sessions < 65536
   pub links : p.links < 65536
   pub len : p.len < 65536
-  pub joined : p.joined ≤ 1
 
 -- the piece that a row's numbers stand for, in the file or in work
 unfoldable pub part_piece : List ℕ → List ℕ → Part → ℕ → Piece
@@ -26,5 +25,5 @@ part_piece f w p t = record {
   key = p.way / 2 ∷ p.cid ∷ p.sessions ∷ p.links ∷ p.way % 2 ∷ [];
   rx = p.way % 2;
   time = t;
-  bytes = take p.len (drop p.start (cond (eqb p.joined 1) w f));
+  bytes = take p.len (drop p.start (cond p.joined w f));
 }

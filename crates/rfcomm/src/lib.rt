@@ -1,7 +1,7 @@
 // RFCOMM: what a PDU is once it is judged, and the rows of the pieces of information that UIH frames carry.
 #![tactic(auto)]
 
-ghost use Rattle.std.specs.Prelude.{◌≡◌, cond, ◌+◌, ◌*◌, ◌≤◌, ◌<◌, eqb, length};
+ghost use Rattle.std.specs.Prelude.{◌≡◌, ◌+◌, ◌*◌, ◌≤◌, ◌<◌, length};
 ghost use Rattle.rfcomm.specs.Judging.{PlacePre, placed_uih, FrameVerdict, JudgePre, VerdictIs};
 ghost use Rattle.l2cap.specs.PduFrames.{Lent};
 ghost use Rattle.rfcomm.specs.PieceRows.{stretch_of, bytes_of, row_of, PutPre};
@@ -10,7 +10,7 @@ ghost use Rattle.words.specs.Rows.{put_words};
 use channels::{asks, is_tried};
 use l2cap::payload;
 use uih::{Frame, Uih, read_frame};
-use words::{get32, put32, put64, wide32};
+use words::{get32, put32, put64};
 
 // A piece: its row's numbers but the time.
 #[derive(Clone, Copy)]
@@ -23,8 +23,8 @@ pub struct Part {
     pub links: u32,
     pub start: u32,
     pub len: u32,
-    // 1 if the information lies in work
-    pub joined: u32,
+    // whether the information lies in work
+    pub joined: bool,
 }
 
 // Two 16-bit numbers in a word.
@@ -63,17 +63,17 @@ pub fn put_piece(w: &mut [u8], at: usize, p: Part, time: u64)
     ensures { w.new ≡ put_words w.old at (row_of p time) }
 {
     put_stretch(w, at, p);
-    let size = pair(p.len, p.joined);
+    let size = pair(p.len, u32::from(p.joined));
     put_bytes(w, at + 4, p.start, size, time);
 }
 
-// Information in the file, or in work where joined is 1.
+// Information in the file, or in work where it is joined.
 #[derive(Clone, Copy)]
 pub struct Info {
     pub dlci: u32,
     pub start: usize,
     pub len: usize,
-    pub joined: u32,
+    pub joined: bool,
 }
 
 // What a PDU is once it is judged.
@@ -90,16 +90,6 @@ pub enum Verdict {
     Passed,
 }
 
-// 1 if a payload was joined in work.
-fn joined_of(place: u32) -> u32
-    ensures { result ≡ cond (eqb place 1) 1 0 }
-{
-    if place == 1 {
-        return 1;
-    }
-    0
-}
-
 // The information of a UIH frame in the payload of a row. DLCI 0 and empty information are passed over.
 fn place_uih(w: &[u8], row: usize, u: Uih) -> Verdict
     requires { PlacePre w.now row u }
@@ -113,15 +103,14 @@ fn place_uih(w: &[u8], row: usize, u: Uih) -> Verdict
     if len == 0 {
         return Verdict::Passed;
     }
-    let joined = joined_of(get32(w, row + 2));
-    let place = wide32(get32(w, row + 3));
-    let i = Info {
+    let joined = get32(w, row + 2) == 1;
+    let place = get32(w, row + 3) as usize;
+    Verdict::Carries(Info {
         dlci,
         start: place + u.start,
         len,
         joined,
-    };
-    Verdict::Carries(i)
+    })
 }
 
 // What the frame in the payload of a row is, with FCS checked or not.
@@ -129,8 +118,7 @@ fn judge_frame<'a>(file: &'a [u8], w: &'a [u8], row: usize, fcs: bool) -> Verdic
     requires { Lent file.now w.now row }
     ensures { FrameVerdict fcs file.now w.now row result }
 {
-    let x = read_frame(payload(file, w, row), fcs);
-    match x {
+    match read_frame(payload(file, w, row), fcs) {
         Frame::Sabm(d) => Verdict::Opens(d),
         Frame::Uih(u) => place_uih(w, row, u),
         Frame::WrongFcs(u) => Verdict::Wrong(u.dlci),

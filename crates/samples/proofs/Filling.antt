@@ -20,17 +20,17 @@ pub record Filling (e₀ e : List ℕ) (i : ℕ) : Type 0 where
 pub filling_start : (e : List ℕ) → Filling e e 0
 filling_start e = record { within = omega arith; long = refl; bytes = λ j h. absurd (omega arith) }
 
-pub filling_turn : (e₀ e : List ℕ) (i v : ℕ) → Filling e₀ e i → i < length e → v ≡ untouched_of i → (u : List ℕ) → u ≡ set e i v → Filling e₀ u (i + 1)
+pub filling_turn : (e₀ e : List ℕ) (i v : ℕ) → Filling e₀ e i → i < length e₀ → v ≡ untouched_of i → (u : List ℕ) → u ≡ set e i v → Filling e₀ u (i + 1)
 filling_turn e₀ e i v f h ev u eu = record {
-  within = omega (arith, f.long);
+  within = omega arith;
   long = rw eu (length-set e i v ∙ f.long);
   bytes = λ j l. split≡ j i
-      (λ q. rw (eu, q) (get_or-set_same e i v 0 h ∙ ev))
+      (λ q. rw (eu, q) (get_or-set_same e i v 0 (omega (arith, f.long)) ∙ ev))
       (λ q. rw eu (get_or-set_other e i j v 0 q ∙ f.bytes j (omega arith)));
 }
 
-pub filling_end : (e₀ e : List ℕ) (i : ℕ) → Filling e₀ e i → length e ≤ i → Fresh e
-filling_end e₀ e i f h = record { bytes = λ j l. f.bytes j (omega arith) }
+pub filling_end : (e₀ e : List ℕ) (i : ℕ) → Filling e₀ e i → length e₀ ≤ i → Fresh e
+filling_end e₀ e i f h = record { bytes = λ j l. f.bytes j (omega (arith, f.long)) }
 
 -- ---- the byte that has to stand at a place
 

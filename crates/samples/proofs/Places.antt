@@ -1,10 +1,12 @@
 -- What is read at a place, as the code finds it.
 use Prim.Native.Nat.{ℕ, ◌+◌, ◌-◌, ◌*◌, ◌<◌, ◌≤◌}
-use mathlib.Core.Path.{◌≡◌, sym}
+use mathlib.Core.Path.{◌≡◌, sym, ◌∙◌}
+use mathlib.Core.Bool.{Bool, true, false}
+use lib.Dec.{leb}
 use mathlib.Core.List.{List, []}
 use native.Mathlib.Omega.{arith}
 use lib.ListN.{length, get_or, take, drop, get_or-eq_default}
-use borrow.Author.Tests.{eq-eqb, ne_eqb, le-leb, lt-leb}
+use borrow.Author.Tests.{eq-eqb, ne_eqb, le-leb, lt-leb, leb-true}
 use Rattle.laws.proofs.Choice.{split≤}
 use Rattle.laws.specs.Numbers.{le32, le64}
 use Rattle.samples.specs.Places.{capped, word_at, long_at, part_at, counted_at, numbers_size, second_at, call_of, call_at, answer_at}
@@ -25,45 +27,36 @@ capped_sum a b m h = rw (le-leb (a + b) 18446744073709551615 (omega arith))
 pub byte_past : (s : List ℕ) (at : ℕ) → length s ≤ at → 0 ≡ get_or s at 0
 byte_past s at h = sym (get_or-eq_default s 0 h)
 
-module _ (s : List ℕ) (at : ℕ) where
-  pub word_few : length s < 4 → 0 ≡ word_at s at
-  unfolding word_at
-  word_few h = rw (lt-leb (at + 4) (length s) (omega arith))
+-- ---- bytes at a place
 
-  pub word_past : length s - 4 < at → 0 ≡ word_at s at
-  unfolding word_at
-  word_past h = rw (lt-leb (at + 4) (length s) (omega arith))
+module _ (s : List ℕ) (at size : ℕ) (b : Bool) (e : b ≡ leb (at + size) (length s)) where
+  pub has_room : b ≡ true → at + size ≤ length s
+  has_room t = leb-true (at + size) (length s) (sym e ∙ t)
 
-  pub word_there : 4 ≤ length s → at ≤ length s - 4 → (x : ℕ) → x ≡ le32 s at → x ≡ word_at s at
-  unfolding word_at
-  word_there h g x e = rw (le-leb (at + 4) (length s) (omega arith)) e
-
-  pub long_few : length s < 8 → 0 ≡ long_at s at
-  unfolding long_at
-  long_few h = rw (lt-leb (at + 8) (length s) (omega arith))
-
-  pub long_past : length s - 8 < at → 0 ≡ long_at s at
-  unfolding long_at
-  long_past h = rw (lt-leb (at + 8) (length s) (omega arith))
-
-  pub long_there : 8 ≤ length s → at ≤ length s - 8 → (x : ℕ) → x ≡ le64 s at → x ≡ long_at s at
-  unfolding long_at
-  long_there h g x e = rw (le-leb (at + 8) (length s) (omega arith)) e
-
-  -- a part
-  pub part_past : (size : ℕ) → length s < at → [] ≡ part_at s at size
+  pub part_none : b ≡ false → [] ≡ part_at s at size
   unfolding part_at
-  part_past size h = rw (lt-leb (at + size) (length s) (omega arith))
+  part_none f = rw (← e, f)
 
-  pub part_short : (size : ℕ) → length s - at < size → [] ≡ part_at s at size
+  pub part_there : b ≡ true → take (at + size - at) (drop at s) ≡ part_at s at size
   unfolding part_at
-  part_short size h = rw (lt-leb (at + size) (length s) (omega arith))
+  part_there t = let z : at + size - at ≡ size = omega arith in rw (z, ← e, t)
 
-  pub part_there : (size : ℕ) → at ≤ length s → size ≤ length s - at → take (at + size - at) (drop at s) ≡ part_at s at size
-  unfolding part_at
-  part_there size h g =
-      let z : at + size - at ≡ size = omega arith in
-      rw (z, le-leb (at + size) (length s) (omega arith))
+module _ (s : List ℕ) (at : ℕ) (b : Bool) where
+  pub word_none : b ≡ leb (at + 4) (length s) → b ≡ false → 0 ≡ word_at s at
+  unfolding word_at
+  word_none e f = rw (← e, f)
+
+  pub word_there : b ≡ leb (at + 4) (length s) → b ≡ true → (x : ℕ) → x ≡ le32 s at → x ≡ word_at s at
+  unfolding word_at
+  word_there e t x ex = rw (← e, t) ex
+
+  pub long_none : b ≡ leb (at + 8) (length s) → b ≡ false → 0 ≡ long_at s at
+  unfolding long_at
+  long_none e f = rw (← e, f)
+
+  pub long_there : b ≡ leb (at + 8) (length s) → b ≡ true → (x : ℕ) → x ≡ le64 s at → x ≡ long_at s at
+  unfolding long_at
+  long_there e t x ex = rw (← e, t) ex
 
 -- ---- parts of a case
 

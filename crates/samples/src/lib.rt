@@ -2,7 +2,7 @@
 // case is whole if its end lies in the file.
 #![tactic(auto)]
 
-ghost use Rattle.std.specs.Prelude.{◌≡◌, ◌*◌, ◌≤◌, ◌<◌, length, get_or, true};
+ghost use Rattle.std.specs.Prelude.{◌≡◌, ◌*◌, ◌≤◌, ◌<◌, ◌+◌, length, leb, get_or, true};
 ghost use Rattle.samples.specs.Places.{capped, word_at, long_at, part_at, counted_at, numbers_size, second_at, call_at, answer_at};
 ghost use Rattle.samples.specs.Samples.{untouched_of, Fresh, output_of, Compared};
 
@@ -29,47 +29,42 @@ pub fn byte(s: &[u8], at: usize) -> u8
     if at < s.len() { s[at] } else { 0 }
 }
 
+// Whether so many bytes stand at a place.
+fn has_bytes(s: &[u8], at: usize, size: usize) -> bool
+    ensures { result ≡ leb (at + size) (length s.now) }
+{
+    at <= s.len() && size <= s.len() - at
+}
+
 // The 32-bit number at a place.
 pub fn word(s: &[u8], at: usize) -> u32
     ensures { result ≡ word_at s.now at }
 {
-    let n = s.len();
-    if n < 4 {
-        return 0;
+    if has_bytes(s, at, 4) {
+        return words::get_le32(s, at);
     }
-    if n - 4 < at {
-        return 0;
-    }
-    words::get_le32(s, at)
+    0
 }
 
 // The 64-bit number at a place.
 pub fn long(s: &[u8], at: usize) -> u64
     ensures { result ≡ long_at s.now at }
 {
-    let n = s.len();
-    if n < 8 {
-        return 0;
+    if has_bytes(s, at, 8) {
+        return words::get_le64(s, at);
     }
-    if n - 8 < at {
-        return 0;
-    }
-    words::get_le64(s, at)
+    0
 }
 
 // So many bytes at a place, or none if they are not all there.
 pub fn part(s: &[u8], at: usize, size: usize) -> &[u8]
     ensures { result.now ≡ part_at s.now at size }
 {
-    let n = s.len();
-    if n < at {
-        return &s[0..0];
+    if has_bytes(s, at, size) {
+        let end = at + size;
+        return &s[at..end];
     }
-    if n - at < size {
-        return &s[0..0];
-    }
-    let end = at + size;
-    &s[at..end]
+    &s[0..0]
 }
 
 // Bytes with their length before them: where they stand, and the place after them.
@@ -84,7 +79,7 @@ fn read_counted(s: &[u8], at: usize) -> Counted
     ensures { result ≡ counted_at s.now at }
 {
     let start = sum(at, 4);
-    let size = words::wide32(word(s, at));
+    let size = word(s, at) as usize;
     Counted {
         start,
         size,
@@ -178,7 +173,7 @@ pub struct Answer {
 fn value_bytes(count: u8) -> usize
     ensures { result ≡ 8 * count }
 {
-    8 * words::wide(count)
+    8 * count as usize
 }
 
 pub fn read_answer(s: &[u8], at: usize) -> Answer
@@ -188,10 +183,10 @@ pub fn read_answer(s: &[u8], at: usize) -> Answer
     let values = sum(at, 9);
     let output = read_counted(s, sum(values, value_bytes(count)));
     Answer {
-        lent: words::wide32(word(s, at)),
+        lent: word(s, at) as usize,
         number: word(s, sum(at, 4)),
         values,
-        count: words::wide(count),
+        count: count as usize,
         output: output.start,
         size: output.size,
         end: output.end,
@@ -213,7 +208,7 @@ pub fn next(at: usize, end: usize, n: usize) -> usize
 pub fn one_unless(same: bool) -> u64
     ensures { result ≤ 1 }
 {
-    if same { 0 } else { 1 }
+    u64::from(!same)
 }
 
 // What stands in the list of values, and at a place of the output, before a call.
@@ -229,10 +224,8 @@ fn untouched(i: usize) -> u8
 pub fn fill(out: &mut [u8])
     ensures { Fresh out.new }
 {
-    let mut i: usize = 0;
-    while i < out.len() {
+    for i in 0..out.len() {
         out[i] = untouched(i);
-        i += 1;
     }
 }
 
@@ -249,13 +242,11 @@ fn has_values(s: &[u8], at: usize, count: usize, values: &[u64]) -> bool {
         return false;
     }
     let mut from = at;
-    let mut i: usize = 0;
-    while i < values.len() {
-        if values[i] != value(s, from, i < count) {
+    for (i, &x) in values.iter().enumerate() {
+        if x != value(s, from, i < count) {
             return false;
         }
         from = sum(from, 8);
-        i += 1;
     }
     true
 }
@@ -276,12 +267,10 @@ fn has_output(written: &[u8], out: &[u8]) -> bool
     if out.len() < written.len() {
         return false;
     }
-    let mut i: usize = 0;
-    while i < out.len() {
-        if out[i] != output_byte(written, i) {
+    for (i, &x) in out.iter().enumerate() {
+        if x != output_byte(written, i) {
             return false;
         }
-        i += 1;
     }
     true
 }

@@ -1,7 +1,7 @@
 -- The search for a byte, one at a time and many at once.
 use Prim.Native.Nat.{ℕ, zero, suc, ◌+◌, ◌-◌, ◌<◌, ◌≤◌}
 use mathlib.Core.Path.{◌≡◌, refl, ap, ◌∙◌}
-use mathlib.Core.Bool.{Bool, true, false, cond}
+use mathlib.Core.Bool.{Bool, true, false, cond, ◌||◌, not}
 use mathlib.Core.List.{List, [], ◌∷◌}
 use native.Mathlib.Omega.{arith}
 use lib.ListN.{length, get_or, take, drop, length-drop}
@@ -11,7 +11,7 @@ use borrow.Author.Tests.{eq-eqb, ne_eqb}
 use Rattle.laws.proofs.Choice.{split_b, split≡, no_way}
 use Rattle.laws.proofs.Lists.{drop_step, drop_end}
 use Rattle.search.specs.Seek.{seek}
-use Rattle.search.specs.Steps.{OneIf, Without, Among, Short, Passed, Sought}
+use Rattle.search.specs.Steps.{Without, Among, Short, Passed, Sought}
 
 -- ---- one byte at a time
 
@@ -43,8 +43,12 @@ module _ (s : List ℕ) (f x i : ℕ) (v : Seeking s f x i) where
   pub seeking_miss : i < length s → (get_or s i 0 ≡ x → ⊥) → Seeking s f x (i + 1)
   seeking_miss h e = record { low = omega (arith, v.low); high = omega arith; same = omega (arith, v.same, seek_miss s i x h e) }
 
-  pub seeking_end : length s ≤ i → Sought s f x i
-  seeking_end h = record { at = omega (arith, v.same, seek_end s i x h); least = v.low; most = v.high }
+  pub seeking_end : length s ≤ i → Sought s f x (length s)
+  seeking_end h = record { at = omega (arith, v.same, v.high, seek_end s i x h); least = omega (arith, v.low, v.high); most = omega arith }
+
+  -- a loop up to k ends there
+  pub seeking_to : (k : ℕ) → i ≤ k → k ≤ i → Seeking s f x k
+  seeking_to k l h = let z : i ≡ k = omega arith in rw z at v
 
 -- ---- many bytes at once
 
@@ -88,34 +92,34 @@ seek_most x (suc i) (y ∷ l) h e =
     (λ k. rw (eq-eqb y x k) (omega arith))
     (λ k. rw (ne_eqb y x k) (omega (arith, seek_most x i l (omega arith) e)))
 
-pub record Lacking (l : List ℕ) (x most i : ℕ) : Type 0 where
+or_true : (b : Bool) → (b || true) ≡ true
+or_true true = refl
+or_true false = refl
+
+or_false : (b : Bool) → (b || false) ≡ b
+or_false true = refl
+or_false false = refl
+
+-- of i bytes, whether one is x
+pub record Lacking (l : List ℕ) (x : ℕ) (found : Bool) (i : ℕ) : Type 0 where
   pub high : i ≤ length l
-  pub none : most ≡ 0 → i + seek x (drop i l) ≡ seek x l
-  pub some : 0 < most → seek x l < length l
+  pub none : found ≡ false → i + seek x (drop i l) ≡ seek x l
+  pub some : found ≡ true → seek x l < length l
 
-pub lacking_start : (l : List ℕ) (x : ℕ) → Lacking l x 0 0
-lacking_start l x = record { high = omega arith; none = λ e. omega arith; some = λ h. absurd (omega arith) }
+pub lacking_start : (l : List ℕ) (x : ℕ) → Lacking l x false 0
+lacking_start l x = record { high = omega arith; none = λ e. omega arith; some = λ h. no_way h refl }
 
-module _ (l : List ℕ) (x most i : ℕ) (v : Lacking l x most i) where
-  pub lacking_more : (y : ℕ) → i < length l → OneIf (get_or l i 0) x y → most < y → Lacking l x y (i + 1)
-  lacking_more y h o g = record {
-    high = omega arith;
-    none = λ e. absurd (omega arith);
-    some = λ z. omega (arith, seek_most x i l h (o.hit z));
-  }
+module _ (l : List ℕ) (x : ℕ) (found : Bool) (i : ℕ) (v : Lacking l x found i) where
+  pub lacking_turn : i < length l → Lacking l x (found || eqb (get_or l i 0) x) (i + 1)
+  lacking_turn h =
+      split≡ (get_or l i 0) x
+      (λ e. rw (eq-eqb (get_or l i 0) x e, or_true found) (record { high = omega arith; none = λ z. no_way refl z; some = λ z. omega (arith, seek_most x i l h e) }))
+      (λ e. rw (ne_eqb (get_or l i 0) x e, or_false found) (record { high = omega arith; none = λ z. omega (arith, v.none z, seek_miss l i x h e); some = λ z. v.some z }))
 
-  pub lacking_same : (y : ℕ) → i < length l → OneIf (get_or l i 0) x y → y ≤ most → Lacking l x most (i + 1)
-  lacking_same y h o g = record {
-    high = omega arith;
-    none = λ e. omega (arith, v.none e, seek_miss l i x h (o.miss (omega arith)));
-    some = v.some;
-  }
-
-  pub lacking_end : length l ≤ i → Without l x (eqb most 0)
-  lacking_end h =
-      split≡ most 0
-      (λ e. rw (eq-eqb most 0 e) (record { none = λ z. omega (arith, v.none e, v.high, seek_end l i x h); some = λ z. no_way refl z }))
-      (λ e. rw (ne_eqb most 0 e) (record { none = λ z. no_way z refl; some = λ z. v.some (omega arith) }))
+  pub lacking_end : length l ≤ i → Without l x (not found)
+  lacking_end h = split_b found
+      (λ e. rw e (record { none = λ z. no_way z refl; some = λ z. v.some e }))
+      (λ e. rw e (record { none = λ z. omega (arith, v.none e, v.high, seek_end l i x h); some = λ z. no_way refl z }))
 
 pub record Placing (l : List ℕ) (x best i : ℕ) : Type 0 where
   pub high : i ≤ length l

@@ -2,10 +2,6 @@
 use Rattle.std.specs.Prelude.{ℕ, ◌+◌, ◌<◌, ◌≤◌, ◌≡◌, Bool, true, false, List, length, drop}
 use Rattle.search.specs.Seek.{seek}
 
-pub record OneIf (b x r : ℕ) : Type 0 where
-  pub hit : 0 < r → b ≡ x
-  pub miss : r ≡ 0 → b ≡ x → ⊥
-
 -- no byte of l is x; or one is
 pub record Without (l : List ℕ) (x : ℕ) (r : Bool) : Type 0 where
   pub none : r ≡ true → seek x l ≡ length l

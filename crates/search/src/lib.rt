@@ -3,29 +3,17 @@
 
 ghost use Rattle.std.specs.Prelude.{◌≡◌, ◌+◌, ◌≤◌, length, cond};
 ghost use Rattle.search.specs.Seek.{seek};
-ghost use Rattle.search.specs.Steps.{OneIf, Without, Among, Short, Passed, Sought};
-
-// 1 for a byte that is x, else 0.
-fn one_if(b: u8, x: u8) -> u8
-    ensures { OneIf b x result }
-{
-    if b == x { 1 } else { 0 }
-}
+ghost use Rattle.search.specs.Steps.{Without, Among, Short, Passed, Sought};
 
 // Whether no byte is x. There is no early way out, so that the loop runs on many bytes at once.
 fn is_without(part: &[u8], x: u8) -> bool
     ensures { Without part.now x result }
 {
-    let mut most: u8 = 0;
-    let mut i: usize = 0;
-    while i < part.len() {
-        let y = one_if(part[i], x);
-        i += 1;
-        if most < y {
-            most = y;
-        }
+    let mut found = false;
+    for &b in part {
+        found |= b == x;
     }
-    most == 0
+    !found
 }
 
 // The place of the first x in a part; its length, if there is none. From the end on, so that nothing is jumped over.
@@ -33,9 +21,7 @@ fn place_of(part: &[u8], x: u8) -> usize
     ensures { result ≡ seek x part.now }
 {
     let mut best = part.len();
-    let mut i = part.len();
-    while 0 < i {
-        i -= 1;
+    for i in (0..part.len()).rev() {
         if part[i] == x {
             best = i;
         }
@@ -74,14 +60,12 @@ fn find_few(s: &[u8], from: usize, x: u8) -> usize
     requires { from ≤ length s.now }
     ensures { Sought s.now from x result }
 {
-    let mut i = from;
-    while i < s.len() {
+    for i in from..s.len() {
         if s[i] == x {
             return i;
         }
-        i += 1;
     }
-    i
+    s.len()
 }
 
 // The place of the first x in the last 32 bytes or fewer: the first sixteen of them, and the last.
@@ -109,12 +93,8 @@ fn pass_blocks(s: &[u8], from: usize, x: u8) -> usize
     ensures { Passed s.now from x result }
 {
     let last = s.len() - 32;
-    let mut i = from;
-    while i < last {
-        let j = i + 32;
-        if is_without(&s[i..j], x) {
-            i = j;
-        } else {
+    for i in (from..last).step_by(32) {
+        if !is_without(&s[i..i + 32], x) {
             return i;
         }
     }
@@ -164,12 +144,10 @@ pub fn find_near(s: &[u8], from: usize, x: u8) -> usize
         return find_few(s, from, x);
     }
     let few = from + 24;
-    let mut i = from;
-    while i < few {
+    for i in from..few {
         if s[i] == x {
             return i;
         }
-        i += 1;
     }
-    find_byte(s, i, x)
+    find_byte(s, few, x)
 }

@@ -1,4 +1,5 @@
 -- ACL data in a record, and that its packet is all there, as the code finds it.
+use Rattle.std.specs.Prelude.{Option, Some, None}
 use Prim.Native.Nat.{ℕ, ◌+◌, ◌-◌, ◌/◌, ◌%◌, ◌<◌, ◌≤◌}
 use mathlib.Core.Path.{◌≡◌, refl, sym, ◌∙◌}
 use mathlib.Core.Bool.{Bool, true, false, not, ◌&&◌, ◌||◌}
@@ -11,8 +12,6 @@ use borrow.Author.Tests.{eq-eqb, ne_eqb, le-leb, lt-leb, lt-ltb, le-ltb}
 use Rattle.laws.proofs.Choice.{split_b, split≡, split≤, no_way}
 use Rattle.laws.specs.Numbers.{be32, le16}
 use Rattle.words.specs.Fields.{field_of}
-use Rattle.words.specs.declared.Field.{Field}
-use Rattle.words.specs.declared.Field.TheVariants.{Value, Missing}
 use Rattle.container.specs.Packets.{fragment, h4_packet}
 use Rattle.acl.specs.Reading.{between}
 use Rattle.acl.proofs.Parts.{byte_part, be32_part, be32_drop, drop_part}
@@ -40,7 +39,7 @@ and_false false = refl
 
 -- ---- ACL data
 
-pub monitor_sent : (flags : ℕ) → flags % 65536 ≡ 4 → true ≡ (eqb (flags % 65536) 4 || eqb (flags % 65536) 5)
+pub monitor_sent : (flags : ℕ) → flags % 65536 ≡ 4 → eqb (flags % 65536) 4 ≡ (eqb (flags % 65536) 4 || eqb (flags % 65536) 5)
 monitor_sent flags e = rw (eq-eqb (flags % 65536) 4 e)
 
 pub monitor_else : (flags : ℕ) → (flags % 65536 ≡ 4 → ⊥) → eqb (flags % 65536) 5 ≡ (eqb (flags % 65536) 4 || eqb (flags % 65536) 5)
@@ -50,8 +49,8 @@ module _ (f : List ℕ) (lo end : ℕ) where
   pub h4_some : lo < end → eqb (get_or f lo 0) 2 ≡ eqb (get_or (between f lo end) 0 0) 2
   h4_some h = let z : lo + 0 ≡ lo = omega arith in rw (byte_part f lo (end - lo) 0 (omega arith), z)
 
-  pub h4_none : end ≤ lo → false ≡ eqb (get_or (between f lo end) 0 0) 2
-  h4_none h = let z : end - lo ≡ 0 = omega arith in rw z
+  pub h4_none : end ≤ lo → ltb lo end ≡ eqb (get_or (between f lo end) 0 0) 2
+  h4_none h = let z : end - lo ≡ 0 = omega arith in rw (le-ltb lo end h, z)
 
 module _ (f : List ℕ) (at end datalink : ℕ) (pre : btsnoop_reading.RecordPre f at end) (flags : ℕ) (e : flags ≡ be32 f (at + 8)) where
   flags_part : be32 (between f at end) 8 ≡ flags
@@ -106,9 +105,9 @@ module _ (f : List ℕ) (at end : ℕ) (pre : pcap_reading.RecordPre f at end) w
           (λ l. let z : way ≡ 0 = omega arith in rw (eq-eqb way 0 z) q));
     }
 
-    pub directed_other : 2 ≤ way → DirectedIs f at end false
+    pub directed_other : 2 ≤ way → DirectedIs f at end (ltb way 2)
     unfolding is_acl
-    directed_other g = record { is = λ e. rw (way_part, ne_eqb way 0 (λ z. absurd (omega arith)), ne_eqb way 1 (λ z. absurd (omega arith))) }
+    directed_other g = record { is = λ e. rw (le-ltb way 2 g, way_part, ne_eqb way 0 (λ z. absurd (omega arith)), ne_eqb way 1 (λ z. absurd (omega arith))) }
 
 -- by the case that the format is
 module _ (g : Format) (f : List ℕ) (at end : ℕ) where
@@ -234,19 +233,19 @@ module _ (g : Format) where
   unfolding before_packet
   before_directed x q = rw q
 
-module _ (b : List ℕ) (x : Field) (h : x ≡ field_of b 2) where
+module _ (b : List ℕ) (x : Option ℕ) (h : x ≡ field_of b 2) where
   -- the field is not there, so neither is all of the packet
-  pub data_short : x ≡ Missing → true ≡ lacks_data b
+  pub data_short : x ≡ None → true ≡ lacks_data b
   unfolding field_of lacks_data
   data_short e = split≤ (2 + 2) (length b)
-      (λ l. let z : Value (le16 b 2) ≡ Missing = sym (rw (le-leb (2 + 2) (length b) l) at h) ∙ e in absurd (not_there cc))
+      (λ l. let z : Some (le16 b 2) ≡ None = sym (rw (le-leb (2 + 2) (length b) l) at h) ∙ e in absurd (not_there cc))
       (λ l. rw (lt-leb (4 + le16 b 2) (length b) (omega arith)))
 
-  pub data_there : (n : ℕ) → x ≡ Value n → (m : ℕ) → m ≡ n → ltb (length b) (4 + m) ≡ lacks_data b
+  pub data_there : (n : ℕ) → x ≡ Some n → (m : ℕ) → m ≡ n → ltb (length b) (4 + m) ≡ lacks_data b
   unfolding field_of lacks_data
   data_there n e m em = split≤ (2 + 2) (length b)
-      (λ l. let z : Value (le16 b 2) ≡ Value n = sym (rw (le-leb (2 + 2) (length b) l) at h) ∙ e in let q : le16 b 2 ≡ n = cc in rw (em, ← q) (not_ltb (4 + le16 b 2) (length b)))
-      (λ l. let z : Missing ≡ Value n = sym (rw (lt-leb (2 + 2) (length b) l) at h) ∙ e in absurd (not_there cc))
+      (λ l. let z : Some (le16 b 2) ≡ Some n = sym (rw (le-leb (2 + 2) (length b) l) at h) ∙ e in let q : le16 b 2 ≡ n = cc in rw (em, ← q) (not_ltb (4 + le16 b 2) (length b)))
+      (λ l. let z : None ≡ Some n = sym (rw (lt-leb (2 + 2) (length b) l) at h) ∙ e in absurd (not_there cc))
 
 -- a record of ACL data has the bytes before the packet
 acl_long : (g : Format) (r : List ℕ) → record_head g ≤ length r → is_acl g r ≡ true → before_packet g ≤ length r
@@ -283,8 +282,8 @@ module _ (g : Format) (f : List ℕ) (at end : ℕ) (pre : RecordPre g f at end)
       let z : end - at - n ≡ end - (at + n) = omega arith in
       et ∙ sym (acl_data g (between f at end) (sym h ∙ e) ∙ rw (← q, drop_part f at (end - at) n (omega arith), z))
 
-  pub packet_none : a ≡ false → true ≡ is_none (packet_by g (between f at end))
-  packet_none e = sym (acl_none g (between f at end) (sym h ∙ e))
+  pub packet_none : a ≡ false → not a ≡ is_none (packet_by g (between f at end))
+  packet_none e = rw e (sym (acl_none g (between f at end) (sym h ∙ e)))
 
   pub packet_fits : a ≡ true → (n : ℕ) → n ≡ before_packet g → at + n < 18446744073709551616
   packet_fits e n q = omega (arith, packet_lies e n q, pre.most, pre.small)

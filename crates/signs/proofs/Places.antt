@@ -1,7 +1,6 @@
 -- Walking the records of a file with their places.
 use Prim.Native.Nat.{ℕ, ◌+◌, ◌-◌}
 use mathlib.Core.Path.{◌≡◌, refl, sym, ap, ◌∙◌}
-use mathlib.Core.Bool.{false}
 use mathlib.Core.List.{List, [], ◌∷◌, ◌++◌, map}
 use mathlib.Core.Option.{Option, none, some}
 use native.Mathlib.Omega.{arith}
@@ -12,13 +11,13 @@ use Rattle.container.specs.Packets.{Packet, or_none, packets}
 use Rattle.acl.specs.Reading.{between}
 use Rattle.trace.specs.Formats.{container_of, format_of, file_head, packet_by, records_from, records_by, packets_by}
 use Rattle.trace.proofs.Formats.{records_of, packets_of_law}
-use Rattle.trace.specs.Reader.{step_of, is_record}
+use Rattle.trace.specs.Reader.{step_of}
 use Rattle.trace.specs.Walk.{RecordAt}
-use Rattle.trace.proofs.ReaderLaws.{record_told, none_told}
+use Rattle.trace.proofs.ReaderLaws.{record_told, all_met}
 use Rattle.trace.specs.declared.Container.{Container}
 use Rattle.trace.specs.declared.Format.{Format}
 use Rattle.trace.specs.declared.Step.{Step}
-use Rattle.trace.specs.declared.Step.TheVariants.{Record, Cut, End}
+use Rattle.trace.specs.declared.Step.TheVariants.{Record}
 use Rattle.signs.specs.Places.{Placed, placed, placed_packet, placed_packets, records_at, packets_at}
 
 module _ (g : Format) (f : List ℕ) where
@@ -62,11 +61,8 @@ module _ (g : Format) (f : List ℕ) where
       pub found_record : (e : ℕ) → x ≡ Record e → RecordAt g f at e
       found_record e q = record_told g f at e (sym q ∙ h)
 
-      pub found_cut : (p : ℕ) → x ≡ Cut p → rest_at at ≡ []
-      found_cut p q = rest_none (none_told g f at (rw h at (let z : is_record x ≡ false = rw q in z)))
-
-      pub found_end : x ≡ End → rest_at at ≡ []
-      found_end q = rest_none (none_told g f at (rw h at (let z : is_record x ≡ false = rw q in z)))
+      pub found_none : ((e : ℕ) → x ≡ Record e → ⊥) → rest_at at ≡ []
+      found_none n = rest_none (all_met g f at x h n)
 
 -- ---- without their places they are the records and packets of import
 

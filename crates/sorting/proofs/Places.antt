@@ -3,11 +3,12 @@ use mathlib.Core.Path.{◌≡◌, refl, sym, ap, ◌∙◌}
 use mathlib.Core.Logic.{◌⊎◌, inl, inr, ⊎_elim}
 use mathlib.Core.Bool.{Bool, true, false}
 use mathlib.Core.List.{List, [], ◌∷◌, ◌++◌, append_assoc}
+use Rattle.std.specs.Prelude.{min}
 use Prim.Native.Nat.{ℕ, zero, suc, ◌+◌, ◌-◌, ◌*◌, ◌/◌, ◌<◌, ◌≤◌}
 use native.Mathlib.Nat.{add-zero}
 use native.Mathlib.Omega.{arith}
 use lib.ListN.{length, take, drop, length-drop, drop_of_length-le}
-use lib.Seq.{take_all, take-nil, drop-length}
+use lib.Seq.{take_all, take-nil}
 use Rattle.laws.specs.Numbers.{le32}
 use Rattle.laws.proofs.Choice.{split≤}
 use Rattle.words.specs.Words.{word, put_word}
@@ -21,22 +22,20 @@ use Rattle.sorting.proofs.Comparing.{first_is, first_true, first_below, first_fa
 
 -- ---- the name at a place
 
-module _ (l : List ℕ) (place at : ℕ) (d : at ≡ place) where
-  pub name_none : length l < at + 6 → take (length l - length l) (drop (length l) l) ≡ name_at l place
+module _ (l : List ℕ) (place : ℕ) where
+  pub name_none : length l < place + 6 → [] ≡ name_at l place
   unfolding name_at
-  name_none h = rw (drop_of_length-le l {i = place + 6} (omega arith), drop-length l, take-nil (le32 l place), take-nil (length l - length l))
+  name_none h = rw (drop_of_length-le l {i = place + 6} (omega arith), take-nil (le32 l place))
 
-  module _ (x size : ℕ) (e : x ≡ le32 l at) (f : size ≡ x) where
-    pub name_cut : length l - (at + 6) < size → take (length l - (at + 6)) (drop (at + 6) l) ≡ name_at l place
-    unfolding name_at
-    name_cut h =
-        rw (← d)
-        (take_all (length l - (at + 6)) (drop (at + 6) l) (omega (arith, length-drop (at + 6) l))
-        ∙ sym (take_all (le32 l at) (drop (at + 6) l) (omega (arith, length-drop (at + 6) l))))
-
-    pub name_whole : take (at + 6 + size - (at + 6)) (drop (at + 6) l) ≡ name_at l place
-    unfolding name_at
-    name_whole = let g : at + 6 + size - (at + 6) ≡ le32 l at = omega arith in rw (g, d)
+  pub name_some : (x n : ℕ) → place + 6 ≤ length l → x ≡ le32 l place → n ≡ min x (length l - (place + 6)) → take (place + 6 + n - (place + 6)) (drop (place + 6) l) ≡ name_at l place
+  unfolding name_at
+  name_some x n k e f =
+      split≤ x (length l - (place + 6))
+      (λ h. let g : place + 6 + n - (place + 6) ≡ le32 l place = omega arith in rw g)
+      (λ h. let g : place + 6 + n - (place + 6) ≡ length l - (place + 6) = omega arith in
+      rw g
+      (take_all (length l - (place + 6)) (drop (place + 6) l) (omega (arith, length-drop (place + 6) l))
+      ∙ sym (take_all (le32 l place) (drop (place + 6) l) (omega (arith, length-drop (place + 6) l)))))
 
 -- ---- words
 

@@ -7,7 +7,7 @@ ghost use Rattle.sorting.specs.Steps.{name_at, HeadOf, first_of, HeadIs, Apart, 
 
 use counter::rank_of;
 use lexical::bytes_le;
-use words::{get_le32, get32, put32, wide32};
+use words::{get_le32, get32, put32};
 
 // ---- names compared
 
@@ -15,16 +15,12 @@ use words::{get_le32, get32, put32, wide32};
 pub fn name_of<'a>(names: &'a [u8], place: u32) -> &'a [u8]
     ensures { result.now ≡ name_at names.now place }
 {
-    let at = wide32(place);
-    let end = names.len();
+    let at = place as usize;
     let start = at + 6;
-    if end < start {
-        return &names[end..end];
+    if names.len() < start {
+        return &[];
     }
-    let size = wide32(get_le32(names, at));
-    if end - start < size {
-        return &names[start..end];
-    }
+    let size = (get_le32(names, at) as usize).min(names.len() - start);
     &names[start..start + size]
 }
 
@@ -40,7 +36,7 @@ pub fn head_of(names: &[u8], place: u32) -> Head
     ensures { HeadOf names.now place result }
 {
     Head {
-        place: place,
+        place,
         rank: rank_of(name_of(names, place)),
     }
 }
@@ -49,10 +45,8 @@ pub fn head_of(names: &[u8], place: u32) -> Head
 pub fn is_first(names: &[u8], a: Head, b: Head) -> bool
     ensures { result ≡ first_of names.now a b }
 {
-    let p = a.rank;
-    let q = b.rank;
-    if p != q {
-        return p < q;
+    if a.rank != b.rank {
+        return a.rank < b.rank;
     }
     bytes_le(name_of(names, a.place), name_of(names, b.place))
 }
@@ -68,6 +62,7 @@ fn head_at(names: &[u8], out: &[u8], k: usize) -> Head
 }
 
 // The same, or one that comes after every name where the words end before it.
+// Stays: with a rank past every name's for no name, each turn of a merge asks one question; an Option makes it two.
 fn next_head(names: &[u8], out: &[u8], k: usize, end: usize) -> Head
     requires { 4 * end ≤ length out.now }
     ensures { HeadIs names.now out.now k end result }
@@ -86,11 +81,9 @@ fn copy_words(out: &mut [u8], lo: usize, n: usize, to: usize)
     requires { Apart lo n to × (4 * (lo + n) ≤ length out.old) × (4 * (to + n) ≤ length out.old) }
     ensures { Copies lo n to out.old out.new }
 {
-    let mut i = 0;
-    while i < n {
-        let a = get32(out, lo + i);
-        put32(out, to + i, a);
-        i += 1;
+    for i in 0..n {
+        let place = get32(out, lo + i);
+        put32(out, to + i, place);
     }
 }
 

@@ -16,7 +16,7 @@ use Rattle.search.specs.Seek.{seek}
 use Rattle.spans.proofs.Scanning.{shorter, rest_more}
 use Rattle.spans.specs.Bytewise.{Quiet}
 use Rattle.spans.proofs.Bytewise.{no_end, no_start_law, closes_first}
-use Rattle.spans.specs.Parts.{bit, tally_one, tally_all, Room, CountedIs}
+use Rattle.spans.specs.Parts.{tally_one, tally_all, Room, CountedIs}
 use Rattle.search.specs.Steps.{Sought}
 use Rattle.spans.specs.Scans.{UpTo, ScanPre, Begins, AddedIs, FirstPre, FirstIs, FromPre, OpenPre, OpenIs, ScannedIs}
 use Rattle.spans.specs.declared.Tally.{Tally}
@@ -51,9 +51,9 @@ module _ (l : List ℕ) (i : ℕ) (v : Ending l i) where
   unfolding seek
   ending_miss h e = record { high = omega arith; same = omega (arith, rw (drop_step l i h, ne_eqb (get_or l i 0) 0x3C e) at v.same) }
 
-  pub ending_end : length l ≤ i → i ≡ seek 0x3C l
+  pub ending_end : length l ≤ i → length l ≡ seek 0x3C l
   unfolding seek
-  ending_end h = omega (arith, rw (drop_end l i h) at v.same)
+  ending_end h = omega (arith, v.high, rw (drop_end l i h) at v.same)
 
 -- what stands before an x says where the first is
 seek_before : (x : ℕ) (l : List ℕ) (m : ℕ) → m < length l → get_or l m 0 ≡ x → seek x (take m l) ≡ seek x l
@@ -82,25 +82,25 @@ begins_self x h g = record { yes = λ e z. eqb-true (get_or x 0 0) 0x3E e; no = 
 -- ---- one span more
 
 module _ (x : List ℕ) (t : Tally) where
-  pub one_first : t.frame ≡ 0 → (b : Bool) → b ≡ unpacks_of x → (r : ℕ) → r ≡ bit b → record { count = t.count + 1; bytes = t.bytes + 14 + length x; frame = r } ≡ tally_one t x
+  pub one_known : t.frame ≡ true → record { count = t.count + 1; bytes = t.bytes + 14 + length x; frame = t.frame } ≡ tally_one t x
   unfolding tally_one
-  one_first e b eb r er = rw (eq-eqb t.frame 0 e, er, eb)
+  one_known e = rw e
 
-  pub one_known : (t.frame ≡ 0 → ⊥) → record { count = t.count + 1; bytes = t.bytes + 14 + length x; frame = t.frame } ≡ tally_one t x
+  pub one_first : t.frame ≡ false → (b : Bool) → b ≡ unpacks_of x → record { count = t.count + 1; bytes = t.bytes + 14 + length x; frame = b } ≡ tally_one t x
   unfolding tally_one
-  one_known e = rw (ne_eqb t.frame 0 e)
+  one_first e b eb = rw (e, eb)
 
 module _ (x : List ℕ) (h : ℕ) (t : Tally) where
-  pub added_known : (t.frame ≡ 0 → ⊥) → AddedIs x h t (record { count = t.count + 1; bytes = t.bytes + 14 + h + length x; frame = t.frame })
+  pub added_known : t.frame ≡ true → AddedIs x h t (record { count = t.count + 1; bytes = t.bytes + 14 + h + length x; frame = true })
   unfolding tally_one
   added_known e = record {
-    is = λ b l. (let k : t.bytes + 14 + length (b ++ x) ≡ t.bytes + 14 + h + length x = omega (arith, length-append b x) in rw (k, ne_eqb t.frame 0 e));
+    is = λ b l. (let k : t.bytes + 14 + length (b ++ x) ≡ t.bytes + 14 + h + length x = omega (arith, length-append b x) in rw (k, e));
   }
 
-  pub added_first : ScanPre x h t → t.frame ≡ 0 → (r : Tally) → r ≡ tally_one t x → AddedIs x h t r
+  pub added_first : ScanPre x h t → t.frame ≡ false → (r : Tally) → r ≡ tally_one t x → AddedIs x h t r
   added_first q e r er = record { is = λ b l. er ∙ rw (nil b (l ∙ none)) } where
     none : h ≡ 0
-    none = split≡ h 0 (λ z. z) (λ z. absurd (q.known (omega arith) e))
+    none = split≡ h 0 (λ z. z) (λ z. no_way (q.known (omega arith)) e)
 
 -- ---- the first span
 

@@ -1,5 +1,5 @@
 -- What the functions over one buffer promise.
-use Rattle.std.specs.Prelude.{ℕ, ◌+◌, ◌-◌, ◌*◌, ◌<◌, ◌≤◌, ◌≡◌, Bool, cond, List, [], ◌∷◌, map, length, take, drop, eqb}
+use Rattle.std.specs.Prelude.{ℕ, ◌+◌, ◌-◌, ◌*◌, ◌<◌, ◌≤◌, ◌≡◌, ◌||◌, List, [], ◌∷◌, map, length, take, drop}
 use Rattle.laws.specs.Stores.{Writes}
 use Rattle.items.specs.Items.{Span, span_list}
 use Rattle.mdr.specs.Frame.{unpacks_of}
@@ -33,12 +33,9 @@ pub record NextIs (b : List ℕ) (pos : ℕ) (r : Next) : Type 0 where
 
 -- ---- counting
 
-abbrev pub bit : Bool → ℕ
-bit b = cond b 1 0
-
 -- one span more, of the wire w
 unfoldable pub tally_one : Tally → List ℕ → Tally
-tally_one t w = record { count = t.count + 1; bytes = t.bytes + 14 + length w; frame = cond (eqb t.frame 0) (bit (unpacks_of w)) t.frame }
+tally_one t w = record { count = t.count + 1; bytes = t.bytes + 14 + length w; frame = t.frame || unpacks_of w }
 
 unfoldable pub tally_all : Tally → List (List ℕ) → Tally
 tally_all t [] = t

@@ -4,7 +4,7 @@
 ghost use Rattle.std.specs.Prelude.{◌≡◌, ◌+◌, ◌*◌, ◌≤◌, ◌<◌, length, drop};
 ghost use Rattle.items.specs.Items.{rx_of};
 ghost use Rattle.search.specs.Seek.{seek};
-ghost use Rattle.spans.specs.Parts.{NextIs, Room, bit, tally_one, CountedIs, WritePre, WroteIs};
+ghost use Rattle.spans.specs.Parts.{NextIs, Room, tally_one, CountedIs, WritePre, WroteIs};
 ghost use Rattle.spans.specs.Scans.{UpTo, Begins, ScanPre, AddedIs, FirstPre, FirstIs, FromPre, OpenPre, OpenIs, ScannedIs};
 
 use items::{Direction, put_span};
@@ -12,6 +12,7 @@ use search::{find_byte, find_soon};
 use unpacking::unpacks;
 
 // What stands next in a buffer: a span, with its start and its end; or what is left, from its start on.
+// Stays: each case says where something starts and neither is a failure, so that Option or Result would say less.
 #[derive(Clone, Copy)]
 pub enum Next {
     Span(usize, usize),
@@ -24,14 +25,12 @@ pub enum Next {
 fn few_end(s: &[u8]) -> usize
     ensures { result ≡ seek 0x3C s.now }
 {
-    let mut i = 0;
-    while i < s.len() {
-        if s[i] == 0x3C {
+    for (i, &x) in s.iter().enumerate() {
+        if x == 0x3C {
             return i;
         }
-        i += 1;
     }
-    i
+    s.len()
 }
 
 // How many bytes are to be searched for the first 3C: not the last, if it is one.
@@ -73,13 +72,12 @@ pub fn next_span(buffer: &[u8], pos: usize) -> Next
     Next::Rest(start)
 }
 
-// What is counted of spans: how many, the bytes of their list, and 1 if one of them unpacks. All fields are of one width,
-// so that no padding is copied with them.
+// What is counted of spans: how many, the bytes of their list, and whether one of them unpacks.
 #[derive(Clone, Copy)]
 pub struct Tally {
     pub count: usize,
     pub bytes: usize,
-    pub frame: usize,
+    pub frame: bool,
 }
 
 // What is counted of a buffer, and how long the rest of it is.
@@ -89,30 +87,15 @@ pub struct Counted {
     pub rest: usize,
 }
 
-// 1 if so, else 0.
-fn bit_of(b: bool) -> usize
-    ensures { result ≡ bit b }
-{
-    if b { 1 } else { 0 }
-}
-
 // One span more.
 fn add_span(t: Tally, wire: &[u8]) -> Tally
     requires { Room t (length wire.now) }
     ensures { result ≡ tally_one t wire.now }
 {
-    let n = wire.len();
-    if t.frame == 0 {
-        return Tally {
-            count: t.count + 1,
-            bytes: t.bytes + 14 + n,
-            frame: bit_of(unpacks(wire)),
-        };
-    }
     Tally {
         count: t.count + 1,
-        bytes: t.bytes + 14 + n,
-        frame: t.frame,
+        bytes: t.bytes + 14 + wire.len(),
+        frame: t.frame || unpacks(wire),
     }
 }
 
@@ -162,10 +145,7 @@ pub fn begins(part: &[u8], h: usize) -> bool
     requires { 0 < length part.now }
     ensures { Begins part.now h result }
 {
-    if 0 < h {
-        return true;
-    }
-    part[0] == 0x3E
+    0 < h || part[0] == 0x3E
 }
 
 // One span more, of h bytes held and a part behind them.
@@ -173,14 +153,14 @@ fn add_behind(t: Tally, h: usize, part: &[u8]) -> Tally
     requires { ScanPre part.now h t }
     ensures { AddedIs part.now h t result }
 {
-    if t.frame == 0 {
-        return add_span(t, part);
+    if t.frame {
+        return Tally {
+            count: t.count + 1,
+            bytes: t.bytes + 14 + h + part.len(),
+            frame: true,
+        };
     }
-    Tally {
-        count: t.count + 1,
-        bytes: t.bytes + 14 + h + part.len(),
-        frame: t.frame,
-    }
+    add_span(t, part)
 }
 
 // Counts the span that the first 3C closes, at e.

@@ -9,9 +9,10 @@ use Rattle.words.specs.Words.{word}
 use Rattle.words.specs.Front.{Front}
 use Rattle.words.proofs.Front.{front_word}
 use Rattle.rfcomm.specs.Pieces.{Piece}
-use Rattle.rfcomm.specs.PieceTable.{piece_at, pieces_from, infos_of}
+use Rattle.rfcomm.specs.PieceTable.{piece_at, pieces_from, infos_of, Within}
 use Rattle.rfcomm.proofs.PieceRows.{piece_front, pieces_front, infos_front, within_front}
 use Rattle.split.specs.Rows.{row_of, piece, dlci_at, tail_at, key_at, len_at, bytes_at, stream_of, held_in, newest_of, Linked, Laid}
+use Rattle.split.specs.Walks.{Lying}
 use Rattle.split.specs.declared.Plan.{Plan}
 
 module _ (f u w : List ℕ) (p : Plan) (l : Laid f w p) (s : Front (4 * p.held) u w) where
@@ -57,10 +58,13 @@ module _ (f u w : List ℕ) (p : Plan) (l : Laid f w p) (s : Front (4 * p.held) 
   newest_front k zero h = refl
   newest_front k (suc i) h = rw (key_front i (omega arith), newest_front k i (omega arith))
 
-  linked_front : Linked u p
+  pub linked_front : Linked u p
   linked_front = record {
     before = λ i h. front_word (4 * p.held) u w (p.chain + i) (omega (arith, l.chain)) s ∙ l.linked.before i h ∙ sym (rw (key_front i h) (newest_front (key_at w p i) i (omega arith)));
   }
+
+  within_same : (i : ℕ) → i < p.n → Within f u (row_of p i) (4 * p.held)
+  within_same i h = within_front (4 * p.held) f u w (row_of p i) (4 * p.held) (omega (arith, l.rows)) s (l.within i h)
 
   pub laid_front : length u ≡ length w → Laid f u p
   laid_front e =
@@ -74,5 +78,12 @@ module _ (f u w : List ℕ) (p : Plan) (l : Laid f w p) (s : Front (4 * p.held) 
         many = l.many;
         sum = rw z l.sum;
         room = rw (z, e) l.room;
-        within = λ i h. within_front (4 * p.held) f u w (row_of p i) (4 * p.held) (omega (arith, l.rows)) s (l.within i h);
+        within = within_same;
       }
+
+  -- the tables alone
+  pub lying_front : 4 * (p.ends + p.n) ≤ length u → Lying f u p
+  lying_front e = record { rows = l.rows; chain = l.chain; linked = linked_front; ends = l.ends; words = e; within = within_same }
+
+pub laid_lying : (f w : List ℕ) (p : Plan) → Laid f w p → Lying f w p
+laid_lying f w p l = record { rows = l.rows; chain = l.chain; linked = l.linked; ends = l.ends; words = omega (arith, l.area, l.room); within = l.within }

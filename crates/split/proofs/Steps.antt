@@ -5,8 +5,8 @@ use mathlib.Core.Logic.{◌≢◌}
 use mathlib.Core.List.{List, ◌∷◌, ◌++◌}
 use native.Mathlib.Omega.{arith}
 use native.Mathlib.Numerals.{add-one}
-use lib.ListN.{length, take, drop, length-append}
-use lib.Seq.{sets, length-sets, take_all}
+use lib.ListN.{length, take, drop, length-append, length-drop}
+use lib.Seq.{sets, length-sets, length-take-le, take-take, take_all}
 use Rattle.laws.specs.Keys.{Key}
 use Rattle.laws.proofs.Keys.{split_k, eq_eq_k, ne_eq_k}
 use Rattle.laws.specs.Keyed.{step}
@@ -22,12 +22,12 @@ use Rattle.spans.proofs.Bytewise.{quiet_scanned}
 use Rattle.spans.proofs.Scans.{rest_le}
 use Rattle.split.specs.Last.{lastn}
 use Rattle.split.specs.Rows.{piece, dlci_at, tail_at, key_at, len_at, bytes_at, stream_of, held_in, held_of, stream_to, opened, Fits, joined, capped_length, Laid}
-use Rattle.split.specs.Walks.{PutPre, JoinPre, Joined, Kept, Moved}
-use Rattle.split.proofs.Fronts.{key_front, len_front, bytes_front, stream_front, held_front, laid_front}
+use Rattle.split.specs.Walks.{Row, Lying, PutPre, GatherPre, JoinPre, Joined, Kept, Moved}
+use Rattle.split.proofs.Fronts.{key_front, len_front, bytes_front, stream_front, held_front, lying_front}
 use Rattle.split.specs.declared.Plan.{Plan}
-use Rattle.split.proofs.Backs.{part_sets}
+use Rattle.split.proofs.Backs.{part_sets, sets_drop}
 use Rattle.split.proofs.Lasts.{length_lastn, lastn_lastn, capped_le, capped_back}
-use Rattle.split.proofs.Tables.{piece_key, piece_bytes, stream_mine, stream_other, length_bytes, stream_infos, infos_mono}
+use Rattle.split.proofs.Tables.{lying_row, piece_key, piece_bytes, stream_mine, stream_other, length_bytes, stream_infos, infos_mono}
 
 pub own_key : (w : List ℕ) (p : Plan) (i : ℕ) → dlci_at w p i ≡ p.dlci → key_at w p i ≡ p.dlci ∷ tail_at w p i
 unfolding key_at
@@ -137,41 +137,67 @@ module _ (f w : List ℕ) (p : Plan) (i h : ℕ) (q : JoinPre f w p i h) where
   join_fits : held_of w p i ≤ length (stream_to f w p i)
   join_fits = rw q.held at q.fits
 
-  module _ (v : List ℕ) (ev : v ≡ sets w p.area (lastn h (stream_to f w p i))) where
-    join_long : length v ≡ length w
-    join_long = ap length ev ∙ length-sets w p.area (lastn h (stream_to f w p i))
+  -- the tables, and the area behind them
+  module _ (u : List ℕ) (eu : u ≡ take p.area w) (a : List ℕ) (ea : a ≡ drop p.area w) where
+    tables_long : length u ≡ p.area
+    tables_long = ap length eu ∙ length-take-le p.area w (omega (arith, q.laid.room))
 
-    join_front : Front (4 * p.held) v w
-    join_front = rw ev (front_sets (4 * p.held) (lastn h (stream_to f w p i)) w p.area (omega (arith, q.laid.ends, q.laid.area)))
+    area_long : length a ≡ length w - p.area
+    area_long = ap length ea ∙ length-drop p.area w
 
-    join_laid : Laid f v p
-    join_laid = laid_front f v w p q.laid join_front join_long
+    tables_front : Front (4 * p.held) u w
+    tables_front = rw eu (record { same = take-take (4 * p.held) p.area w (omega (arith, q.laid.ends, q.laid.area)) })
 
-    module _ (n : ℕ) (en : n ≡ len_at v p i) where
-      join_size : h + n ≡ length (joined f w p i)
-      join_size = sym (length_joined f w p i q.laid q.row join_fits ∙ omega (arith, q.held, len_front f v w p q.laid join_front i q.row))
+    tables_lying : Lying f u p
+    tables_lying = lying_front f u w p q.laid tables_front (omega (arith, q.laid.area, tables_long))
 
-      pub join_put : PutPre f v p i 0 n (p.area + h)
+    tables_stream : stream_to f u p i ≡ stream_to f w p i
+    tables_stream = rw (key_front f u w p q.laid tables_front i q.row, stream_front f u w p q.laid tables_front i (key_at w p i) (omega (arith, q.row)))
+
+    pub join_row : Row u p i
+    join_row = lying_row f u p i tables_lying q.row
+
+    join_size : h + len_at w p i ≡ length (joined f w p i)
+    join_size = sym (length_joined f w p i q.laid q.row join_fits ∙ omega (arith, q.held))
+
+    pub join_gather : GatherPre f u p i h a 0
+    join_gather = record {
+      lying = tables_lying;
+      row = q.row;
+      come = rw tables_stream q.fits;
+      fits = omega (arith, area_long, (joined_small f w p i q.laid q.row join_fits).1, join_size);
+    }
+
+    module _ (b : List ℕ) (eb : b ≡ sets a 0 (lastn h (stream_to f u p i))) (n : ℕ) (en : n ≡ len_at u p i) where
+      join_own : n ≡ len_at w p i
+      join_own = en ∙ len_front f u w p q.laid tables_front i q.row
+
+      pub join_put : PutPre f u p i 0 n b h
       join_put = record {
-        laid = join_laid;
+        lying = tables_lying;
         row = q.row;
         part = omega arith;
-        above = omega (arith, q.laid.ends, q.laid.area);
-        fits = omega (arith, (joined_small f w p i q.laid q.row join_fits).1, join_size, join_long);
+        fits = omega (arith, ap length eb ∙ length-sets a 0 (lastn h (stream_to f u p i)), area_long, (joined_small f w p i q.laid q.row join_fits).1, join_size, join_own);
       }
 
-      pub join_done : (u : List ℕ) → u ≡ sets v (p.area + h) (take n (drop 0 (bytes_at f v p i))) → Joined f w p i u (h + n)
+      pub join_small : h + n ≤ 1048576
+      join_small = omega (arith, (joined_small f w p i q.laid q.row join_fits).0, join_size, join_own)
+
+      pub join_done : (d : List ℕ) → d ≡ sets b h (take n (drop 0 (bytes_at f u p i))) → Joined f w p i (u ++ d) (h + n)
       unfolding joined
-      join_done u eu =
-          let B : bytes_at f v p i ≡ bytes_at f w p i = bytes_front f v w p q.laid join_front i q.row in
-          let t : take n (bytes_at f v p i) ≡ bytes_at f w p i = rw B (take_all n (bytes_at f w p i) (omega (arith, length_bytes f w p q.laid i q.row, len_front f v w p q.laid join_front i q.row))) in
-          let y : length (lastn h (stream_to f w p i)) ≡ h = length_lastn h (stream_to f w p i) q.fits in
+      join_done d ed =
+          let L : List ℕ = lastn h (stream_to f w p i) in
+          let B : List ℕ = bytes_at f w p i in
           let s = joined_small f w p i q.laid q.row join_fits in
+          let t : take n (bytes_at f u p i) ≡ B = rw (bytes_front f u w p q.laid tables_front i q.row) (take_all n B (omega (arith, length_bytes f w p q.laid i q.row, join_own))) in
+          let y : 0 + length L ≡ h = omega (arith, length_lastn h (stream_to f w p i) q.fits) in
+          let x : d ≡ sets a 0 (L ++ B) = rw (t, eb, tables_stream) at ed ∙ sym (rw y at (sets_append a 0 L B)) in
+          let z : length (L ++ B) ≡ length (joined f w p i) = rw q.held in
           record {
-            put = rw (t, ev) at eu ∙ rw (← q.held) (sym (rw y at (sets_append w p.area (lastn h (stream_to f w p i)) (bytes_at f w p i))));
-            size = join_size;
-            fits = omega (arith, s.1, join_size);
-            small = omega (arith, s.0, join_size);
+            put = rw (← q.held, eu, x, ea) (sets_drop w p.area (L ++ B) (omega (arith, s.1, z)));
+            size = rw join_own join_size;
+            fits = omega (arith, s.1, join_size, join_own);
+            small = omega (arith, s.0, join_size, join_own);
           }
 
 module _ (f w : List ℕ) (p : Plan) (i : ℕ) (v : List ℕ) (n : ℕ) (j : Joined f w p i v n) where

@@ -1,27 +1,27 @@
 -- The table of pieces: the newest piece of a key, one piece more, lengths.
 use Prim.Native.Nat.{ℕ, zero, suc, ◌+◌, ◌-◌, ◌*◌, ◌<◌, ◌≤◌}
-use mathlib.Core.Path.{◌≡◌, refl, sym, ap, ◌∙◌}
+use mathlib.Core.Path.{◌≡◌, refl, sym, ◌∙◌}
 use mathlib.Core.Bool.{Bool, true, false, cond}
 use mathlib.Core.List.{List, ◌++◌, append-nil}
 use native.Mathlib.Omega.{arith}
 use lib.ListN.{length, take, drop, length-append, length-drop}
 use lib.Seq.{length-take-le}
+use Rattle.std.specs.Prelude.{Option, None, Some, SomeIff}
 use Rattle.laws.proofs.Choice.{split_b, split≡}
 use Rattle.laws.specs.Keys.{Key, eq_k}
 use Rattle.laws.proofs.Keys.{split_k, eq_k_true, eq_eq_k, ne_eq_k}
 use Rattle.words.specs.Words.{word}
-use Rattle.words.specs.Front.{Front}
 use Rattle.rfcomm.specs.PieceTable.{piece_at, infos_of}
 use Rattle.split.specs.Rows.{piece, tail_at, key_at, len_at, start_at, in_work, bytes_at, stream_of, held_in, held_of, newest_of, Laid}
-use Rattle.split.specs.Walks.{Row, Chain, Earlier}
-use Rattle.split.proofs.Fronts.{key_front, newest_front}
+use Rattle.split.specs.Walks.{Row, Lying, Chain, Earlier, one_more}
+use Rattle.split.proofs.Fronts.{laid_lying}
 use Rattle.split.specs.declared.Plan.{Plan}
 
-pub laid_row : (f w : List ℕ) (p : Plan) (i : ℕ) → Laid f w p → i < p.n → Row w p i
-laid_row f w p i l h = record { rows = l.rows; ends = l.ends; words = omega (arith, l.area, l.room); row = h }
+pub lying_row : (f w : List ℕ) (p : Plan) (i : ℕ) → Lying f w p → i < p.n → Row w p i
+lying_row f w p i l h = record { rows = l.rows; ends = l.ends; words = l.words; row = h }
 
-pub laid_chain : (f w : List ℕ) (p : Plan) (i : ℕ) → Laid f w p → i < p.n → Chain w p i
-laid_chain f w p i l h = record { row = laid_row f w p i l h; chain = l.chain; linked = l.linked }
+pub lying_chain : (f w : List ℕ) (p : Plan) (i : ℕ) → Lying f w p → i < p.n → Chain w p i
+lying_chain f w p i l h = record { row = lying_row f w p i l h; chain = l.chain; linked = l.linked }
 
 -- ---- the newest piece of a key
 
@@ -31,13 +31,13 @@ module _ (w : List ℕ) (p : Plan) (k : Key) where
   newest_less zero = omega arith
   newest_less (suc n) = split_b (eq_k (key_at w p n) k) (λ e. rw e (omega arith)) (λ e. rw e (omega (arith, newest_less n)))
 
-  pub newest_mine : (n : ℕ) → 0 < newest_of (λ j. key_at w p j) k n → key_at w p (newest_of (λ j. key_at w p j) k n - 1) ≡ k
+  pub newest_mine : (n j : ℕ) → newest_of (λ i. key_at w p i) k n ≡ suc j → key_at w p j ≡ k
   unfolding newest_of
-  newest_mine zero h = absurd (omega arith)
-  newest_mine (suc n) h =
+  newest_mine zero j h = absurd (omega arith)
+  newest_mine (suc n) j h =
       split_b (eq_k (key_at w p n) k)
-      (λ e. let z : suc n - 1 ≡ n = omega arith in rw (e, z) (eq_k_true (key_at w p n) k e))
-      (λ e. rw e (newest_mine n (rw e at h)))
+      (λ e. let z : n ≡ j = omega (arith, rw e at h) in rw z at (eq_k_true (key_at w p n) k e))
+      (λ e. newest_mine n j (rw e at h))
 
   -- what pieces with other keys do not change is the same from the newest on
   newest_same : {A : Type 0} (g : ℕ → A) → ((j : ℕ) → (key_at w p j ≡ k → ⊥) → g (suc j) ≡ g j) → (n : ℕ) → g n ≡ g (newest_of (λ j. key_at w p j) k n)
@@ -48,31 +48,32 @@ module _ (w : List ℕ) (p : Plan) (k : Key) where
 pub earlier_is : (w : List ℕ) (p : Plan) (i : ℕ) → Chain w p i → (r : ℕ) → r ≡ word w (p.chain + i) → Earlier w p i r
 earlier_is w p i c r e =
     let z : r ≡ newest_of (λ j. key_at w p j) (key_at w p i) i = e ∙ c.linked.before i c.row.row in
-    record { newest = z; less = rw z (newest_less w p (key_at w p i) i); mine = λ h. rw z (newest_mine w p (key_at w p i) i (rw z at h)) }
+    record { newest = z; less = rw z (newest_less w p (key_at w p i) i); mine = λ j h. newest_mine w p (key_at w p i) i j (sym z ∙ h) }
 
-pub earlier_front : (f u w : List ℕ) (p : Plan) → Laid f w p → Front (4 * p.held) u w → (i : ℕ) → i < p.n → (r : ℕ) → Earlier u p i r → Earlier w p i r
-earlier_front f u w p l s i h r b =
-    let k : key_at u p i ≡ key_at w p i = key_front f u w p l s i h in
-    record {
-      newest = b.newest ∙ rw k (newest_front f u w p l s (key_at w p i) i (omega arith));
-      less = b.less;
-      mine = λ z. sym (key_front f u w p l s (r - 1) (omega (arith, b.less))) ∙ b.mine z ∙ k;
-    }
+pub less_one : (x : ℕ) (r : Option ℕ) → SomeIff r (1 ≤ x) (x - 1) → one_more r ≡ x
+unfolding one_more
+less_one x None h = split≡ x 0 (λ e. sym e) (λ e. absurd (h (omega arith)))
+less_one x (Some j) h = omega (arith, h.0, h.1)
 
-module _ (w : List ℕ) (p : Plan) (i r : ℕ) (b : Earlier w p i r) where
-  held_back : held_of w p i ≡ held_in w p r (key_at w p i)
+module _ (w : List ℕ) (p : Plan) (i : ℕ) (o : Option ℕ) (b : Earlier w p i (one_more o)) where
+  held_back : held_of w p i ≡ held_in w p (one_more o) (key_at w p i)
   unfolding held_in
   held_back = rw b.newest (newest_same w p (key_at w p i) (λ j. held_in w p j (key_at w p i)) (λ j n. rw (ne_eq_k (key_at w p j) (key_at w p i) n)) i)
 
-  pub held_none : r ≡ 0 → 0 ≡ held_of w p i
-  unfolding held_in
+  pub held_none : o ≡ None → 0 ≡ held_of w p i
+  unfolding held_in one_more
   held_none z = sym (rw z at held_back)
 
-  pub held_newest : (r ≡ 0 → ⊥) → (x : ℕ) → x ≡ word w (p.held + (r - 1)) → x ≡ held_of w p i
-  unfolding held_in
-  held_newest n x e =
-      let z : r ≡ suc (r - 1) = omega arith in
-      e ∙ sym (held_back ∙ ap (λ (n : ℕ). held_in w p n (key_at w p i)) z ∙ rw (eq_eq_k (key_at w p (r - 1)) (key_at w p i) (b.mine (omega arith))))
+  module _ (j : ℕ) (z : o ≡ Some j) where
+    pub before_less : j < i
+    unfolding one_more
+    before_less = let b' = rw z at b.less in omega arith
+
+    pub held_newest : (x : ℕ) → x ≡ word w (p.held + j) → x ≡ held_of w p i
+    unfolding held_in one_more
+    held_newest x e =
+        let m : key_at w p j ≡ key_at w p i = b.mine j (rw z) in
+        e ∙ sym ((rw z at held_back) ∙ rw (eq_eq_k (key_at w p j) (key_at w p i) m))
 
 -- ---- one piece more
 
@@ -103,14 +104,18 @@ unfolding infos_of
 infos_mono w b i zero h = let z : i ≡ 0 = omega arith in rw z (omega arith)
 infos_mono w b i (suc n) h = split≡ i (suc n) (λ e. rw e (omega arith)) (λ e. omega (arith, infos_mono w b i n (omega arith)))
 
-module _ (f w : List ℕ) (p : Plan) (l : Laid f w p) where
+module _ (f w : List ℕ) (p : Plan) (l : Lying f w p) where
   part_long : (t : Bool) (a n : ℕ) → a + n ≤ cond t (4 * p.held) (length f) → length (take n (drop a (cond t w f))) ≡ n
-  part_long true a n h = length-take-le n (drop a w) (simp length-drop (omega (arith, l.ends, l.area, l.room)))
+  part_long true a n h = length-take-le n (drop a w) (simp length-drop (omega (arith, l.ends, l.words)))
   part_long false a n h = length-take-le n (drop a f) (simp length-drop (omega arith))
 
-  pub length_bytes : (i : ℕ) → i < p.n → length (bytes_at f w p i) ≡ len_at w p i
+  pub length_lying : (i : ℕ) → i < p.n → length (bytes_at f w p i) ≡ len_at w p i
   unfolding bytes_at
-  length_bytes i h = part_long (in_work w p i) (start_at w p i) (len_at w p i) (l.within i h).inside
+  length_lying i h = part_long (in_work w p i) (start_at w p i) (len_at w p i) (l.within i h).inside
+
+module _ (f w : List ℕ) (p : Plan) (l : Laid f w p) where
+  pub length_bytes : (i : ℕ) → i < p.n → length (bytes_at f w p i) ≡ len_at w p i
+  length_bytes = length_lying f w p (laid_lying f w p l)
 
   pub stream_infos : (i : ℕ) (k : Key) → i ≤ p.n → length (stream_of f w p i k) ≤ infos_of w p.rows i
   unfolding stream_of infos_of

@@ -1,11 +1,12 @@
 -- What the functions of both walks ask for and promise.
-use Rattle.std.specs.Prelude.{ℕ, ◌+◌, ◌-◌, ◌*◌, ◌<◌, ◌≤◌, ◌≡◌, List, length}
+use Rattle.std.specs.Prelude.{ℕ, suc, Option, None, Some, ◌+◌, ◌*◌, ◌<◌, ◌≤◌, ◌≡◌, List, length}
 use Rattle.std.proofs.lemmas.List.Edits.{sets}
 use Rattle.words.specs.Words.{word}
 use Rattle.words.specs.Front.{Front}
 use Rattle.spans.specs.Scan.{rest_of}
 use Rattle.search.specs.Seek.{seek}
-use Rattle.split.specs.Rows.{dlci_at, key_at, len_at, start_at, bytes_at, held_of, stream_to, joined, capped_length, newest_of, Linked, Laid}
+use Rattle.rfcomm.specs.PieceTable.{Within}
+use Rattle.split.specs.Rows.{row_of, dlci_at, key_at, len_at, start_at, bytes_at, held_of, stream_to, joined, capped_length, newest_of, Linked, Laid}
 use Rattle.split.specs.declared.Plan.{Plan}
 
 -- ---- one piece
@@ -34,34 +35,48 @@ pub record LinkedTo (w : List ℕ) (p : Plan) (u : List ℕ) : Type 0 where
   pub linked : Linked u p
   pub front : Front (4 * p.chain) u w
 
+-- the word of a piece that may be missing: one more than its number, or 0
+unfoldable pub one_more : Option ℕ → ℕ
+one_more None = 0
+one_more (Some j) = suc j
+
 -- one more than the piece of its key before piece i, or 0
 pub record Earlier (w : List ℕ) (p : Plan) (i r : ℕ) : Type 0 where
   pub newest : r ≡ newest_of (λ j. key_at w p j) (key_at w p i) i
   pub less : r ≤ i
-  pub mine : 0 < r → key_at w p (r - 1) ≡ key_at w p i
+  pub mine : (j : ℕ) → r ≡ suc j → key_at w p j ≡ key_at w p i
 
 pub record StartIs (w : List ℕ) (p : Plan) (i r : ℕ) : Type 0 where
   pub at : r ≡ start_at w p i
   pub small : r < 4294967296
 
+-- the tables lie in w, the linked pieces first, and below them what was joined; w may end behind them, so that there is no area
+pub record Lying (f w : List ℕ) (p : Plan) : Type 0 where
+  pub rows : p.rows + 8 * p.n ≤ p.held
+  pub chain : p.chain + p.n ≤ p.held
+  pub linked : Linked w p
+  pub ends : p.held + p.n ≤ p.ends
+  pub words : 4 * (p.ends + p.n) ≤ length w
+  pub within : (i : ℕ) → i < p.n → Within f w (row_of p i) (4 * p.held)
+
 pub record Placed (f w : List ℕ) (p : Plan) (i : ℕ) : Type 0 where
-  pub laid : Laid f w p
+  pub lying : Lying f w p
   pub row : i < p.n
 
--- m bytes of the piece j from skip on, to a place above the tables
-pub record PutPre (f w : List ℕ) (p : Plan) (j skip m to : ℕ) : Type 0 where
-  pub laid : Laid f w p
+-- m bytes of the piece j from skip on, to a place in out
+pub record PutPre (f w : List ℕ) (p : Plan) (j skip m : ℕ) (out : List ℕ) (to : ℕ) : Type 0 where
+  pub lying : Lying f w p
   pub row : j < p.n
   pub part : skip + m ≤ len_at w p j
-  pub above : 4 * p.held ≤ to
-  pub fits : to + m ≤ length w
+  pub fits : to + m ≤ length out
 
 -- ---- the buffer of a key
 
-pub record GatherPre (f w : List ℕ) (p : Plan) (i h : ℕ) : Type 0 where
-  pub laid : Laid f w p
+pub record GatherPre (f w : List ℕ) (p : Plan) (i h : ℕ) (out : List ℕ) (at : ℕ) : Type 0 where
+  pub lying : Lying f w p
   pub row : i < p.n
-  pub fits : h ≤ length (stream_to f w p i)
+  pub come : h ≤ length (stream_to f w p i)
+  pub fits : at + h ≤ length out
 
 pub record JoinPre (f w : List ℕ) (p : Plan) (i h : ℕ) : Type 0 where
   pub laid : Laid f w p

@@ -10,10 +10,10 @@ ghost use Rattle.std.specs.Prelude.{◌≡◌, ◌+◌, ◌≤◌, length, take,
 ghost use Rattle.std.proofs.lemmas.List.Edits.{sets};
 ghost use Rattle.split.specs.Last.{lastn};
 ghost use Rattle.split.specs.Rows.{len_at, in_work, bytes_at, held_of, stream_to};
-ghost use Rattle.split.specs.Walks.{Row, LinkRoom, LinkedTo, Chain, Earlier, StartIs, Placed, PutPre, GatherPre, JoinPre, Joined};
+ghost use Rattle.split.specs.Walks.{Row, LinkRoom, LinkedTo, Chain, Earlier, one_more, StartIs, Placed, PutPre, GatherPre, JoinPre, Joined};
 
 use classes::{Rows, link_all};
-use words::{copy_to, get32, least, part};
+use words::{copy_to, get32, part};
 
 // Where the tables lie in work: the pieces, what links them, the lengths held and the places of 3C by words, the area by
 // bytes. And the DLCI.
@@ -54,12 +54,12 @@ fn is_joined(w: &[u8], p: Plan, i: usize) -> bool
     get32(w, p.rows + 8 * i + 5) / 65536 == 1
 }
 
-// One more than the piece of its key before piece i; 0 if there is none.
-pub fn earlier(w: &[u8], p: Plan, i: usize) -> usize
+// The piece of its key before piece i, if there is one. The word has one more than its number.
+fn earlier(w: &[u8], p: Plan, i: usize) -> Option<usize>
     requires { Chain w.now p i }
-    ensures { Earlier w.now p i result }
+    ensures { Earlier w.now p i (one_more result) }
 {
-    get32(w, p.chain + i) as usize
+    (get32(w, p.chain + i) as usize).checked_sub(1)
 }
 
 // The length held after the newest piece before i that has the key of i.
@@ -67,11 +67,10 @@ pub fn held_before(w: &[u8], p: Plan, i: usize) -> usize
     requires { Chain w.now p i }
     ensures { result ≡ held_of w.now p i }
 {
-    let j = earlier(w, p, i);
-    if j == 0 {
-        return 0;
+    match earlier(w, p, i) {
+        Some(j) => get32(w, p.held + j) as usize,
+        None => 0,
     }
-    get32(w, p.held + (j - 1)) as usize
 }
 
 // ---- the pieces linked, before all else
@@ -106,48 +105,48 @@ pub fn piece<'a>(file: &'a [u8], w: &'a [u8], p: Plan, i: usize) -> &'a [u8]
     part(file, start, n)
 }
 
-// ---- the buffer of a key, put together in the area
-
-// Copies n bytes inside w, upwards.
-fn copy_in(w: &mut [u8], from: usize, n: usize, to: usize)
-    requires n_bound { from + n ≤ to }
-    requires n_in_bounds { to + n ≤ length w.old }
-    ensures { w.new ≡ sets w.old to (take n (drop from w.old)) }
+// Copies m bytes of piece j, from skip on, to a place in out.
+pub fn put_part<'a>(
+    file: &'a [u8],
+    w: &'a [u8],
+    p: Plan,
+    j: usize,
+    skip: usize,
+    m: usize,
+    out: &mut [u8],
+    to: usize,
+)
+    requires { PutPre file.now w.now p j skip m out.old to }
+    ensures { out.new ≡ sets out.old to (take m (drop skip (bytes_at file.now w.now p j))) }
 {
-    let mut i = 0;
-    while i < n {
-        w[to + i] = w[from + i];
-        i += 1;
-    }
+    copy_to(part(piece(file, w, p, j), skip, m), out, to);
 }
 
-// Copies m bytes of piece j, from skip on, to a place.
-fn put_bytes(file: &[u8], w: &mut [u8], p: Plan, j: usize, skip: usize, m: usize, to: usize)
-    requires { PutPre file.now w.old p j skip m to }
-    ensures { w.new ≡ sets w.old to (take m (drop skip (bytes_at file.now w.old p j))) }
-{
-    let start = start_of(w, p, j) + skip;
-    if is_joined(w, p, j) {
-        copy_in(w, start, m, to);
-        return;
-    }
-    let end = start + m;
-    copy_to(&file[start..end], w, to);
-}
+// ---- the buffer of a key
 
-// Puts the last h bytes of what came under the key of i before i into the area: piece by piece, the newest first.
-fn gather(file: &[u8], w: &mut [u8], p: Plan, i: usize, h: usize)
-    requires { GatherPre file.now w.old p i h }
-    ensures { w.new ≡ sets w.old p.area (lastn h (stream_to file.now w.old p i)) }
+// Puts the last h bytes of what came under the key of i before i to a place in out: piece by piece, the newest first.
+pub fn gather<'a>(
+    file: &'a [u8],
+    w: &'a [u8],
+    p: Plan,
+    i: usize,
+    h: usize,
+    out: &mut [u8],
+    at: usize,
+)
+    requires { GatherPre file.now w.now p i h out.old at }
+    ensures { out.new ≡ sets out.old at (lastn h (stream_to file.now w.now p i)) }
 {
-    let mut j = earlier(w, p, i);
+    let mut j = i;
     let mut left = h;
     while 0 < left {
-        let k = j - 1;
+        let Some(k) = earlier(w, p, j) else {
+            return;
+        };
         let n = length_of(w, p, k);
-        let m = least(left, n);
-        j = earlier(w, p, k);
-        put_bytes(file, w, p, k, n - m, m, p.area + left - m);
+        let m = left.min(n);
+        put_part(file, w, p, k, n - m, m, out, at + left - m);
+        j = k;
         left -= m;
     }
 }
@@ -157,8 +156,9 @@ pub fn join(file: &[u8], w: &mut [u8], p: Plan, i: usize, h: usize) -> usize
     requires { JoinPre file.now w.old p i h }
     ensures { Joined file.now w.old p i w.new result }
 {
-    gather(file, w, p, i, h);
-    let n = length_of(w, p, i);
-    put_bytes(file, w, p, i, 0, n, p.area + h);
+    let (tables, area) = w.split_at_mut(p.area);
+    gather(file, tables, p, i, h, area, 0);
+    let n = length_of(tables, p, i);
+    put_part(file, tables, p, i, 0, n, area, h);
     h + n
 }

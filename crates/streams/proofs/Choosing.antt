@@ -2,22 +2,20 @@
 use Prim.Native.Nat.{ℕ, zero, suc, ◌+◌, ◌-◌, ◌*◌, ◌/◌, ◌<◌, ◌≤◌}
 use mathlib.Core.Path.{◌≡◌, refl, sym, ap, ◌∙◌}
 use mathlib.Core.Bool.{Bool, true, false, cond, ◌&&◌}
-use mathlib.Core.List.{List, [], ◌∷◌, map}
+use mathlib.Core.List.{List, map}
 use mathlib.Core.Option.{some}
 use native.Mathlib.Omega.{arith}
 use native.Mathlib.Numerals.{add-one}
 use lib.ListN.{length, get_or, set, replicate, length-set}
 use lib.Seq.{get_or-set_other}
 use lib.Dec.{eqb}
-use Rattle.laws.proofs.Choice.{split_b, split≡}
+use Rattle.laws.proofs.Choice.{split≡, no_way}
 use Rattle.words.specs.Words.{word}
 use Rattle.words.specs.Front.{Front}
 use Rattle.words.proofs.Front.{front_refl, front_then, front_word}
 use Rattle.rfcomm.specs.Pieces.{Piece}
 use Rattle.rfcomm.specs.PieceTable.{piece_at, pieces_from, Within}
 use Rattle.rfcomm.proofs.PieceRows.{pieces_front}
-use Rattle.laws.proofs.Lists.{get_d_zeros}
-use Rattle.spans.specs.Parts.{bit}
 use Rattle.spans.specs.Spans.{on_dlci}
 use Rattle.split.specs.Rows.{all, tail_at, key_at, Linked, Laid}
 use Rattle.split.proofs.Fronts.{laid_front}
@@ -25,10 +23,9 @@ use Rattle.split.specs.declared.Plan.{Plan}
 use Rattle.measuring.specs.Counting.{CountIs}
 use Rattle.measuring.specs.declared.Sums.{Sums}
 use Rattle.outcome.specs.Import.{on_channel, first, has_frame, chosen}
-use Rattle.streams.specs.Streams.{channel_of, plan_of, table_pieces, Tabled, Ready, below, Accountable, stream_summed, stream_of, choice_of, Chooses}
-use Rattle.streams.specs.declared.Channel.{Channel}
+use Rattle.streams.specs.Streams.{channel_of, plan_of, table_pieces, Tabled, Ready, below, Accountable, stream_summed, stream_of, choice_of, Chooses, Channel}
+use Rattle.std.specs.Prelude.{None, Some}
 use Rattle.streams.specs.declared.Stream.{Stream}
-use Rattle.streams.specs.declared.Choice.TheVariants.{Nothing, Chosen}
 use Rattle.streams.proofs.Summing.{accountable, stream_summed_law}
 
 -- ---- where the tables lie
@@ -91,46 +88,46 @@ Fit channel ps d = on_channel (channel_of channel) d && has_frame ps d
 abbrev pub dlcis : List ℕ → List ℕ → ℕ → ℕ → List ℕ
 dlcis f w n i = map (λ p. p.dlci) (pieces_from f w (5 * (length f / 4)) i (n - i))
 
-pub record Choosing (f w₀ : List ℕ) (n : ℕ) (channel : Channel) (w tried : List ℕ) (i : ℕ) : Type 0 where
+pub record Choosing (f w₀ : List ℕ) (n : ℕ) (channel : Channel) (w : List ℕ) (tried : List Bool) (i : ℕ) : Type 0 where
   pub within : i ≤ n
   pub long : length w ≡ length w₀
   pub front : Front (below f n) w w₀
   pub size : length tried ≡ 64
-  pub bad : (e : ℕ) → (get_or tried e 0 ≡ 0 → ⊥) → has_frame (table_pieces f w₀ n) e ≡ false
+  pub bad : (e : ℕ) → get_or tried e false ≡ true → has_frame (table_pieces f w₀ n) e ≡ false
   pub same : first (Fit channel (table_pieces f w₀ n)) (dlcis f w₀ n i) ≡ chosen (channel_of channel) (table_pieces f w₀ n)
 
-pub get_d_out : (l : List ℕ) (e : ℕ) → length l ≤ e → 0 ≡ get_or l e 0
-get_d_out [] e h = refl
-get_d_out (x ∷ l) zero h = absurd (omega arith)
-get_d_out (x ∷ l) (suc e) h = get_d_out l e (omega arith)
+untried : (n e : ℕ) → get_or (replicate {0} {A = Bool} n false) e false ≡ false
+untried zero e = refl
+untried (suc n) zero = refl
+untried (suc n) (suc e) = untried n e
 
-pub choosing_start : (f w : List ℕ) (n : ℕ) (channel : Channel) → Choosing f w n channel w (replicate {0} {A = ℕ} 64 0) 0
+pub choosing_start : (f w : List ℕ) (n : ℕ) (channel : Channel) → Choosing f w n channel w (replicate {0} {A = Bool} 64 false) 0
 unfolding chosen
 choosing_start f w n channel =
     let z : n - 0 ≡ n = omega arith in
-    record { within = omega arith; long = refl; front = front_refl (below f n) w; size = refl; bad = λ e h. absurd (h (get_d_zeros 64 e)); same = rw z }
+    record { within = omega arith; long = refl; front = front_refl (below f n) w; size = refl; bad = λ e h. no_way h (untried 64 e); same = rw z }
 
-module _ (f w₀ : List ℕ) (n : ℕ) (channel : Channel) (w tried : List ℕ) (i : ℕ) (v : Choosing f w₀ n channel w tried i) where
-  pub choosing_end : n ≤ i → Chooses f w₀ n channel w Nothing
+module _ (f w₀ : List ℕ) (n : ℕ) (channel : Channel) (w : List ℕ) (tried : List Bool) (i : ℕ) (v : Choosing f w₀ n channel w tried i) where
+  pub choosing_end : n ≤ i → Chooses f w₀ n channel w None
   unfolding first pieces_from choice_of
   choosing_end h =
       let z : n - i ≡ 0 = omega arith in
       record { chooses = rw (← (rw z at v.same)); front = v.front; told = λ s e. impossible e; small = λ s e. impossible e } where
-        impossible : {G : Type 0} {s : Stream} → Nothing ≡ Chosen s → G
+        impossible : {G : Type 0} {s : Stream} → None ≡ Some s → G
         impossible e = let y : ◌≡◌ {A = ℕ} 0 1 = cc in absurd (omega arith)
 
   module _ (t : Ready f w₀ n) (h : i < n) (d : ℕ) (ed : d ≡ word w (5 * (length f / 4) + 8 * i)) where
     mine : word w₀ (5 * (length f / 4) + 8 * i) ≡ d
     mine = sym (dlci_same f w₀ n t w v.front i d h ed)
 
-    choosing_small : d < 64
+    pub choosing_small : d < 64
     choosing_small = rw mine at (t.tabled.within i h).most
 
     more : first (Fit channel (table_pieces f w₀ n)) (dlcis f w₀ n i) ≡ cond (Fit channel (table_pieces f w₀ n) d) (some d) (first (Fit channel (table_pieces f w₀ n)) (dlcis f w₀ n (i + 1)))
     unfolding first pieces_from piece_at
     more = let z : n - i ≡ suc (n - (i + 1)) = omega arith in rw (z, mine, add-one i)
 
-    next : (u o : List ℕ) → length u ≡ length w → Front (below f n) u w → length o ≡ 64 → ((e : ℕ) → (get_or o e 0 ≡ 0 → ⊥) → has_frame (table_pieces f w₀ n) e ≡ false) → Fit channel (table_pieces f w₀ n) d ≡ false → Choosing f w₀ n channel u o (i + 1)
+    next : (u : List ℕ) (o : List Bool) → length u ≡ length w → Front (below f n) u w → length o ≡ 64 → ((e : ℕ) → get_or o e false ≡ true → has_frame (table_pieces f w₀ n) e ≡ false) → Fit channel (table_pieces f w₀ n) d ≡ false → Choosing f w₀ n channel u o (i + 1)
     next u o k b y x e = record {
       within = omega arith;
       long = k ∙ v.long;
@@ -148,40 +145,37 @@ module _ (f w₀ : List ℕ) (n : ℕ) (channel : Channel) (w tried : List ℕ) 
         fit : (b : Bool) → has_frame (table_pieces f w₀ n) d ≡ b → Fit channel (table_pieces f w₀ n) d ≡ b
         fit b g = rw (← eo, e) g
 
-        pub choosing_known : (r : ℕ) → r ≡ get_or tried d 0 → (r ≡ 0 → ⊥) → Choosing f w₀ n channel w tried (i + 1)
-        choosing_known r er x = next w tried refl (front_refl (below f n) w) v.size v.bad (fit false (v.bad d (λ z. x (er ∙ z))))
+        pub choosing_known : get_or tried d false ≡ true → Choosing f w₀ n channel w tried (i + 1)
+        choosing_known x = next w tried refl (front_refl (below f n) w) v.size v.bad (fit false (v.bad d x))
 
         module _ (p : Plan) (ep : p ≡ plan_of (length f / 4) n d) where
           pub choosing_laid : Laid f w p
           choosing_laid = laid_later f w₀ n t w v.front v.long p d ep
 
           module _ (u : List ℕ) (s : Sums) (c : CountIs f w p u s) where
-            has_is : s.tally.frame ≡ bit (has_frame (table_pieces f w₀ n) d)
+            has_is : s.tally.frame ≡ has_frame (table_pieces f w₀ n) d
             unfolding has_frame
             has_is = rw (all_same f w₀ n t w v.front p d ep) at c.frame
 
-            has_not : (s.tally.frame ≡ 1 → ⊥) → has_frame (table_pieces f w₀ n) d ≡ false
-            has_not g = split_b (has_frame (table_pieces f w₀ n) d) (λ e. absurd (g (rw e at has_is))) (λ e. e)
+            has_not : s.tally.frame ≡ false → has_frame (table_pieces f w₀ n) d ≡ false
+            has_not g = sym has_is ∙ g
 
-            has : s.tally.frame ≡ 1 → has_frame (table_pieces f w₀ n) d ≡ true
-            has g = split_b (has_frame (table_pieces f w₀ n) d) (λ e. e) (λ e. let z : s.tally.frame ≡ 0 = rw e at has_is in absurd (omega arith))
-
-            pub choosing_bad : (s.tally.frame ≡ 1 → ⊥) → length u ≡ length w → (o : List ℕ) → o ≡ set tried d 1 → Choosing f w₀ n channel u o (i + 1)
+            pub choosing_bad : s.tally.frame ≡ false → length u ≡ length w → (o : List Bool) → o ≡ set tried d true → Choosing f w₀ n channel u o (i + 1)
             choosing_bad g k o es =
-                rw es (next u (set tried d 1) k (front_plan f u w n d p ep c.front) (length-set tried d 1 ∙ v.size)
-                (λ x y. split≡ x d (λ z. rw z (has_not g)) (λ z. v.bad x (λ b. y (get_or-set_other tried d x 1 0 z ∙ b))))
+                rw es (next u (set tried d true) k (front_plan f u w n d p ep c.front) (length-set tried d true ∙ v.size)
+                (λ x y. split≡ x d (λ z. rw z (has_not g)) (λ z. v.bad x (sym (get_or-set_other tried d x true false z) ∙ y)))
                 (fit false (has_not g)))
 
             pub choosing_account : Accountable d s
             choosing_account = accountable f w p u s c d (omega (arith, choosing_small))
 
-            pub choosing_found : s.tally.frame ≡ 1 → (r : Stream) → r ≡ stream_summed d s → Chooses f w₀ n channel u (Chosen r)
+            pub choosing_found : s.tally.frame ≡ true → (r : Stream) → r ≡ stream_summed d s → Chooses f w₀ n channel u (Some r)
             unfolding choice_of stream_summed plan_of
             choosing_found g r er =
                 let a : stream_summed d s ≡ stream_of (table_pieces f w₀ n) d = stream_summed_law f w p u s c (table_pieces f w₀ n) d (all_same f w₀ n t w v.front p d ep) in
-                let o : chosen (channel_of channel) (table_pieces f w₀ n) ≡ some d = sym v.same ∙ more ∙ rw (fit true (has g)) in
+                let o : chosen (channel_of channel) (table_pieces f w₀ n) ≡ some d = sym v.same ∙ more ∙ rw (fit true (sym has_is ∙ g)) in
                 rw er (record {
-                  chooses = rw o (ap Chosen a);
+                  chooses = rw o (ap Some a);
                   front = front_then (below f n) u w w₀ (front_plan f u w n d p ep c.front) v.front;
                   told = λ x e. (let y : x.dlci ≡ d = cc in rw y (rw ep at c.told));
                   small = λ x e. (let y : x.dlci ≡ d = cc in rw y choosing_small);

@@ -20,30 +20,27 @@ use Rattle.split.specs.Walks.{LinkRoom, LinkedTo}
 use Rattle.split.specs.declared.Plan.{Plan}
 use Rattle.writing.specs.Writing.{ListPre}
 use Rattle.outcome.specs.Import.{chosen, listed, given}
-use Rattle.streams.specs.Streams.{channel_of, plan_of, table_pieces, Tabled, Ready, below, stream_of, choice_of, Chooses, told, Leaves, ListsSpans}
-use Rattle.streams.specs.declared.Channel.{Channel}
+use Rattle.streams.specs.Streams.{channel_of, plan_of, table_pieces, Tabled, Ready, below, stream_of, choice_of, Chooses, told, Leaves, ListsSpans, Channel, Choice, Listed}
 use Rattle.streams.specs.declared.Stream.{Stream}
-use Rattle.streams.specs.declared.Choice.{Choice}
-use Rattle.streams.specs.declared.Choice.TheVariants.{Nothing, Chosen}
-use Rattle.streams.specs.declared.Listed.{Listed}
-use Rattle.streams.specs.declared.Listed.TheVariants.{NoStream, OutShort, Spans}
+use Rattle.streams.specs.declared.ListError.TheVariants.{NoStream, OutShort}
+use Rattle.std.specs.Prelude.{None, Some, Ok, Err}
 use Rattle.streams.proofs.Choosing.{laid_later, all_same}
 
 low : (f : List ℕ) (n : ℕ) (u w : List ℕ) → Front (below f n) u w → Front (24 * (length f / 4)) u w
 low f n u w s = front_less (24 * (length f / 4)) (below f n) u w (omega arith) s
 
-choice_none : (ps : List Piece) (o : Option ℕ) → Nothing ≡ choice_of ps o → o ≡ none
+choice_none : (ps : List Piece) (o : Option ℕ) → None ≡ choice_of ps o → o ≡ none
 unfolding choice_of
 choice_none ps none e = refl
 choice_none ps (some d) e = let z : ◌≡◌ {A = ℕ} 0 1 = cc in absurd (omega arith)
 
-choice_some : (ps : List Piece) (o : Option ℕ) (s : Stream) → Chosen s ≡ choice_of ps o → (o ≡ some s.dlci) × (s ≡ stream_of ps s.dlci)
+choice_some : (ps : List Piece) (o : Option ℕ) (s : Stream) → Some s ≡ choice_of ps o → (o ≡ some s.dlci) × (s ≡ stream_of ps s.dlci)
 unfolding choice_of stream_of
 choice_some ps none s e = let z : ◌≡◌ {A = ℕ} 0 1 = cc in absurd (omega arith)
 choice_some ps (some d) s e = let z : s ≡ stream_of ps d = cc in (rw z, rw z)
 
 module _ (f w : List ℕ) (n : ℕ) (channel : Channel) (u : List ℕ) (c : Choice) (q : Chooses f w n channel u c) (out : List ℕ) where
-  pub lists_none : c ≡ Nothing → ListsSpans f w n channel out NoStream u out
+  pub lists_none : c ≡ None → ListsSpans f w n channel out (Err NoStream) u out
   unfolding listed given told
   lists_none e =
       let z : chosen (channel_of channel) (table_pieces f w n) ≡ none = choice_none (table_pieces f w n) (chosen (channel_of channel) (table_pieces f w n)) (sym e ∙ q.chooses) in
@@ -54,7 +51,7 @@ module _ (f w : List ℕ) (n : ℕ) (channel : Channel) (u : List ℕ) (c : Choi
         small = λ s g. (let y : ◌≡◌ {A = ℕ} 0 1 = cc in absurd (omega arith));
       }
 
-  module _ (s : Stream) (e : c ≡ Chosen s) where
+  module _ (s : Stream) (e : c ≡ Some s) where
     of_stream : (chosen (channel_of channel) (table_pieces f w n) ≡ some s.dlci) × (s ≡ stream_of (table_pieces f w n) s.dlci)
     of_stream = choice_some (table_pieces f w n) (chosen (channel_of channel) (table_pieces f w n)) s (sym e ∙ q.chooses)
 
@@ -73,7 +70,7 @@ module _ (f w : List ℕ) (n : ℕ) (channel : Channel) (u : List ℕ) (c : Choi
         let v : Stream → List ℕ = λ x. s.dlci ∷ x.spans ∷ x.unfinished ∷ tail ∷ x.bytes ∷ wrongs s.dlci ∷ x.in_spans ∷ x.dropped ∷ x.cleared ∷ x.left ∷ [] in
         rw of_stream.0 (sym (ap (λ (x : Stream). gives (v x) list) of_stream.1))
 
-    pub lists_short : length out < s.bytes → ListsSpans f w n channel out (OutShort s.bytes) u out
+    pub lists_short : length out < s.bytes → ListsSpans f w n channel out (Err (OutShort s.bytes)) u out
     unfolding told
     lists_short h = record {
       meets = λ tail wrongs. meets_short _ out _ list s.bytes (gives_list tail wrongs) needed h;
@@ -101,7 +98,7 @@ module _ (f w : List ℕ) (n : ℕ) (channel : Channel) (u : List ℕ) (c : Choi
         few = omega (arith, t.tabled.few);
       }
 
-      pub lists_all : (r : ℕ) (out' : List ℕ) → Writes out 0 (span_list (spans (all f u p))) r out' → ListsSpans f w n channel out (Spans s) u out'
+      pub lists_all : (r : ℕ) (out' : List ℕ) → Writes out 0 (span_list (spans (all f u p))) r out' → ListsSpans f w n channel out (Ok s) u out'
       unfolding told
       lists_all r out' y =
           let x : Writes out 0 list r out' = rw (all_same f w n t u q.front p s.dlci ep) at y in

@@ -1,5 +1,5 @@
 -- The DLCI chosen, with what is counted of it; and what the call that lists its spans answers.
-use Rattle.std.specs.Prelude.{ℕ, ◌+◌, ◌-◌, ◌*◌, ◌/◌, ◌<◌, ◌≤◌, ◌≡◌, List, [], ◌∷◌, length}
+use Rattle.std.specs.Prelude.{Option as Maybe, None, Some, Result, Ok, Err, ℕ, ◌+◌, ◌-◌, ◌*◌, ◌/◌, ◌<◌, ◌≤◌, ◌≡◌, List, [], ◌∷◌, length}
 use Rattle.std.proofs.Math.Option.{Option, none, some}
 use Rattle.laws.specs.Answers.{Answer, accepted, refused, Meets}
 use Rattle.words.specs.Front.{Front}
@@ -13,17 +13,23 @@ use Rattle.split.specs.Walks.{AllTold}
 use Rattle.split.specs.declared.Plan.{Plan}
 use Rattle.measuring.specs.declared.Sums.{Sums}
 use Rattle.outcome.specs.Import.{chosen, listed, given}
-use Rattle.streams.specs.declared.Channel.{Channel}
-use Rattle.streams.specs.declared.Channel.TheVariants.{Any, Only}
 use Rattle.streams.specs.declared.Stream.{Stream}
-use Rattle.streams.specs.declared.Choice.{Choice}
-use Rattle.streams.specs.declared.Choice.TheVariants.{Nothing, Chosen}
-use Rattle.streams.specs.declared.Listed.{Listed}
-use Rattle.streams.specs.declared.Listed.TheVariants.{NoStream, OutShort, Spans}
+use Rattle.streams.specs.declared.ListError.{ListError}
+use Rattle.streams.specs.declared.ListError.TheVariants.{NoStream, OutShort}
+
+-- the channel that is asked for, if one is; the DLCI chosen, if one is; the list of its spans, or why there is none
+abbrev pub Channel : Type 0
+Channel = Maybe ℕ
+
+abbrev pub Choice : Type 0
+Choice = Maybe Stream
+
+abbrev pub Listed : Type 0
+Listed = Result Stream ListError
 
 unfoldable pub channel_of : Channel → Option ℕ
-channel_of Any = none
-channel_of (Only c) = some c
+channel_of None = none
+channel_of (Some c) = some c
 
 -- ---- the table of pieces in work
 
@@ -81,24 +87,24 @@ stream_of ps d = record {
 }
 
 unfoldable pub choice_of : List Piece → Option ℕ → Choice
-choice_of ps none = Nothing
-choice_of ps (some d) = Chosen (stream_of ps d)
+choice_of ps none = None
+choice_of ps (some d) = Some (stream_of ps d)
 
 -- and work has the words of the DLCI chosen
 pub record Chooses (f w : List ℕ) (n : ℕ) (channel : Channel) (u : List ℕ) (r : Choice) : Type 0 where
   pub chooses : r ≡ choice_of (table_pieces f w n) (chosen (channel_of channel) (table_pieces f w n))
   pub front : Front (below f n) u w
-  pub told : (s : Stream) → r ≡ Chosen s → AllTold f u (plan_of (length f / 4) n s.dlci) n
-  pub small : (s : Stream) → r ≡ Chosen s → s.dlci < 64
+  pub told : (s : Stream) → r ≡ Some s → AllTold f u (plan_of (length f / 4) n s.dlci) n
+  pub small : (s : Stream) → r ≡ Some s → s.dlci < 64
 
 -- ---- the list
 
 -- 6, 7, or DLCI, spans, unfinished, the tail offset, the bytes written, the wrong frames of the DLCI, and where its bytes went. The caller knows
 -- the tail offset, and the wrong frames on each DLCI.
 unfoldable pub told : ℕ → (ℕ → ℕ) → Listed → Answer
-told tail wrongs NoStream = refused 6 []
-told tail wrongs (OutShort n) = refused 7 (n ∷ [])
-told tail wrongs (Spans s) = accepted (s.dlci ∷ s.spans ∷ s.unfinished ∷ tail ∷ s.bytes ∷ wrongs s.dlci ∷ s.in_spans ∷ s.dropped ∷ s.cleared ∷ s.left ∷ [])
+told tail wrongs (Err NoStream) = refused 6 []
+told tail wrongs (Err (OutShort n)) = refused 7 (n ∷ [])
+told tail wrongs (Ok s) = accepted (s.dlci ∷ s.spans ∷ s.unfinished ∷ tail ∷ s.bytes ∷ wrongs s.dlci ∷ s.in_spans ∷ s.dropped ∷ s.cleared ∷ s.left ∷ [])
 
 -- what stands in work for the DLCI d, chosen for the pieces ps: a table of n pieces that has its pieces, linked, and their words
 pub record Leaves (f : List ℕ) (ps : List Piece) (channel : Option ℕ) (n : ℕ) (u : List ℕ) (d : ℕ) : Type 0 where
@@ -113,5 +119,5 @@ pub record Leaves (f : List ℕ) (ps : List Piece) (channel : Option ℕ) (n : �
 pub record ListsSpans (f w : List ℕ) (n : ℕ) (channel : Channel) (out : List ℕ) (r : Listed) (u out' : List ℕ) : Type 0 where
   pub meets : (tail : ℕ) (wrongs : ℕ → ℕ) → Meets (given (listed (table_pieces f w n) wrongs tail (chosen (channel_of channel) (table_pieces f w n)))) out (told tail wrongs r) out'
   pub front : Front (24 * (length f / 4)) u w
-  pub left : (s : Stream) → r ≡ Spans s → Leaves f (table_pieces f w n) (channel_of channel) n u s.dlci
-  pub small : (s : Stream) → r ≡ Spans s → s.dlci < 64
+  pub left : (s : Stream) → r ≡ Ok s → Leaves f (table_pieces f w n) (channel_of channel) n u s.dlci
+  pub small : (s : Stream) → r ≡ Ok s → s.dlci < 64

@@ -1,22 +1,14 @@
 // The DLCI chosen, and the list of its spans.
 #![tactic(auto)]
 
-ghost use Rattle.std.specs.Prelude.{◌≡◌, ◌*◌, ◌/◌, ◌≤◌, ◌<◌, length, get_or, set};
+ghost use Rattle.std.specs.Prelude.{◌≡◌, ◌*◌, ◌/◌, ◌≤◌, ◌<◌, length};
 ghost use Rattle.outcome.specs.Import.{on_channel};
 ghost use Rattle.streams.specs.Streams.{channel_of, plan_of, Tabled, Ready, Accountable, stream_summed, Chooses, ListsSpans};
 
 use measuring::{Sums, count_spans};
-use spans::Tally;
 use split::{Plan, link_pieces};
 use words::get32;
 use writing::write_spans;
-
-// The channel that is asked for: any, or one.
-#[derive(Clone, Copy)]
-pub enum Channel {
-    Any,
-    Only(u8),
-}
 
 // A DLCI with what is counted of it: its spans, the bytes of their list, its buffers that are not empty at the end, and where
 // the bytes of its pieces went.
@@ -32,39 +24,13 @@ pub struct Stream {
     pub left: usize,
 }
 
-#[derive(Clone, Copy)]
-pub enum Choice {
-    Nothing,
-    Chosen(Stream),
-}
-
 // Whether the channel, if one is given, is the DLCI divided by 2.
-fn on_channel(channel: Channel, dlci: u32) -> bool
+fn on_channel(channel: Option<u8>, dlci: u32) -> bool
     ensures { result ≡ on_channel (channel_of channel) dlci }
 {
     match channel {
-        Channel::Any => true,
-        Channel::Only(c) => dlci / 2 == c as u32,
-    }
-}
-
-// 1 if the DLCI was tried before.
-fn was_tried(tried: &[u8], dlci: u32) -> u8
-    ensures { result ≡ get_or tried.now dlci 0 }
-{
-    let k = dlci as usize;
-    if k < tried.len() {
-        return tried[k];
-    }
-    0
-}
-
-fn mark(tried: &mut [u8], dlci: u32)
-    ensures { tried.new ≡ set tried.old dlci 1 }
-{
-    let k = dlci as usize;
-    if k < tried.len() {
-        tried[k] = 1;
+        None => true,
+        Some(c) => dlci / 2 == c as u32,
     }
 }
 
@@ -75,12 +41,12 @@ pub fn plan(q: usize, n: usize, dlci: u32) -> Plan
 {
     Plan {
         rows: 5 * q,
-        n: n,
+        n,
         chain: 6 * q,
         held: 6 * q + n,
         ends: 6 * q + 2 * n,
         area: 28 * q,
-        dlci: dlci,
+        dlci,
     }
 }
 
@@ -105,62 +71,66 @@ fn stream_of(dlci: u32, s: Sums) -> Stream
 }
 
 // The first DLCI seen, on the channel, that has a span which unpacks.
-pub fn choose_dlci(file: &[u8], w: &mut [u8], n: usize, channel: Channel) -> Choice
+pub fn choose_dlci(file: &[u8], w: &mut [u8], n: usize, channel: Option<u8>) -> Option<Stream>
     requires { Ready file.now w.old n }
     ensures { Chooses file.now w.old n channel w.new result }
 {
     let q = file.len() / 4;
-    let mut tried = [0u8; 64];
-    let mut i = 0;
-    while i < n {
+    let mut tried = [false; 64];
+    for i in 0..n {
         let d = get32(w, 5 * q + 8 * i);
-        i += 1;
-        if on_channel(channel, d) {
-            if was_tried(&tried, d) == 0 {
-                mark(&mut tried, d);
-                let p = plan(q, n, d);
-                let s = count_spans(file, w, p);
-                let t = s.tally;
-                if t.frame == 1 {
-                    let found = stream_of(d, s);
-                    return Choice::Chosen(found);
-                }
-            }
+        let k = d as usize;
+        if !on_channel(channel, d) || tried[k] {
+            continue;
+        }
+        tried[k] = true;
+        let p = plan(q, n, d);
+        let s = count_spans(file, w, p);
+        if s.tally.frame {
+            return Some(stream_of(d, s));
         }
     }
-    Choice::Nothing
+    None
 }
 
-// What the call answers: 6 and 7 by number, or the DLCI with what is counted of it.
+// Why there is no list: no DLCI has a span which unpacks (6 by number), or the output is too short for so many bytes (7).
 #[derive(Clone, Copy)]
-pub enum Listed {
+pub enum ListError {
     NoStream,
     OutShort(usize),
-    Spans(Stream),
 }
 
 // Lists the spans of the DLCI chosen, for the n pieces in the table, which are linked.
-fn list_linked(file: &[u8], w: &mut [u8], n: usize, channel: Channel, out: &mut [u8]) -> Listed
+fn list_linked(
+    file: &[u8],
+    w: &mut [u8],
+    n: usize,
+    channel: Option<u8>,
+    out: &mut [u8],
+) -> Result<Stream, ListError>
     requires { Ready file.now w.old n }
     ensures { ListsSpans file.now w.old n channel out.old result w.new out.new }
 {
-    let c = choose_dlci(file, w, n, channel);
-    match c {
-        Choice::Nothing => Listed::NoStream,
-        Choice::Chosen(s) => {
-            if out.len() < s.bytes {
-                return Listed::OutShort(s.bytes);
-            }
-            let q = file.len() / 4;
-            let p = plan(q, n, s.dlci as u32);
-            write_spans(file, w, p, out);
-            Listed::Spans(s)
-        }
+    let Some(s) = choose_dlci(file, w, n, channel) else {
+        return Err(ListError::NoStream);
+    };
+    if out.len() < s.bytes {
+        return Err(ListError::OutShort(s.bytes));
     }
+    let q = file.len() / 4;
+    let p = plan(q, n, s.dlci as u32);
+    write_spans(file, w, p, out);
+    Ok(s)
 }
 
 // Lists the spans of the DLCI chosen, for the n pieces in the table.
-pub fn list_spans(file: &[u8], w: &mut [u8], n: usize, channel: Channel, out: &mut [u8]) -> Listed
+pub fn list_spans(
+    file: &[u8],
+    w: &mut [u8],
+    n: usize,
+    channel: Option<u8>,
+    out: &mut [u8],
+) -> Result<Stream, ListError>
     requires { Tabled file.now w.old n }
     ensures { ListsSpans file.now w.old n channel out.old result w.new out.new }
 {

@@ -136,8 +136,8 @@ module _ (w₀ : List ℕ) (p : Plan) (w : List ℕ) where
       early_other k n o =
           let z : newest k (suc m) ≡ newest k m = rw (ne_eq_k (key_at w₀ p m) k n) in
           t.kept (newest k m - 1) (λ e.
-          let y : newest (key_at w₀ p m) m ≡ newest k m = sym chain_is ∙ e ∙ omega arith in
-          n (sym (rw y at (newest_mine w₀ p (key_at w₀ p m) m (rw y o))) ∙ newest_mine w₀ p k m o))
+          let x : newest k m ≡ suc (newest k m - 1) = omega (arith, o) in
+          n (sym (newest_mine w₀ p (key_at w₀ p m) m (newest k m - 1) (sym chain_is ∙ e)) ∙ newest_mine w₀ p k m (newest k m - 1) x))
           ∙ (rw z at (v.early k (rw z o)))
 
       spreading_step : length u ≡ length w → Spreading w₀ p u m

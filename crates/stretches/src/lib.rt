@@ -53,10 +53,8 @@ pub fn fill(work: &[u8], stretches: &mut [Stretch], count: usize)
     requires { count ≤ length stretches.old }
     ensures { stretches.new ≡ filled work.now count stretches.old }
 {
-    let mut i = 0;
-    while i < count {
+    for i in 0..count {
         stretches[i] = stretch_at(work, i);
-        i += 1;
     }
 }
 
@@ -79,9 +77,7 @@ fn spread_back(w: &mut [u8], p: Plan)
     requires { SpreadPre w.old p }
     ensures { Spread w.old p w.new }
 {
-    let mut i = p.n;
-    while 0 < i {
-        i -= 1;
+    for i in (0..p.n).rev() {
         hand_back(w, p, i);
     }
 }
@@ -152,11 +148,9 @@ fn list_spread(w: &mut [u8], p: Plan) -> usize
     ensures { SpreadListed w.old p w.new result }
 {
     let n = p.n;
-    let mut i = 0;
     let mut k = 0;
-    while i < n {
+    for i in 0..n {
         k = add_open(w, p, i, k);
-        i += 1;
     }
     k
 }

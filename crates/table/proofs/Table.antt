@@ -1,4 +1,5 @@
 -- Laws of specs/Table.
+use Rattle.std.specs.Prelude.{Option, Some, None}
 use mathlib.Core.Path.{◌≡◌, refl, sym, ◌∙◌}
 use mathlib.Core.List.{List}
 use mathlib.Core.Logic.{⊎_elim, ◌⊎◌, inl}
@@ -14,36 +15,34 @@ use Rattle.words.specs.Words.{word, put_word, long, put_long}
 use Rattle.words.proofs.Words.{length_put, word_put_same, word_put_other, long_put_same}
 use Rattle.words.specs.Front.{Front}
 use Rattle.words.proofs.Front.{front_put, front_then}
-use Rattle.table.specs.declared.Row.{Row}
-use Rattle.table.specs.declared.Row.TheVariants.{At, Nothing}
 use Rattle.table.specs.Table.{find_in, put_row, Slot, none, some, lookup, upd, second, sum_of, Stored, Agree, Refilled}
 
 -- ---- what the search says of the table
 
-pub find_below : (w : List ℕ) (b k n i : ℕ) → find_in w b k n ≡ At i → i < n
+pub find_below : (w : List ℕ) (b k n i : ℕ) → find_in w b k n ≡ Some i → i < n
 unfolding find_in
 find_below w b k zero i e = let z : ◌≡◌ {A = ℕ} 0 1 = cc in omega arith
 find_below w b k (suc n) i e = go (eqb (long w (b + 4 * n)) k) e (find_below w b k n i) where
-  go : (t : Bool) → cond t (At n) (find_in w b k n) ≡ At i → (find_in w b k n ≡ At i → i < n) → i < suc n
+  go : (t : Bool) → cond t (Some n) (find_in w b k n) ≡ Some i → (find_in w b k n ≡ Some i → i < n) → i < suc n
   go true p ih = let z : n ≡ i = cc in omega arith
   go false p ih = let z : i < n = ih p in omega arith
 
-pub found_below : (w : List ℕ) (b k n i : ℕ) (f : Row) → f ≡ find_in w b k n → f ≡ At i → i < n
+pub found_below : (w : List ℕ) (b k n i : ℕ) (f : Option ℕ) → f ≡ find_in w b k n → f ≡ Some i → i < n
 found_below w b k n i f p q = find_below w b k n i (sym p ∙ q)
 
-pub lookup_found : (w : List ℕ) (b k n i : ℕ) → find_in w b k n ≡ At i → lookup w b n k ≡ some (word w (b + 4 * i + 2)) (word w (b + 4 * i + 3))
+pub lookup_found : (w : List ℕ) (b k n i : ℕ) → find_in w b k n ≡ Some i → lookup w b n k ≡ some (word w (b + 4 * i + 2)) (word w (b + 4 * i + 3))
 unfolding find_in lookup
 lookup_found w b k zero i e = let z : ◌≡◌ {A = ℕ} 0 1 = cc in absurd (omega arith)
 lookup_found w b k (suc n) i e = go (eqb (long w (b + 4 * n)) k) e (lookup_found w b k n i) where
-  go : (t : Bool) → cond t (At n) (find_in w b k n) ≡ At i → (find_in w b k n ≡ At i → lookup w b n k ≡ some (word w (b + 4 * i + 2)) (word w (b + 4 * i + 3))) → cond t (some (word w (b + 4 * n + 2)) (word w (b + 4 * n + 3))) (lookup w b n k) ≡ some (word w (b + 4 * i + 2)) (word w (b + 4 * i + 3))
+  go : (t : Bool) → cond t (Some n) (find_in w b k n) ≡ Some i → (find_in w b k n ≡ Some i → lookup w b n k ≡ some (word w (b + 4 * i + 2)) (word w (b + 4 * i + 3))) → cond t (some (word w (b + 4 * n + 2)) (word w (b + 4 * n + 3))) (lookup w b n k) ≡ some (word w (b + 4 * i + 2)) (word w (b + 4 * i + 3))
   go true p ih = let z : n ≡ i = cc in rw z
   go false p ih = ih p
 
-pub lookup_nothing : (w : List ℕ) (b k n : ℕ) → find_in w b k n ≡ Nothing → lookup w b n k ≡ none
+pub lookup_nothing : (w : List ℕ) (b k n : ℕ) → find_in w b k n ≡ None → lookup w b n k ≡ none
 unfolding find_in lookup
 lookup_nothing w b k zero e = refl
 lookup_nothing w b k (suc n) e = go (eqb (long w (b + 4 * n)) k) e (lookup_nothing w b k n) where
-  go : (t : Bool) → cond t (At n) (find_in w b k n) ≡ Nothing → (find_in w b k n ≡ Nothing → lookup w b n k ≡ none) → cond t (some (word w (b + 4 * n + 2)) (word w (b + 4 * n + 3))) (lookup w b n k) ≡ none
+  go : (t : Bool) → cond t (Some n) (find_in w b k n) ≡ None → (find_in w b k n ≡ None → lookup w b n k ≡ none) → cond t (some (word w (b + 4 * n + 2)) (word w (b + 4 * n + 3))) (lookup w b n k) ≡ none
   go true p ih = let z : ◌≡◌ {A = ℕ} 0 1 = cc in absurd (omega arith)
   go false p ih = ih p
 
@@ -143,7 +142,7 @@ module _ (w : List ℕ) (b n k y z : ℕ) (fits : 4 * (b + 4 * n) + 16 ≤ lengt
   unfolding sum_of
   sum_append = rw (sum_agree _ _ b n same_below, row_second w (b + 4 * n) k y z fits)
 
-  pub store_new : (f : Row) → f ≡ find_in w b k n → f ≡ Nothing → (u : List ℕ) → u ≡ put_row w (b + 4 * n) k y z → Stored w b n k y z u (n + 1)
+  pub store_new : (f : Option ℕ) → f ≡ find_in w b k n → f ≡ None → (u : List ℕ) → u ≡ put_row w (b + 4 * n) k y z → Stored w b n k y z u (n + 1)
   unfolding second
   store_new f p q u e =
       let s : lookup w b n k ≡ none = lookup_nothing w b k n (sym p ∙ q) in
@@ -187,14 +186,14 @@ refilled_less w u b n i y z r = record {
   lasts = λ j l. r.lasts j (omega arith);
 }
 
-pub lookup_refilled : (w u : List ℕ) (b k n i y z : ℕ) → find_in w b k n ≡ At i → Refilled w b n i y z u → (j : ℕ) → lookup u b n j ≡ upd (lookup w b n) k (some y z) j
+pub lookup_refilled : (w u : List ℕ) (b k n i y z : ℕ) → find_in w b k n ≡ Some i → Refilled w b n i y z u → (j : ℕ) → lookup u b n j ≡ upd (lookup w b n) k (some y z) j
 unfolding find_in lookup upd
 lookup_refilled w u b k zero i y z e r j = let q : ◌≡◌ {A = ℕ} 0 1 = cc in absurd (omega arith)
 lookup_refilled w u b k (suc n) i y z e r j =
     go (eqb (long w (b + 4 * n)) k) refl e (λ f. lookup_refilled w u b k n i y z f (refilled_less w u b n i y z r) j) where
       go :
-          (t : Bool) → eqb (long w (b + 4 * n)) k ≡ t → cond t (At n) (find_in w b k n) ≡ At i →
-          (find_in w b k n ≡ At i → lookup u b n j ≡ upd (lookup w b n) k (some y z) j) →
+          (t : Bool) → eqb (long w (b + 4 * n)) k ≡ t → cond t (Some n) (find_in w b k n) ≡ Some i →
+          (find_in w b k n ≡ Some i → lookup u b n j ≡ upd (lookup w b n) k (some y z) j) →
           lookup u b (suc n) j ≡ upd (lookup w b (suc n)) k (some y z) j
       go true q p ih =
           let m : n ≡ i = cc in
@@ -223,7 +222,7 @@ sum_refilled w u b (suc n) i y z h r =
     (λ m. rw (r.lasts n (omega arith) (λ d. m (sym d))) (omega (arith, sum_refilled w u b n i y z (lt_of i n h m) (refilled_less w u b n i y z r))))
 
 -- the row of a key put anew
-pub store_old : (w u : List ℕ) (b n k i y z : ℕ) → find_in w b k n ≡ At i → Refilled w b n i y z u → Front (4 * b) u w → length u ≡ length w → Stored w b n k y z u n
+pub store_old : (w u : List ℕ) (b n k i y z : ℕ) → find_in w b k n ≡ Some i → Refilled w b n i y z u → Front (4 * b) u w → length u ≡ length w → Stored w b n k y z u n
 unfolding second
 store_old w u b n k i y z e r f l = record {
   says = lookup_refilled w u b k n i y z e r;

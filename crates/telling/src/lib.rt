@@ -2,205 +2,199 @@
 // room for.
 #![tactic(auto)]
 
-ghost use Rattle.std.specs.Prelude.{◌≡◌, [], ◌∷◌};
+ghost use Rattle.std.specs.Prelude.{◌≡◌};
+ghost use Rattle.laws.specs.Answers.{Answer, answered, wrote};
+ghost use Rattle.capture.specs.Calls.{told_summary, told_import_error};
 ghost use Rattle.trace.specs.Headers.{told_refusal};
-ghost use Rattle.trace.specs.Listing.{told_listed};
-ghost use Rattle.fixtures.specs.Told.{told_planned};
-ghost use Rattle.mdr.specs.Told.{told, told_packed};
-ghost use Rattle.names.specs.Told.{told_named};
-ghost use Rattle.order.specs.Order.{told_ordered};
-ghost use Rattle.telling.specs.Telling.{number_of, values_of, stored, put_at, Shows, Tells};
+ghost use Rattle.trace.specs.Listing.{told_walked};
+ghost use Rattle.fixtures.specs.Told.{told_plan, told_plan_error};
+ghost use Rattle.mdr.specs.Told.{told_unpacked, told_error, told_pack_error};
+ghost use Rattle.order.specs.Order.{told_order_error};
+ghost use Rattle.telling.specs.Telling.{stored, Told, TellsAs};
 
-// An answer's number, and its values: the first count of a, b and c.
-#[derive(Clone, Copy)]
-pub struct Shown {
-    pub number: u32,
-    pub count: usize,
-    pub a: u64,
-    pub b: u64,
-    pub c: u64,
-}
+use capture::{ImportError, Summary};
+use fixtures::{PlanError, Planned};
+use mdr::{PackError, UnpackError, Unpacked};
+use order::OrderError;
+use trace::{Refusal, Walked};
 
-// Stores a value at a place before the count, if the list has it.
-fn put(values: &mut [u64], count: usize, at: usize, x: u64)
-    ensures { values.new ≡ put_at count at x values.old }
+// Stores the numbers of a list at the front of values, as many as there is room for.
+fn store(values: &mut [u64], list: &[u64])
+    ensures { values.new ≡ stored list.now values.old }
 {
-    if count <= at {
-        return;
-    }
-    if at < values.len() {
-        values[at] = x;
-    }
+    let room = values.len().min(list.len());
+    values[..room].copy_from_slice(&list[..room]);
 }
 
 // Stores the values of an answer, and returns its number.
-pub fn tell(s: Shown, values: &mut [u64]) -> u32
-    ensures { Tells s values.old result values.new }
+pub fn tell_as(number: u32, list: &[u64], values: &mut [u64]) -> u32
+    ensures { TellsAs number list.now values.old result values.new }
 {
-    let count = s.count;
-    put(values, count, 0, s.a);
-    put(values, count, 1, s.b);
-    put(values, count, 2, s.c);
-    s.number
+    store(values, list);
+    number
 }
 
-// Stores the numbers of a list at the front of values, as many as there is room for.
-pub fn store(values: &mut [u64], list: &[u64])
-    ensures { values.new ≡ stored list.now values.old }
-{
-    let count = list.len();
-    let mut i = 0;
-    while i < count {
-        put(values, count, i, list[i]);
-        i += 1;
+// What a call gives, or why it refuses: it is told as a number and values.
+pub trait Tell {
+    ghost answer: { Self → Answer };
+
+    fn tell(self, values: &mut [u64]) -> u32
+        ensures { Told (answer self) values.old result values.new };
+}
+
+impl<T: Tell, E: Tell> Tell for Result<T, E> {
+    ghost answer = { answered T.answer E.answer };
+
+    fn tell(self, values: &mut [u64]) -> u32 {
+        match self {
+            Ok(given) => given.tell(values),
+            Err(refusal) => refusal.tell(values),
+        }
     }
 }
 
-// ---- so many values
+// ---- what calls give
 
-pub fn alone(number: u32) -> Shown
-    ensures { Shows number [] result }
-{
-    Shown {
-        number,
-        count: 0,
-        a: 0,
-        b: 0,
-        c: 0,
+// So many bytes are written.
+impl Tell for usize {
+    ghost answer = { wrote };
+
+    fn tell(self, values: &mut [u64]) -> u32 {
+        tell_as(0, &[self as u64], values)
     }
 }
 
-pub fn with_one(number: u32, a: u64) -> Shown
-    ensures { Shows number (a ∷ []) result }
-{
-    Shown {
-        number,
-        count: 1,
-        a,
-        b: 0,
-        c: 0,
+impl Tell for Unpacked {
+    ghost answer = { told_unpacked };
+
+    fn tell(self, values: &mut [u64]) -> u32 {
+        tell_as(
+            0,
+            &[self.kind as u64, self.seq as u64, self.len as u64],
+            values,
+        )
     }
 }
 
-pub fn with_two(number: u32, a: u64, b: u64) -> Shown
-    ensures { Shows number (a ∷ b ∷ []) result }
-{
-    Shown {
-        number,
-        count: 2,
-        a,
-        b,
-        c: 0,
+impl Tell for Planned {
+    ghost answer = { told_plan };
+
+    fn tell(self, values: &mut [u64]) -> u32 {
+        tell_as(0, &[self.fixtures as u64, self.bytes as u64], values)
     }
 }
 
-pub fn with_three(number: u32, a: u64, b: u64, c: u64) -> Shown
-    ensures { Shows number (a ∷ b ∷ c ∷ []) result }
-{
-    Shown {
-        number,
-        count: 3,
-        a,
-        b,
-        c,
+impl Tell for Walked {
+    ghost answer = { told_walked };
+
+    fn tell(self, values: &mut [u64]) -> u32 {
+        tell_as(0, &[self.count as u64, self.tail as u64], values)
     }
 }
 
-// ---- each answer
+impl Tell for Summary {
+    ghost answer = { told_summary };
 
-pub fn shown_unpacked(u: mdr::Unpacked) -> Shown
-    ensures { Shows (number_of (told u)) (values_of (told u)) result }
-{
-    match u {
-        mdr::Unpacked::Frame(t, q, n) => with_three(0, t as u64, q as u64, n as u64),
-        mdr::Unpacked::TooShort => alone(10),
-        mdr::Unpacked::NoStart => alone(11),
-        mdr::Unpacked::NoEnd => alone(12),
-        mdr::Unpacked::TrailingSentry => alone(13),
-        mdr::Unpacked::BadEscapee(b) => with_one(14, b as u64),
-        mdr::Unpacked::BodyTooShort => alone(15),
-        mdr::Unpacked::LengthMismatch(declared, actual) => with_two(16, declared, actual),
-        mdr::Unpacked::BadChecksum(declared, computed) => with_two(
-            17,
-            declared as u64,
-            computed as u64,
-        ),
-        mdr::Unpacked::OutShort(needed) => with_one(7, needed as u64),
+    fn tell(self, values: &mut [u64]) -> u32 {
+        let s = self.stream;
+        let list = [
+            s.dlci as u64,
+            s.spans as u64,
+            s.unfinished as u64,
+            self.tail as u64,
+            s.bytes as u64,
+            self.wrong as u64,
+            s.in_spans as u64,
+            s.dropped as u64,
+            s.cleared as u64,
+            s.left as u64,
+        ];
+        tell_as(0, &list, values)
     }
 }
 
-pub fn shown_packed(p: mdr::Packed) -> Shown
-    ensures { Shows (number_of (told_packed p)) (values_of (told_packed p)) result }
-{
-    match p {
-        mdr::Packed::Wrote(n) => with_one(0, n as u64),
-        mdr::Packed::TooLong => alone(18),
-        mdr::Packed::OutShort(needed) => with_one(7, needed as u64),
+// ---- why they refuse
+
+impl Tell for UnpackError {
+    ghost answer = { told_error };
+
+    fn tell(self, values: &mut [u64]) -> u32 {
+        match self {
+            UnpackError::TooShort => tell_as(10, &[], values),
+            UnpackError::NoStart => tell_as(11, &[], values),
+            UnpackError::NoEnd => tell_as(12, &[], values),
+            UnpackError::TrailingSentry => tell_as(13, &[], values),
+            UnpackError::BadEscapee(b) => tell_as(14, &[b as u64], values),
+            UnpackError::BodyTooShort => tell_as(15, &[], values),
+            UnpackError::LengthMismatch(declared, actual) => {
+                tell_as(16, &[declared, actual], values)
+            }
+            UnpackError::BadChecksum(declared, computed) => {
+                tell_as(17, &[declared as u64, computed as u64], values)
+            }
+            UnpackError::OutShort(needed) => tell_as(7, &[needed as u64], values),
+        }
     }
 }
 
-pub fn shown_named(n: names::Named) -> Shown
-    ensures { Shows (number_of (told_named n)) (values_of (told_named n)) result }
-{
-    match n {
-        names::Named::Name(len) => with_one(0, len as u64),
-        names::Named::TooShort => alone(10),
-        names::Named::NoStart => alone(11),
-        names::Named::NoEnd => alone(12),
-        names::Named::TrailingSentry => alone(13),
-        names::Named::BadEscapee(b) => with_one(14, b as u64),
-        names::Named::BodyTooShort => alone(15),
-        names::Named::LengthMismatch(declared, actual) => with_two(16, declared, actual),
-        names::Named::BadChecksum(declared, computed) => with_two(
-            17,
-            declared as u64,
-            computed as u64,
-        ),
-        names::Named::OutShort(needed) => with_one(7, needed as u64),
+impl Tell for PackError {
+    ghost answer = { told_pack_error };
+
+    fn tell(self, values: &mut [u64]) -> u32 {
+        match self {
+            PackError::TooLong => tell_as(18, &[], values),
+            PackError::OutShort(needed) => tell_as(7, &[needed as u64], values),
+        }
     }
 }
 
-pub fn shown_planned(p: fixtures::Planned) -> Shown
-    ensures { Shows (number_of (told_planned p)) (values_of (told_planned p)) result }
-{
-    match p {
-        fixtures::Planned::Wrote(count, len) => with_two(0, count as u64, len as u64),
-        fixtures::Planned::SpansIll(offset) => with_one(19, offset as u64),
-        fixtures::Planned::NamesIll(offset) => with_one(20, offset as u64),
-        fixtures::Planned::OutShort(needed) => with_one(7, needed as u64),
+impl Tell for PlanError {
+    ghost answer = { told_plan_error };
+
+    fn tell(self, values: &mut [u64]) -> u32 {
+        match self {
+            PlanError::SpansIll(offset) => tell_as(19, &[offset as u64], values),
+            PlanError::NamesIll(offset) => tell_as(20, &[offset as u64], values),
+            PlanError::OutShort(needed) => tell_as(7, &[needed as u64], values),
+        }
     }
 }
 
-pub fn shown_ordered(o: order::Ordered) -> Shown
-    ensures { Shows (number_of (told_ordered o)) (values_of (told_ordered o)) result }
-{
-    match o {
-        order::Ordered::Wrote(len) => with_one(0, len as u64),
-        order::Ordered::IllFormed(offset) => with_one(20, offset as u64),
-        order::Ordered::OutShort(needed) => with_one(7, needed as u64),
+impl Tell for OrderError {
+    ghost answer = { told_order_error };
+
+    fn tell(self, values: &mut [u64]) -> u32 {
+        match self {
+            OrderError::IllFormed(offset) => tell_as(20, &[offset as u64], values),
+            OrderError::OutShort(needed) => tell_as(7, &[needed as u64], values),
+        }
     }
 }
 
-// Why a trace is not read.
-pub fn shown_refusal(x: trace::Refusal) -> Shown
-    ensures { Shows (number_of (told_refusal x)) (values_of (told_refusal x)) result }
-{
-    match x {
-        trace::Refusal::FileLong => alone(1),
-        trace::Refusal::WorkShort => alone(2),
-        trace::Refusal::NotBtsnoop => alone(3),
-        trace::Refusal::Datalink(n) => with_one(4, n as u64),
-        trace::Refusal::NotPcap => alone(21),
-        trace::Refusal::LinkType(n) => with_one(22, n as u64),
-        trace::Refusal::Truncated(offset) => with_one(5, offset as u64),
+impl Tell for Refusal {
+    ghost answer = { told_refusal };
+
+    fn tell(self, values: &mut [u64]) -> u32 {
+        match self {
+            Refusal::FileLong => tell_as(1, &[], values),
+            Refusal::WorkShort => tell_as(2, &[], values),
+            Refusal::NotBtsnoop => tell_as(3, &[], values),
+            Refusal::Datalink(n) => tell_as(4, &[n as u64], values),
+            Refusal::NotPcap => tell_as(21, &[], values),
+            Refusal::LinkType(n) => tell_as(22, &[n as u64], values),
+            Refusal::Truncated(offset) => tell_as(5, &[offset as u64], values),
+        }
     }
 }
 
-pub fn shown_listed(l: trace::Listed) -> Shown
-    ensures { Shows (number_of (told_listed l)) (values_of (told_listed l)) result }
-{
-    match l {
-        trace::Listed::Records(count, tail) => with_two(0, count as u64, tail as u64),
-        trace::Listed::Refused(x) => shown_refusal(x),
+impl Tell for ImportError {
+    ghost answer = { told_import_error };
+
+    fn tell(self, values: &mut [u64]) -> u32 {
+        match self {
+            ImportError::Refused(x) => x.tell(values),
+            ImportError::NoStream => tell_as(6, &[], values),
+            ImportError::OutShort(needed) => tell_as(7, &[needed as u64], values),
+        }
     }
 }

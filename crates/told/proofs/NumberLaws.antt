@@ -1,7 +1,6 @@
 -- From numbers to directions and tests.
 use Prim.Native.Nat.{ℕ}
-use mathlib.Core.Path.{◌≡◌, sym, ◌∙◌}
-use mathlib.Core.Bool.{Bool, true, false}
+use mathlib.Core.Path.{◌≡◌, sym}
 use mathlib.Core.List.{List}
 use borrow.Author.Tests.{eq-eqb, ne_eqb}
 use Rattle.laws.specs.Answers.{Answer, Meets}
@@ -9,10 +8,9 @@ use Rattle.items.specs.Items.{rx_of}
 use Rattle.items.specs.declared.Direction.{Direction}
 use Rattle.items.specs.declared.Direction.TheVariants.{Rx, Tx}
 use Rattle.names.specs.Names.{fixture_name}
-use Rattle.telling.specs.Telling.{number_of, values_of, Calls, Shows, Tells}
-use Rattle.telling.specs.declared.Shown.{Shown}
+use Rattle.telling.specs.Telling.{Calls, Told}
 use Rattle.telling.proofs.TellLaws.{calls}
-use Rattle.told.specs.Numbers.{bit, way_of}
+use Rattle.told.specs.Numbers.{way_of}
 
 pub way_rx : (w : ℕ) → w ≡ 1 → rx_of Rx ≡ way_of w
 unfolding way_of rx_of
@@ -22,14 +20,8 @@ pub way_tx : (w : ℕ) → (w ≡ 1 → ⊥) → rx_of Tx ≡ way_of w
 unfolding way_of rx_of
 way_tx w e = rw (ne_eqb w 1 e)
 
-pub bit_true : (b t : Bool) → b ≡ t → b ≡ true → 1 ≡ bit t
-bit_true b t e q = rw (sym e ∙ q)
-
-pub bit_false : (b t : Bool) → b ≡ t → b ≡ false → 0 ≡ bit t
-bit_false b t e q = rw (sym e ∙ q)
-
 -- a name's direction by number
 pub named_calls :
     (ms counter way : ℕ) (d : Direction) → rx_of d ≡ way_of way → (wire out : List ℕ) (a : Answer) (out' : List ℕ) → Meets (fixture_name ms counter (rx_of d) wire) out a out' →
-    (s : Shown) → Shows (number_of a) (values_of a) s → (v : List ℕ) (r : ℕ) (v' : List ℕ) → Tells s v r v' → Calls (fixture_name ms counter (way_of way) wire) out out' v r v'
-named_calls ms counter way d e wire out a out' m s p v r v' t = rw (sym e) (calls (fixture_name ms counter (rx_of d) wire) out a out' m s p v r v' t)
+    (v : List ℕ) (r : ℕ) (v' : List ℕ) → Told a v r v' → Calls (fixture_name ms counter (way_of way) wire) out out' v r v'
+named_calls ms counter way d e wire out a out' m v r v' t = rw (sym e) (calls (fixture_name ms counter (rx_of d) wire) out a out' m v r v' t)

@@ -1,4 +1,5 @@
 -- What a caller gets of a listing of records.
+use Rattle.std.specs.Prelude.{Result}
 use Prim.Native.Nat.{ℕ, suc}
 use mathlib.Core.Path.{◌≡◌, refl, ap, ◌∙◌}
 use mathlib.Core.List.{List, [], ◌∷◌}
@@ -9,10 +10,9 @@ use Rattle.container.specs.Container as container
 use Rattle.trace.specs.Formats.{container_of}
 use Rattle.trace.specs.declared.Container.{Container}
 use Rattle.trace.specs.Listing.{listing, starts_of, told_listed, Lists}
-use Rattle.trace.specs.declared.Listed.{Listed}
-use Rattle.telling.specs.Telling.{number_of, values_of, stored, Shows, Tells}
-use Rattle.telling.specs.declared.Shown.{Shown}
-use Rattle.telling.proofs.TellLaws.{told_as}
+use Rattle.trace.specs.declared.Refusal.{Refusal}
+use Rattle.trace.specs.declared.Walked.{Walked}
+use Rattle.telling.specs.Telling.{stored, Told}
 use Rattle.told.specs.RecordCalls.{RecordsCalls}
 
 -- a refusal leaves the list as it was
@@ -35,9 +35,8 @@ sets_stored (y ∷ l) [] = sets_none l 1
 sets_stored (y ∷ l) (x ∷ d) = sets_later l y d 0 ∙ ap (λ (t : List ℕ). y ∷ t) (sets_stored l d)
 
 pub records_calls :
-    (b : Container) (f d : List ℕ) (l : Listed) (d' : List ℕ) → Lists b f d l d' → (s : Shown) → Shows (number_of (told_listed l)) (values_of (told_listed l)) s →
-    (v : List ℕ) (r : ℕ) (v' : List ℕ) → Tells s v r v' → RecordsCalls b f d v r d' v'
-records_calls b f d l d' m s p v r v' t = record { tells = told_as (told_listed l) (listing (container_of b) f) m.answers s p v r v' t; starts = m.writes ∙ sets_stored (starts_of (container_of b) f) d }
+    (b : Container) (f d : List ℕ) (l : Result Walked Refusal) (d' : List ℕ) → Lists b f d l d' → (v : List ℕ) (r : ℕ) (v' : List ℕ) → Told (told_listed l) v r v' → RecordsCalls b f d v r d' v'
+records_calls b f d l d' m v r v' t = record { tells = rw m.answers at t; starts = m.writes ∙ sets_stored (starts_of (container_of b) f) d }
 
 -- by the container in a list of options
 pub records_in_law : (b c : Container) → b ≡ c → (f d v : List ℕ) (r : ℕ) (d' v' : List ℕ) → RecordsCalls b f d v r d' v' → RecordsCalls c f d v r d' v'

@@ -16,25 +16,19 @@ ghost use Rattle.told.specs.Numbers.{bit, way_of};
 ghost use Rattle.told.specs.RecordCalls.{RecordsCalls};
 
 use options::container_in;
-use telling::{
-    shown_listed, shown_named, shown_ordered, shown_packed, shown_planned, shown_unpacked, tell,
-};
+use telling::Tell;
 use trace::Container;
 
 pub fn unpack_told(wire: &[u8], out: &mut [u8], values: &mut [u64]) -> u32
     ensures { Calls (unpack_of wire.now) out.old out.new values.old result values.new }
 {
-    let u = unpacking::unpack(wire, out);
-    let s = shown_unpacked(u);
-    tell(s, values)
+    unpacking::unpack(wire, out).tell(values)
 }
 
 pub fn pack_told(kind: u8, seq: u8, payload: &[u8], out: &mut [u8], values: &mut [u64]) -> u32
     ensures { Calls (pack_of kind seq payload.now) out.old out.new values.old result values.new }
 {
-    let p = packing::pack(kind, seq, payload, out);
-    let s = shown_packed(p);
-    tell(s, values)
+    packing::pack(kind, seq, payload, out).tell(values)
 }
 
 // Which way a frame went, by number: 1 is Rx, any other Tx.
@@ -42,9 +36,10 @@ fn direction_of(way: u8) -> items::Direction
     ensures { rx_of result ≡ way_of way }
 {
     if way == 1 {
-        return items::Direction::Rx;
+        items::Direction::Rx
+    } else {
+        items::Direction::Tx
     }
-    items::Direction::Tx
 }
 
 pub fn name_told(
@@ -58,44 +53,33 @@ pub fn name_told(
     ensures { Calls (fixture_name ms counter (way_of way) wire.now) out.old out.new values.old result values.new }
 {
     let direction = direction_of(way);
-    let n = names::fixture_name(ms, counter, direction, wire, out);
-    let s = shown_named(n);
-    tell(s, values)
+    names::fixture_name(ms, counter, direction, wire, out).tell(values)
 }
 
 // 1 if either table has the name, else 0.
 pub fn command_told(name: &[u8]) -> u32
     ensures { result ≡ bit (is_command_name name.now) }
 {
-    if commands::is_command_name(name) {
-        return 1;
-    }
-    0
+    u32::from(commands::is_command_name(name))
 }
 
 pub fn plan_told(spans: &[u8], excluded: &[u8], out: &mut [u8], values: &mut [u64]) -> u32
     ensures { Calls (plan_of spans.now excluded.now) out.old out.new values.old result values.new }
 {
-    let p = fixtures::plan(spans, excluded, out);
-    let s = shown_planned(p);
-    tell(s, values)
+    fixtures::plan(spans, excluded, out).tell(values)
 }
 
 pub fn order_told(names: &[u8], out: &mut [u8], values: &mut [u64]) -> u32
     ensures { Calls (capture_order names.now) out.old out.new values.old result values.new }
 {
-    let o = order::capture_order(names, out);
-    let s = shown_ordered(o);
-    tell(s, values)
+    order::capture_order(names, out).tell(values)
 }
 
 // Lists the records of a file of the container.
 fn records_of(file: &[u8], container: Container, starts: &mut [u64], values: &mut [u64]) -> u32
     ensures { RecordsCalls container file.now starts.old values.old result starts.new values.new }
 {
-    let l = trace::list_records(file, container, starts);
-    let s = shown_listed(l);
-    tell(s, values)
+    trace::list_records(file, container, starts).tell(values)
 }
 
 pub fn records_told(file: &[u8], starts: &mut [u64], values: &mut [u64]) -> u32

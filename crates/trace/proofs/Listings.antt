@@ -1,7 +1,7 @@
 -- The loop that lists the records, and where a record stands that starts at an offset of the list.
+use Rattle.std.specs.Prelude.{Result, Ok, Err}
 use Prim.Native.Nat.{ℕ, zero, suc, ◌+◌, ◌-◌, ◌<◌, ◌≤◌}
 use mathlib.Core.Path.{◌≡◌, refl, sym, ap, ◌∙◌}
-use mathlib.Core.Bool.{false}
 use mathlib.Core.List.{List, [], ◌∷◌}
 use native.Mathlib.Omega.{arith}
 use native.Mathlib.Numerals.{add-one}
@@ -17,19 +17,16 @@ use Rattle.trace.proofs.Formats.{head_least, file_head_most, head_of, records_of
 use Rattle.trace.proofs.Headers.{header_as}
 use Rattle.trace.specs.Walk.{RecordAt}
 use Rattle.trace.proofs.Walk.{records_eq, flat_step}
-use Rattle.trace.specs.Reader.{step_of, is_record}
-use Rattle.trace.proofs.ReaderLaws.{record_told, none_told, whole_fits, whole_list}
+use Rattle.trace.specs.Reader.{step_of}
+use Rattle.trace.proofs.ReaderLaws.{record_told, all_met, whole_fits, whole_list}
 use Rattle.trace.specs.Listing.{listing, starts_from, starts_of, if_accepted, Lists}
 use Rattle.trace.specs.declared.Container.{Container}
 use Rattle.trace.specs.declared.Format.{Format}
 use Rattle.trace.specs.declared.Refusal.{Refusal}
 use Rattle.trace.specs.declared.Refusal.TheVariants.{FileLong, WorkShort, NotBtsnoop, Datalink, NotPcap, LinkType, Truncated}
 use Rattle.trace.specs.declared.Step.{Step}
-use Rattle.trace.specs.declared.Step.TheVariants.{Record, Cut, End}
-use Rattle.trace.specs.declared.Header.{Header}
-use Rattle.trace.specs.declared.Header.TheVariants.{Read, Refused as Unread}
+use Rattle.trace.specs.declared.Step.TheVariants.{Record}
 use Rattle.trace.specs.declared.Walked.{Walked}
-use Rattle.trace.specs.declared.Listed.TheVariants.{Records, Refused}
 use Rattle.trace.specs.Listings.{Listing, WalkedTo}
 
 pub listing_start : (g : Format) (f d : List ℕ) (at : ℕ) → at ≡ file_head g → Listing g f d d at 0
@@ -53,25 +50,19 @@ module _ (g : Format) (f d₀ d : List ℕ) (at count : ℕ) (l : Listing g f d�
         done = rw (s, add-one) (rw (r.list, m) at l.done);
       }
 
-  ended : is_record x ≡ false → WalkedTo g f d₀ d (record { count = count; tail = at })
+  pub ended : ((e : ℕ) → x ≡ Record e → ⊥) → WalkedTo g f d₀ d (record { count = count; tail = at })
   unfolding starts_from
   ended n =
-      let r : records_from g f at ≡ [] = none_told g f at (rw h at n) in
+      let r : records_from g f at ≡ [] = all_met g f at x h n in
       record {
         count = (let k : count + 0 ≡ length (records_by g f) = rw r at l.number in omega arith);
         tail = (let k : at + 0 ≡ tail_by g f = rw r at l.tail in omega arith);
         starts = rw r at l.done;
       }
 
-  pub listing_cut : (p : ℕ) → x ≡ Cut p → WalkedTo g f d₀ d (record { count = count; tail = at })
-  listing_cut p q = ended (rw q)
-
-  pub listing_end : x ≡ End → WalkedTo g f d₀ d (record { count = count; tail = at })
-  listing_end q = ended (rw q)
-
 -- ---- the answers
 
-pub lists_long : (b : Container) (f d : List ℕ) → 1048576 < length f → Lists b f d (Refused FileLong) d
+pub lists_long : (b : Container) (f d : List ℕ) → 1048576 < length f → Lists b f d (Err FileLong) d
 unfolding listing starts_of
 lists_long b f d h = record { answers = rw (lt-leb (length f) 1048576 h); writes = rw (lt-leb (length f) 1048576 h) }
 
@@ -85,18 +76,18 @@ none_listed NotPcap l d = refl
 none_listed (LinkType n) l d = refl
 none_listed (Truncated at) l d = refl
 
-module _ (b : Container) (f d : List ℕ) (h : length f ≤ 1048576) (x : Header) (m : HeaderIs b f x) where
-  pub lists_refused : (r : Refusal) → x ≡ Unread r → Lists b f d (Refused r) d
+module _ (b : Container) (f d : List ℕ) (h : length f ≤ 1048576) (x : Result Format Refusal) (m : HeaderIs b f x) where
+  pub lists_refused : (r : Refusal) → x ≡ Err r → Lists b f d (Err r) d
   unfolding listing starts_of
   lists_refused r q =
-      let k = header_as b f x (Unread r) m q in
+      let k = header_as b f x (Err r) m q in
       let o : listing (container_of b) f ≡ told_refusal r = rw (le-leb (length f) 1048576 h) (sym (k (accepted (length (container.records (container_of b) f) ∷ container.tail_offset (container_of b) f ∷ [])))) in
       record { answers = sym o; writes = rw o (none_listed r (starts_from (container_of b).head (container.records (container_of b) f)) d) }
 
-  pub lists_all : (g : Format) → x ≡ Read g → (e : List ℕ) (r : Walked) → WalkedTo g f d e r → Lists b f d (Records r.count r.tail) e
+  pub lists_all : (g : Format) → x ≡ Ok g → (e : List ℕ) (r : Walked) → WalkedTo g f d e r → Lists b f d (Ok r) e
   unfolding listing starts_of headed
   lists_all g q e r w =
-      let k = header_as b f x (Read g) m q in
+      let k = header_as b f x (Ok g) m q in
       let n : r.count ≡ length (container.records (container_of b) f) = w.count ∙ rw (k.2, records_of b f) in
       let t : r.tail ≡ container.tail_offset (container_of b) f = w.tail ∙ rw (k.2, tail_of_law b f) in
       let o : listing (container_of b) f ≡ accepted (length (container.records (container_of b) f) ∷ container.tail_offset (container_of b) f ∷ []) = rw (le-leb (length f) 1048576 h, k.0, k.1) in

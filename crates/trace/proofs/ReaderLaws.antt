@@ -28,6 +28,11 @@ end_of (Record e) = e
 end_of (Cut at) = at
 end_of End = 0
 
+not_record : (x : Step) → ((e : ℕ) → x ≡ Record e → ⊥) → is_record x ≡ false
+not_record (Record e) n = absurd (n e refl)
+not_record (Cut at) n = refl
+not_record End n = refl
+
 none_left : (g : Format) → records_in (size_by g) [] ≡ []
 unfolding is_whole
 none_left g = records_eq g [] ∙ rw (lt-leb (size_by g []) 0 (omega (arith, head_least g, size_least g [])))
@@ -85,6 +90,10 @@ module _ (g : Format) (f : List ℕ) (at : ℕ) where
       (λ h. split_b (is_whole (size_by g) (drop at f))
       (λ w. let z : is_record (step_of g f at) ≡ true = rw (lt-ltb at (length f) h, w) in no_way z q)
       (λ w. records_eq g (drop at f) ∙ rw w))
+
+  -- a loop that goes on while it finds a record has met them all
+  pub all_met : (x : Step) → x ≡ step_of g f at → ((e : ℕ) → x ≡ Record e → ⊥) → records_from g f at ≡ []
+  all_met x h n = none_told (rw h at (not_record x n))
 
   pub last_told : is_record (step_of g f at) ≡ false → step_of g f at ≡ cond (ltb at (length f)) (Cut at) End
   unfolding step_of

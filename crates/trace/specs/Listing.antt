@@ -1,13 +1,13 @@
 -- Listing the records of a file: where each starts, how many there are, and the tail offset; or a refusal.
-use Rattle.std.specs.Prelude.{ℕ, ◌+◌, ◌≡◌, cond, List, [], ◌∷◌, length, leb}
+use Rattle.std.specs.Prelude.{ℕ, ◌+◌, ◌≡◌, Result, cond, List, [], ◌∷◌, length, leb}
 use Rattle.std.proofs.lemmas.List.Edits.{sets}
-use Rattle.laws.specs.Answers.{Answer, accepted, refused}
+use Rattle.laws.specs.Answers.{Answer, accepted, refused, answered}
 use Rattle.container.specs.Container as container
 use Rattle.trace.specs.Formats.{container_of}
 use Rattle.trace.specs.Headers.{told_refusal, headed}
 use Rattle.trace.specs.declared.Container.{Container}
-use Rattle.trace.specs.declared.Listed.{Listed}
-use Rattle.trace.specs.declared.Listed.TheVariants.{Records, Refused}
+use Rattle.trace.specs.declared.Refusal.{Refusal}
+use Rattle.trace.specs.declared.Walked.{Walked}
 
 -- where parts start that follow one another from an offset on
 unfoldable pub starts_from : ℕ → List (List ℕ) → List ℕ
@@ -30,11 +30,14 @@ module _ (C : container.Container) where
 
 -- ---- as the code holds it
 
-abbrev pub told_listed : Listed → Answer
-told_listed (Records count tail) = accepted (count ∷ tail ∷ [])
-told_listed (Refused x) = told_refusal x
+-- how many records there are, and the tail offset
+abbrev pub told_walked : Walked → Answer
+told_walked w = accepted (w.count ∷ w.tail ∷ [])
+
+abbrev pub told_listed : Result Walked Refusal → Answer
+told_listed = answered told_walked told_refusal
 
 -- the answer by the definition, and the starts over the front of the list lent, as many as it has room for
-pub record Lists (b : Container) (f d : List ℕ) (r : Listed) (e : List ℕ) : Type 0 where
+pub record Lists (b : Container) (f d : List ℕ) (r : Result Walked Refusal) (e : List ℕ) : Type 0 where
   pub answers : told_listed r ≡ listing (container_of b) f
   pub writes : e ≡ sets d 0 (starts_of (container_of b) f)

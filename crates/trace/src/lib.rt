@@ -3,8 +3,7 @@
 
 ghost use Rattle.std.specs.Prelude.{◌≡◌, ◌+◌, ◌≤◌, length, set, drop};
 ghost use Rattle.trace.specs.Formats.{file_head, record_head, size_by};
-ghost use Rattle.trace.specs.Headers.{HeaderIs};
-ghost use Rattle.trace.specs.declared.Container.TheVariants.{Btsnoop, Pcap};
+ghost use Rattle.trace.specs.Headers.{btsnoop_refusal, pcap_refusal, HeaderIs};
 ghost use Rattle.trace.specs.Reader.{step_of, Starts, Moves};
 ghost use Rattle.trace.specs.Listing.{Lists};
 ghost use Rattle.trace.specs.Listings.{WalkedTo};
@@ -22,6 +21,7 @@ pub enum Container {
 #[derive(Clone, Copy)]
 pub enum Format {
     // a btsnoop file: its datalink
+    // Stays: a number, since the definitions read a record by any datalink that a header has; an enum of the three that are taken would leave the rest no format.
     Btsnoop(u32),
     // a pcap file: how its numbers are written
     Pcap(Encoding),
@@ -39,44 +39,35 @@ pub enum Refusal {
     Truncated(usize),
 }
 
-// What reading a header answers.
-#[derive(Clone, Copy)]
-pub enum Header {
-    Read(Format),
-    Refused(Refusal),
-}
+impl From<btsnoop::HeaderError> for Refusal {
+    ghost from_gives = { λ e r. r ≡ btsnoop_refusal e };
 
-// The header of a btsnoop file.
-fn btsnoop_header(file: &[u8]) -> Header
-    ensures { HeaderIs Btsnoop file.now result }
-{
-    let h = btsnoop::read_header(file);
-    match h {
-        btsnoop::Header::Datalink(n) => Header::Read(Format::Btsnoop(n)),
-        btsnoop::Header::NotBtsnoop => Header::Refused(Refusal::NotBtsnoop),
-        btsnoop::Header::Other(n) => Header::Refused(Refusal::Datalink(n)),
+    fn from(e: btsnoop::HeaderError) -> Refusal {
+        match e {
+            btsnoop::HeaderError::NotBtsnoop => Refusal::NotBtsnoop,
+            btsnoop::HeaderError::Datalink(n) => Refusal::Datalink(n),
+        }
     }
 }
 
-// The header of a pcap file.
-fn pcap_header(file: &[u8]) -> Header
-    ensures { HeaderIs Pcap file.now result }
-{
-    let h = pcap::read_header(file);
-    match h {
-        pcap::Header::Read(e) => Header::Read(Format::Pcap(e)),
-        pcap::Header::NotPcap => Header::Refused(Refusal::NotPcap),
-        pcap::Header::Other(n) => Header::Refused(Refusal::LinkType(n)),
+impl From<pcap::HeaderError> for Refusal {
+    ghost from_gives = { λ e r. r ≡ pcap_refusal e };
+
+    fn from(e: pcap::HeaderError) -> Refusal {
+        match e {
+            pcap::HeaderError::NotPcap => Refusal::NotPcap,
+            pcap::HeaderError::LinkType(n) => Refusal::LinkType(n),
+        }
     }
 }
 
 // Reads the header of a file of the container.
-pub fn read_header(file: &[u8], container: Container) -> Header
+pub fn read_header(file: &[u8], container: Container) -> Result<Format, Refusal>
     ensures { HeaderIs container file.now result }
 {
     match container {
-        Container::Btsnoop => btsnoop_header(file),
-        Container::Pcap => pcap_header(file),
+        Container::Btsnoop => Ok(Format::Btsnoop(btsnoop::read_header(file)?)),
+        Container::Pcap => Ok(Format::Pcap(pcap::read_header(file)?)),
     }
 }
 
@@ -186,7 +177,7 @@ pub struct Walked {
     pub tail: usize,
 }
 
-// Stores an offset at a place that is there.
+// Stores an offset at a place, if there is one.
 fn put_start(starts: &mut [u64], i: usize, at: usize)
     ensures { starts.new ≡ set starts.old i at }
 {
@@ -201,44 +192,25 @@ fn walk_records(file: &[u8], starts: &mut [u64], format: Format) -> Walked
 {
     let mut at = file_head(format);
     let mut count = 0;
-    loop {
-        let x = read_at(file, at, format);
-        match x {
-            Step::Record(end) => {
-                put_start(starts, count, at);
-                count += 1;
-                at = end;
-            }
-            Step::Cut(_) => {
-                return Walked { count, tail: at };
-            }
-            Step::End => {
-                return Walked { count, tail: at };
-            }
-        }
+    while let Step::Record(end) = read_at(file, at, format) {
+        put_start(starts, count, at);
+        count += 1;
+        at = end;
     }
-}
-
-// The answer of a listing: how many records and the tail offset, or a refusal.
-#[derive(Clone, Copy)]
-pub enum Listed {
-    Records(usize, usize),
-    Refused(Refusal),
+    Walked { count, tail: at }
 }
 
 // Stores where each whole record starts at the front of a list, as many as there is room for.
-pub fn list_records(file: &[u8], container: Container, starts: &mut [u64]) -> Listed
+pub fn list_records(
+    file: &[u8],
+    container: Container,
+    starts: &mut [u64],
+) -> Result<Walked, Refusal>
     ensures { Lists container file.now starts.old result starts.new }
 {
     if 1048576 < file.len() {
-        return Listed::Refused(Refusal::FileLong);
+        return Err(Refusal::FileLong);
     }
-    let h = read_header(file, container);
-    match h {
-        Header::Refused(x) => Listed::Refused(x),
-        Header::Read(format) => {
-            let w = walk_records(file, starts, format);
-            Listed::Records(w.count, w.tail)
-        }
-    }
+    let format = read_header(file, container)?;
+    Ok(walk_records(file, starts, format))
 }

@@ -6,11 +6,10 @@ use Rattle.std.specs.declared.option.Option.{Option}
 use Rattle.std.specs.Io.KnownBytes.{Appends}
 use Rattle.std.proofs.KnownBytes.{Appends-trans}
 use Rattle.laws.specs.Lists.{All, all_nil, all_cons}
-use Rattle.laws.specs.Answers.{Outcome, gives, answer, Meets}
+use Rattle.laws.specs.Answers.{accepted, Outcome, gives, answer, Meets}
 use Rattle.items.specs.Items.{Item, item, name_item, wire_item, Listed, well_formed, ill_formed, Span, read_items, passing, spans_in, names_in}
 use Rattle.items.specs.Reading.{Fits, item_list}
 use Rattle.items.specs.Walks.{Walks, Good, items_from, check_of, held}
-use Rattle.items.specs.declared.Checked.TheVariants.{Well}
 use Rattle.items.proofs.Reading.{items_back}
 use Rattle.items.proofs.Walks.{checked_good}
 use Rattle.trace.specs.Formats.{container_of}
@@ -23,11 +22,12 @@ use Rattle.fixtures.specs.Plan.{Fixture, fixture_items, fixture_list, planned, p
 use Rattle.fixtures.specs.Plan as plan
 use Rattle.fixtures.specs.Told.{told_planned}
 use Rattle.fixtures.specs.declared.Planned.{Planned}
-use Rattle.fixtures.specs.declared.Planned.TheVariants.{Wrote}
+use Rattle.fixtures.specs.declared.PlanError.{PlanError}
 use Rattle.capture.specs.Calls.{told_imported}
 use Rattle.capture.specs.declared.Summary.{Summary}
-use Rattle.capture.specs.declared.Imported.{Imported}
-use Rattle.capture.specs.declared.Imported.TheVariants.{Spans, Refused, NoStream, OutShort}
+use Rattle.std.specs.Prelude.{Ok, Err}
+use Rattle.capture.specs.declared.ImportError.{ImportError}
+use Rattle.capture.specs.declared.ImportError.TheVariants.{Refused, NoStream, OutShort}
 use Rattle.traceprint.specs.Lines.{lines_or, refusal_of, counts_line, any_item, name_lines, fixture_lines, fixtures_in, spans_lines, import_text, trace_lines}
 use Rattle.traceprint.proofs.Within.{accepts, not_given, plans_last, values_of, imported_written}
 
@@ -66,7 +66,7 @@ module _ (fs : List Fixture) (h : length (fixture_list fs) ≤ 16777216) where
 
   good_list : Good any_item (fixture_list fs) (length (as_items fs))
   unfolding check_of
-  good_list = let e = items_read in checked_good any_item (fixture_list fs) (Well (length (as_items fs))) (length (as_items fs)) (rw e refl) refl
+  good_list = let e = items_read in checked_good any_item (fixture_list fs) (Ok (length (as_items fs))) (length (as_items fs)) (rw e refl) refl
 
   pub fixtures_walk : Walks any_item (fixture_list fs) 0
   fixtures_walk = good_list.walks
@@ -94,7 +94,7 @@ record Planned_as (l out : List ℕ) (k : ℕ) : Type 0 where
   size : k ≤ length out
   list : take k out ≡ fixture_list (fixtures_in l)
 
-plan_wrote : (l out out' : List ℕ) (n k : ℕ) → Meets (plan_of l []) out (told_planned (Wrote n k)) out' → Planned_as l out' k
+plan_wrote : (l out out' : List ℕ) (n k : ℕ) → Meets (plan_of l []) out (accepted (n ∷ k ∷ [])) out' → Planned_as l out' k
 unfolding plan_of fixtures_in
 plan_wrote l out out' n k m =
     let g = accepts (plan_of l []) out (n ∷ k ∷ []) out' m in
@@ -102,7 +102,7 @@ plan_wrote l out out' n k m =
     let w = plans_list (spans_in l) (names_in []) (n ∷ k ∷ []) g.bytes g.gift none_excluded in
     record { size = omega (arith, g.room); list = rw q (g.front ∙ w) }
 
-module _ (l out out' : List ℕ) (n k : ℕ) (m : Meets (plan_of l []) out (told_planned (Wrote n k)) out') (long : length out' ≤ 65536) where
+module _ (l out out' : List ℕ) (n k : ℕ) (m : Meets (plan_of l []) out (accepted (n ∷ k ∷ [])) out') (long : length out' ≤ 65536) where
   planned_size : length (fixture_list (fixtures_in l)) ≤ 16777216
   planned_size = let p = plan_wrote l out out' n k m in omega (arith, p.size, ap length p.list, lib.Seq.length-take-le k out' p.size)
 
@@ -113,13 +113,13 @@ module _ (l out out' : List ℕ) (n k : ℕ) (m : Meets (plan_of l []) out (told
   plan_names = let p = plan_wrote l out out' n k m in rw p.list (fixtures_named (fixtures_in l) planned_size)
 
 -- what planning answers, in lines
-pub plan_lines : (head l out out' : List ℕ) (r : Planned) → Meets (plan_of l []) out (told_planned r) out' → length out ≡ 65536 → lines_or (head ++ fixture_lines (fixtures_in l)) (told_planned r) ≡ spans_lines head l
+pub plan_lines : (head l out out' : List ℕ) (r : Result Planned PlanError) → Meets (plan_of l []) out (told_planned r) out' → length out ≡ 65536 → lines_or (head ++ fixture_lines (fixtures_in l)) (told_planned r) ≡ spans_lines head l
 unfolding spans_lines
 plan_lines head l out out' r m e = let a : told_planned r ≡ answer (plan_of l []) 65536 = rw e at m.answers in rw (← a)
 
-pub wrote_lines : (head l out out' : List ℕ) (n k : ℕ) → Meets (plan_of l []) out (told_planned (Wrote n k)) out' → length out ≡ 65536 → length out' ≤ 65536
+pub wrote_lines : (head l out out' : List ℕ) (n k : ℕ) → Meets (plan_of l []) out (accepted (n ∷ k ∷ [])) out' → length out ≡ 65536 → length out' ≤ 65536
     → head ++ name_lines (items_from any_item (take k out') 0) ≡ spans_lines head l
-wrote_lines head l out out' n k m e h = ap (λ x. head ++ x) (plan_names l out out' n k m h) ∙ plan_lines head l out out' (Wrote n k) m e
+wrote_lines head l out out' n k m e h = ap (λ x. head ++ x) (plan_names l out out' n k m h) ∙ plan_lines head l out out' (Ok (record { fixtures = n; bytes = k })) m e
 
 -- ---- import
 
@@ -132,28 +132,27 @@ told_refused text NotPcap = refl
 told_refused text (LinkType n) = refl
 told_refused text (Truncated n) = refl
 
-told_unlisted : (text : List ℕ) (a : Imported) → ((s : Summary) → a ≡ Spans s → ⊥) → refusal_of (told_imported a) ≡ lines_or text (told_imported a)
-told_unlisted text (Spans s) f = absurd (f s refl)
-told_unlisted text (Refused x) f = told_refused text x
-told_unlisted text NoStream f = refl
-told_unlisted text (OutShort n) f = refl
+told_unlisted : (text : List ℕ) (e : ImportError) → refusal_of (told_imported (Err e)) ≡ lines_or text (told_imported (Err e))
+told_unlisted text (Refused x) = told_refused text x
+told_unlisted text NoStream = refl
+told_unlisted text (OutShort n) = refl
 
 abbrev ours : List ℕ → Outcome
 ours f = imported (container_of Btsnoop) f 65536 (by_source none strict)
 
 module _ (f out : List ℕ) (long : length out ≡ 65536) where
-  pub trace_refused : (a : Imported) (out' : List ℕ) → Meets (ours f) out (told_imported a) out' → ((s : Summary) → a ≡ Spans s → ⊥) → refusal_of (told_imported a) ≡ trace_lines f
+  pub trace_refused : (a : ImportError) (out' : List ℕ) → Meets (ours f) out (told_imported (Err a)) out' → refusal_of (told_imported (Err a)) ≡ trace_lines f
   unfolding trace_lines
-  trace_refused a out' m other =
-      let e : told_imported a ≡ answer (ours f) 65536 = rw long at m.answers in
-      told_unlisted (import_text (ours f)) a other ∙ ap (lines_or (import_text (ours f))) e
+  trace_refused a out' m =
+      let e : told_imported (Err a) ≡ answer (ours f) 65536 = rw long at m.answers in
+      told_unlisted (import_text (ours f)) a ∙ ap (lines_or (import_text (ours f))) e
 
-  pub trace_listed : (s : Summary) (out' : List ℕ) → Meets (ours f) out (told_imported (Spans s)) out' → spans_lines (counts_line s.dlci s.frames s.unfinished) (take s.written out') ≡ trace_lines f
+  pub trace_listed : (s : Summary) (out' : List ℕ) → Meets (ours f) out (told_imported (Ok s)) out' → spans_lines (counts_line s.stream.dlci s.stream.spans s.stream.unfinished) (take s.stream.bytes out') ≡ trace_lines f
   unfolding trace_lines
   trace_listed s out' m =
-      let e : told_imported (Spans s) ≡ answer (ours f) 65536 = rw long at m.answers in
+      let e : told_imported (Ok s) ≡ answer (ours f) 65536 = rw long at m.answers in
       let g = accepts (ours f) out (values_of s) out' m in
       let q = imported_written (container_of Btsnoop) f 65536 (by_source none strict) s g.bytes g.gift in
-      let w : take s.written out' ≡ g.bytes = subst (λ (k : ℕ). take k out' ≡ g.bytes) (sym q) g.front in
-      let t : import_text (ours f) ≡ spans_lines (counts_line s.dlci s.frames s.unfinished) g.bytes = ap import_text g.gift in
+      let w : take s.stream.bytes out' ≡ g.bytes = subst (λ (k : ℕ). take k out' ≡ g.bytes) (sym q) g.front in
+      let t : import_text (ours f) ≡ spans_lines (counts_line s.stream.dlci s.stream.spans s.stream.unfinished) g.bytes = ap import_text g.gift in
       rw w (sym t ∙ ap (lines_or (import_text (ours f))) e)

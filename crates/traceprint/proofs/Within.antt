@@ -13,17 +13,14 @@ use Rattle.items.proofs.Walks.{end_past}
 use Rattle.items.specs.declared.Step.TheVariants.{Whole, Passes, End}
 use Rattle.fixtures.specs.Plan.{plans, plan_of}
 use Rattle.fixtures.specs.Plan as plan
-use Rattle.fixtures.specs.Told.{told_planned}
-use Rattle.fixtures.specs.declared.Planned.TheVariants.{Wrote}
 use Rattle.container.specs.Container as container
 use Rattle.trace.specs.Formats.{container_of}
 use Rattle.trace.specs.declared.Container.{Container}
 use Rattle.outcome.specs.Import.{Found, found, missing, Options, fits, work_suffices, outcome, imported}
 use Rattle.outcome.specs.Import as import
-use Rattle.capture.specs.Calls.{Imports}
+use Rattle.capture.specs.Calls.{Imported, Imports}
 use Rattle.capture.specs.declared.Summary.{Summary}
-use Rattle.capture.specs.declared.Imported.{Imported}
-use Rattle.capture.specs.declared.Imported.TheVariants.{Spans}
+use Rattle.std.specs.Prelude.{Ok}
 use Rattle.traceprint.specs.Lies.{Lies}
 
 -- ---- an item
@@ -87,14 +84,14 @@ accepts (refuses n us) d vs e m = not_accepted m.answers
 -- their number is among the values that import answers
 
 abbrev pub values_of : Summary → List ℕ
-values_of s = s.dlci ∷ s.frames ∷ s.unfinished ∷ s.tail ∷ s.written ∷ s.wrong ∷ s.in_spans ∷ s.dropped ∷ s.cleared ∷ s.left ∷ []
+values_of s = s.stream.dlci ∷ s.stream.spans ∷ s.stream.unfinished ∷ s.tail ∷ s.stream.bytes ∷ s.wrong ∷ s.stream.in_spans ∷ s.stream.dropped ∷ s.stream.cleared ∷ s.stream.left ∷ []
 
-found_written : (x : Found) (s : Summary) (w : List ℕ) → import.given x ≡ gives (values_of s) w → s.written ≡ length w
+found_written : (x : Found) (s : Summary) (w : List ℕ) → import.given x ≡ gives (values_of s) w → s.stream.bytes ≡ length w
 unfolding import.given
 found_written (found y) s w e = cc
 found_written (missing m vs) s w e = not_given e
 
-pub imported_written : (C : container.Container) (f : List ℕ) (work : ℕ) (o : Options) (s : Summary) (w : List ℕ) → imported C f work o ≡ gives (values_of s) w → s.written ≡ length w
+pub imported_written : (C : container.Container) (f : List ℕ) (work : ℕ) (o : Options) (s : Summary) (w : List ℕ) → imported C f work o ≡ gives (values_of s) w → s.stream.bytes ≡ length w
 unfolding imported
 imported_written C f work o s w e =
     split_b (fits f)
@@ -111,7 +108,7 @@ import_lies b f work o out r work' out' i = record {
       omega (arith, g.room));
 }
 
-pub lies_within : (s : Summary) (out : List ℕ) → Lies (Spans s) out → s.written ≤ length out
+pub lies_within : (s : Summary) (out : List ℕ) → Lies (Ok s) out → s.stream.bytes ≤ length out
 lies_within s out l = l.within s refl
 
 -- and the last that planning answers
@@ -122,7 +119,7 @@ plans_last (ill_formed m) ns n k w e = not_given e
 plans_last (well_formed ss) (ill_formed m) n k w e = not_given e
 plans_last (well_formed ss) (well_formed ns) n k w e = cc
 
-pub plan_within : (spans excluded out out' : List ℕ) (n k : ℕ) → Meets (plan_of spans excluded) out (told_planned (Wrote n k)) out' → k ≤ length out'
+pub plan_within : (spans excluded out out' : List ℕ) (n k : ℕ) → Meets (plan_of spans excluded) out (accepted (n ∷ k ∷ [])) out' → k ≤ length out'
 unfolding plan_of
 plan_within spans excluded out out' n k p =
     let g = accepts (plan_of spans excluded) out (n ∷ k ∷ []) out' p in

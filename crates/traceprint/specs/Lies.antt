@@ -1,8 +1,7 @@
 -- The bytes that import says it wrote lie in its output.
-use Rattle.std.specs.Prelude.{ℕ, ◌≤◌, ◌≡◌, List, length}
+use Rattle.std.specs.Prelude.{Ok, ℕ, ◌≤◌, ◌≡◌, List, length}
 use Rattle.capture.specs.declared.Summary.{Summary}
-use Rattle.capture.specs.declared.Imported.{Imported}
-use Rattle.capture.specs.declared.Imported.TheVariants.{Spans}
+use Rattle.capture.specs.Calls.{Imported}
 
 pub record Lies (r : Imported) (out : List ℕ) : Type 0 where
-  pub within : (s : Summary) → r ≡ Spans s → s.written ≤ length out
+  pub within : (s : Summary) → r ≡ Ok s → s.stream.bytes ≤ length out

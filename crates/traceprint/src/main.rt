@@ -2,7 +2,7 @@
 // import gives, then the names of the fixtures, one to a line; or the number of a refusal, with the values it carries.
 #![tactic(auto)]
 
-ghost use Rattle.std.specs.Prelude.{[], ◌∷◌, OnOk};
+ghost use Rattle.std.specs.Prelude.{[], ◌∷◌, OnOk, Err};
 ghost use Rattle.std.proofs.Math.Option.{none};
 ghost use Rattle.laws.specs.Answers.{Meets};
 ghost use Rattle.items.specs.Walks.{Walks, items_from};
@@ -15,14 +15,13 @@ ghost use Rattle.capture.specs.Calls.{told_imported};
 ghost use Rattle.traceprint.specs.Lies.{Lies};
 ghost use Rattle.traceprint.specs.Lines.{any_item, counts_line, name_lines, refusal_line, refusal_of, spans_lines, trace_lines};
 
-use capture::{Imported, Options, import};
-use fixtures::{Planned, plan};
+use capture::{ImportError, Options, Summary, import};
+use fixtures::{PlanError, plan};
 use items::{Step, item_at};
 use opening::Tail;
 use reading::read_full;
 use std::io;
 use std::io::Write;
-use streams::Channel;
 use trace::{Container, Refusal};
 
 // ---- text
@@ -86,27 +85,28 @@ fn print_spans<W: Write>(
     ensures { OnOk result (Appends (W.contents out.old) (W.contents out.new) (spans_lines (counts_line dlci frames unfinished) spans.now)) }
 {
     let mut fixtures = [0u8; 65536];
-    let p = plan(spans, b"", &mut fixtures);
-    match p {
-        Planned::Wrote(_, bytes) => {
+    match plan(spans, b"", &mut fixtures) {
+        Ok(p) => {
             print_counts(out, dlci, frames, unfinished)?;
-            print_names(out, &fixtures[..bytes])
+            print_names(out, &fixtures[..p.bytes])
         }
-        Planned::SpansIll(offset) => refuse_with(out, 19, offset),
-        Planned::NamesIll(offset) => refuse_with(out, 20, offset),
-        Planned::OutShort(needed) => refuse_with(out, 7, needed),
+        Err(e) => match e {
+            PlanError::SpansIll(offset) => refuse_with(out, 19, offset),
+            PlanError::NamesIll(offset) => refuse_with(out, 20, offset),
+            PlanError::OutShort(needed) => refuse_with(out, 7, needed),
+        },
     }
 }
 
 // Import of a btsnoop file, strictly and on any channel, FCS unchecked. 65,536 bytes of work are more than the 8 times 4,096 that it asks.
-fn import_any(file: &[u8], spans: &mut [u8]) -> Imported
+fn import_any(file: &[u8], spans: &mut [u8]) -> Result<Summary, ImportError>
     ensures lies { Lies result spans.new }
     ensures meets { Meets (imported (container_of Btsnoop) file.now 65536 (by_source none strict)) spans.old (told_imported result) spans.new }
 {
     let mut work = [0u8; 65536];
     let options = Options {
         container: Container::Btsnoop,
-        channel: Channel::Any,
+        channel: None,
         tail: Tail::Strict,
         fcs: false,
     };
@@ -129,14 +129,13 @@ fn print_unread<W: Write>(out: &mut W, x: Refusal) -> io::Result<()>
 }
 
 // Why import gives no spans.
-fn print_refusal<W: Write>(out: &mut W, a: Imported) -> io::Result<()>
-    ensures { OnOk result (Appends (W.contents out.old) (W.contents out.new) (refusal_of (told_imported a))) }
+fn print_refusal<W: Write>(out: &mut W, e: ImportError) -> io::Result<()>
+    ensures { OnOk result (Appends (W.contents out.old) (W.contents out.new) (refusal_of (told_imported (Err e)))) }
 {
-    match a {
-        Imported::Spans(_) => Ok(()),
-        Imported::Refused(x) => print_unread(out, x),
-        Imported::NoStream => refuse(out, 6),
-        Imported::OutShort(needed) => refuse_with(out, 7, needed),
+    match e {
+        ImportError::Refused(x) => print_unread(out, x),
+        ImportError::NoStream => refuse(out, 6),
+        ImportError::OutShort(needed) => refuse_with(out, 7, needed),
     }
 }
 
@@ -145,18 +144,14 @@ fn print_trace<W: Write>(out: &mut W, file: &[u8]) -> io::Result<()>
     ensures { OnOk result (Appends (W.contents out.old) (W.contents out.new) (trace_lines file.now)) }
 {
     let mut spans = [0u8; 65536];
-    let a = import_any(file, &mut spans);
-    let Imported::Spans(s) = a else {
-        return print_refusal(out, a);
-    };
-    let bytes = s.written;
-    print_spans(
-        out,
-        &spans[..bytes],
-        s.dlci as usize,
-        s.frames,
-        s.unfinished,
-    )
+    match import_any(file, &mut spans) {
+        Ok(s) => {
+            let x = s.stream;
+            let bytes = x.bytes;
+            print_spans(out, &spans[..bytes], x.dlci as usize, x.spans, x.unfinished)
+        }
+        Err(e) => print_refusal(out, e),
+    }
 }
 
 fn main(rt: HostRuntime) -> io::Result<()> {

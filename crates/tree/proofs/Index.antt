@@ -1,4 +1,5 @@
 -- Laws of specs/Tree: the search, one row more, an index that begins.
+use Rattle.std.specs.Prelude.{Some, None}
 use mathlib.Core.Path.{◌≡◌, refl, sym, ap, ◌∙◌}
 use mathlib.Core.List.{List}
 use mathlib.Core.Logic.{inl, inr}
@@ -18,7 +19,6 @@ use Rattle.words.proofs.Front.{front_then, front_put}
 use Rattle.table.specs.Table.{find_in, put_row, Stored, Agree}
 use Rattle.table.specs.Chain.{Filled}
 use Rattle.table.proofs.Table.{row_outside, row_key, length_row, long_agree, lookup_agree, sum_agree, store_new}
-use Rattle.table.specs.declared.Row.TheVariants.{At, Nothing}
 use Rattle.tree.specs.Paths.{node_at, rest_at, Keeps}
 use Rattle.tree.specs.Tree.{mix_of, tree_of, key_at, links_in, root_in, path_to, Indexed, Stands, SeekPre, EnterPre, Added, Cleared, ClearPre, TreeIs, Vacant, SpotIs, Seeking, NewPre, put_new}
 use Rattle.tree.specs.declared.Tree.{Tree}
@@ -61,13 +61,13 @@ tree_is n m h = record { is = refl; few = part_less (n % 4294967296 * 2654435769
 no_zero : {A : Type 0} (a : ℕ) → 0 ≡ suc a → A
 no_zero a e = absurd (omega (arith, e))
 
-other_row : {A : Type 0} (i : ℕ) → Nothing ≡ At i → A
+other_row : {A : Type 0} (i : ℕ) → None ≡ Some i → A
 other_row i e = let z : ◌≡◌ {A = ℕ} 0 1 = cc in absurd (omega arith)
 
 earlier : (i n : ℕ) → i < n + 1 → (i ≡ n → ⊥) → i < n
 earlier i n l q = split≤ n i (λ h. absurd (q (omega arith))) (λ h. h)
 
-find_no : (w : List ℕ) (b k n : ℕ) → ((i : ℕ) → i < n → long w (b + 4 * i) ≡ k → ⊥) → find_in w b k n ≡ Nothing
+find_no : (w : List ℕ) (b k n : ℕ) → ((i : ℕ) → i < n → long w (b + 4 * i) ≡ k → ⊥) → find_in w b k n ≡ None
 unfolding find_in
 find_no w b k zero h = refl
 find_no w b k (suc n) h = rw (ne_eqb (long w (b + 4 * n)) k (h n (omega arith))) (find_no w b k n (λ i l. h i (omega arith)))
@@ -81,19 +81,19 @@ find_more : (u : List ℕ) (b k n : ℕ) → (long u (b + 4 * n) ≡ k → ⊥) 
 unfolding find_in
 find_more u b k n h = rw (add-one n, ne_eqb (long u (b + 4 * n)) k h)
 
-find_last : (u : List ℕ) (b k n : ℕ) → long u (b + 4 * n) ≡ k → find_in u b k (n + 1) ≡ At n
+find_last : (u : List ℕ) (b k n : ℕ) → long u (b + 4 * n) ≡ k → find_in u b k (n + 1) ≡ Some n
 unfolding find_in
 find_last u b k n h = rw (add-one n, eq-eqb (long u (b + 4 * n)) k h)
 
 -- the row of a key that is there
-pub found_key : (w : List ℕ) (b k n i : ℕ) → find_in w b k n ≡ At i → long w (b + 4 * i) ≡ k
+pub found_key : (w : List ℕ) (b k n i : ℕ) → find_in w b k n ≡ Some i → long w (b + 4 * i) ≡ k
 unfolding find_in
 found_key w b k zero i e = other_row i e
 found_key w b k (suc n) i e =
     split≡ (long w (b + 4 * n)) k
     (λ q. let z : n ≡ i = go (rw (eq-eqb (long w (b + 4 * n)) k q) at e) in rw (← z) q)
     (λ q. found_key w b k n i (rw (ne_eqb (long w (b + 4 * n)) k q) at e)) where
-      go : At n ≡ At i → n ≡ i
+      go : Some n ≡ Some i → n ≡ i
       go e = cc
 
 -- ---- the search along the bits
@@ -181,14 +181,14 @@ module _ (w : List ℕ) (x : Tree) (n k : ℕ) (p : SeekPre w x n) where
                 (λ o. q.others a r (earlier a q.depth (omega arith) o) h z)
 
 module _ (w : List ℕ) (x : Tree) (n k : ℕ) where
-  pub seek_none : n ≡ 0 → Nothing ≡ find_in w x.rows k n
+  pub seek_none : n ≡ 0 → None ≡ find_in w x.rows k n
   unfolding find_in
   seek_none e = rw e
 
-  pub seek_taken : (r : Spot) → SpotIs w x n k r → (i : ℕ) → r ≡ Taken i → At i ≡ find_in w x.rows k n
+  pub seek_taken : (r : Spot) → SpotIs w x n k r → (i : ℕ) → r ≡ Taken i → Some i ≡ find_in w x.rows k n
   seek_taken r s i e = sym (s.taken i e)
 
-  pub seek_free : (r : Spot) → SpotIs w x n k r → (at : ℕ) → r ≡ Free at → Nothing ≡ find_in w x.rows k n
+  pub seek_free : (r : Spot) → SpotIs w x n k r → (at : ℕ) → r ≡ Free at → None ≡ find_in w x.rows k n
   seek_free r s at e = sym (s.free at e).none
 
 -- ---- an empty table
@@ -320,7 +320,7 @@ module _ (w : List ℕ) (x : Tree) (n k y z : ℕ) (p : EnterPre w x n) where
         stored = stored_agree w rowed u x.rows n k y z (n + 1) (λ j a b. low j (omega (arith, p.stands.rows)))
             (front_then (4 * x.rows) u v rowed front v_front)
             (size ∙ v_long ∙ sym rowed_long)
-            (store_new w x.rows n k y z room Nothing (sym c.none) refl rowed refl);
+            (store_new w x.rows n k y z room None (sym c.none) refl rowed refl);
         indexed = record {
           some = s.some;
           many = s.many;
@@ -389,7 +389,7 @@ module _ (w : List ℕ) (x : Tree) (n k y z : ℕ) (p : EnterPre w x n) where
       differ : (i : ℕ) → i < n → k ≡ key_at w x i → ⊥
       differ i l e = other_row i (sym c.none ∙ rw (← e) at (s.own i l))
 
-      own_row : (i : ℕ) → i < n + 1 → find_in u x.rows (key_at u x i) (n + 1) ≡ At i
+      own_row : (i : ℕ) → i < n + 1 → find_in u x.rows (key_at u x i) (n + 1) ≡ Some i
       own_row i l =
           split≡ i n
           (λ q. rw q (find_last u x.rows (key_at u x n) n refl))

@@ -1,21 +1,20 @@
 -- The row of a key, found or made, and its values stored: the laws that callers of seat go by.
+use Rattle.std.specs.Prelude.{Option, Some, None}
 use mathlib.Core.Path.{◌≡◌, refl, sym, ◌∙◌}
 use mathlib.Core.List.{List}
 use Prim.Native.Nat.{ℕ, ◌+◌, ◌*◌, ◌<◌, ◌≤◌}
 use native.Mathlib.Omega.{arith}
-use mathlib.Core.Bool.{Bool, true, false}
+use mathlib.Core.Bool.{Bool, true}
 use lib.ListN.{length}
-use lib.Dec.{eqb}
-use borrow.Author.Tests.{eq-eqb, ne_eqb, eqb-true}
-use Rattle.laws.proofs.Choice.{split≡, no_way}
+use lib.Dec.{eqb, ltb}
+use borrow.Author.Tests.{eq-eqb, ne_eqb, eqb-true, ltb-true}
+use Rattle.laws.proofs.Choice.{split≡}
 use Rattle.words.specs.Words.{word, long, put_word}
 use Rattle.words.proofs.Words.{length_put, word_put_same, word_put_other}
 use Rattle.words.specs.Front.{Front}
 use Rattle.words.proofs.Front.{front_then, front_put, front_refl}
 use Rattle.table.specs.Table.{find_in, Slot, none, some, lookup, upd, second, sum_of, Stored}
 use Rattle.table.proofs.Table.{find_below, lookup_found, lookup_nothing, long_agree, store_old}
-use Rattle.table.specs.declared.Row.{Row}
-use Rattle.table.specs.declared.Row.TheVariants.{At, Nothing}
 use Rattle.tree.specs.Tree.{Indexed, SeekPre, EnterPre, Entered, Added, SpotIs, put_new, key_at}
 use Rattle.tree.proofs.Index.{find_agree, indexed_agree, stands_less, stands_same, enter_new}
 use Rattle.tree.specs.Seats.{seat_of, Seated, Sits, Nearby}
@@ -24,14 +23,14 @@ use Rattle.tree.specs.declared.Seating.{Seating}
 use Rattle.tree.specs.declared.Spot.{Spot}
 use Rattle.tree.specs.declared.Spot.TheVariants.{Taken, Free}
 
-no_row : {A : Type 0} (r : Row) (i : ℕ) → r ≡ Nothing → r ≡ At i → A
+no_row : {A : Type 0} (r : Option ℕ) (i : ℕ) → r ≡ None → r ≡ Some i → A
 no_row r i p q = let z : ◌≡◌ {A = ℕ} 0 1 = cc in absurd (omega arith)
 
-pub split_row : {G : Type 0} (r : Row) → ((i : ℕ) → r ≡ At i → G) → (r ≡ Nothing → G) → G
-split_row (At i) f g = f i refl
-split_row Nothing f g = g refl
+pub split_row : {G : Type 0} (r : Option ℕ) → ((i : ℕ) → r ≡ Some i → G) → (r ≡ None → G) → G
+split_row (Some i) f g = f i refl
+split_row None f g = g refl
 
-pub same_row : (r : Row) (i j : ℕ) → r ≡ At i → r ≡ At j → i ≡ j
+pub same_row : (r : Option ℕ) (i j : ℕ) → r ≡ Some i → r ≡ Some j → i ≡ j
 same_row r i j p q = cc
 
 -- ---- the row of a key
@@ -46,7 +45,7 @@ module _ (s : ℕ → Slot) (k y z : ℕ) where
   says_new e j = rw e
 
 module _ (w : List ℕ) (x : Tree) (n k y z : ℕ) (p : EnterPre w x n) where
-  seated_known : (i : ℕ) → find_in w x.rows k n ≡ At i → Seated w x n k y z w (record { rows = n; at = i })
+  seated_known : (i : ℕ) → find_in w x.rows k n ≡ Some i → Seated w x n k y z w (record { rows = n; at = i })
   seated_known i e = record {
     known = λ j f. (refl, (refl, same_row (find_in w x.rows k n) i j e f));
     fresh = λ f. no_row (find_in w x.rows k n) i f e;
@@ -63,7 +62,7 @@ module _ (w : List ℕ) (x : Tree) (n k y z : ℕ) (p : EnterPre w x n) where
     beyond = λ j a. refl;
   }
 
-  seated_added : find_in w x.rows k n ≡ Nothing → (u : List ℕ) → Added w x n k y z u → Seated w x n k y z u (record { rows = n + 1; at = n })
+  seated_added : find_in w x.rows k n ≡ None → (u : List ℕ) → Added w x n k y z u → Seated w x n k y z u (record { rows = n + 1; at = n })
   seated_added e u a = record {
     known = λ j f. no_row (find_in w x.rows k n) j e f;
     fresh = λ f. (a.entered, (refl, refl));
@@ -86,7 +85,7 @@ module _ (w : List ℕ) (x : Tree) (n k y z : ℕ) (p : EnterPre w x n) where
   pub row_free : (at : ℕ) (r : Spot) → SpotIs w x n k r → r ≡ Free at → (v : List ℕ) → v ≡ put_new w x n k y z → (u : List ℕ) → u ≡ put_word v at (n + 1) → Seated w x n k y z u (record { rows = n + 1; at = n })
   row_free at r s e v ev u eu = seated_added (s.free at e).none u (enter_new w x n k y z p v ev at r s e u eu)
 
-  pub seat_near : (i : ℕ) (r : Row) → Nearby w x n k r → r ≡ At i → Seated w x n k y z w (record { rows = n; at = i })
+  pub seat_near : (i : ℕ) (r : Option ℕ) → Nearby w x n k r → r ≡ Some i → Seated w x n k y z w (record { rows = n; at = i })
   seat_near i r s e = seated_known i (s.has i e)
 
   pub enter_seek : SeekPre w x n
@@ -94,19 +93,19 @@ module _ (w : List ℕ) (x : Tree) (n k y z : ℕ) (p : EnterPre w x n) where
 
 -- ---- a row near another
 
-pub near_none : (w : List ℕ) (x : Tree) (n k : ℕ) → Nearby w x n k Nothing
-near_none w x n k = record { has = λ i e. no_row Nothing i refl e }
+pub near_none : (w : List ℕ) (x : Tree) (n k : ℕ) → Nearby w x n k None
+near_none w x n k = record { has = λ i e. no_row None i refl e }
 
-pub near_row : (w : List ℕ) (x : Tree) (n k i : ℕ) (t : Bool) → Sits w x n k i t → t ≡ true → Nearby w x n k (At i)
-near_row w x n k i t s e = record { has = λ j f. rw (← same_row (At i) i j refl f) (s.own e) }
+pub near_row : (w : List ℕ) (x : Tree) (n k i : ℕ) (t : Bool) → Sits w x n k i t → t ≡ true → Nearby w x n k (Some i)
+near_row w x n k i t s e = record { has = λ j f. rw (← same_row (Some i) i j refl f) (s.own e) }
 
-pub sits_past : (w : List ℕ) (x : Tree) (n k i : ℕ) → Sits w x n k i false
-sits_past w x n k i = record { own = λ e. no_way e refl }
+pub sits_past : (w : List ℕ) (x : Tree) (n k i : ℕ) → n ≤ i → Sits w x n k i (ltb i n)
+sits_past w x n k i h = record { own = λ e. absurd (omega (arith, ltb-true i n e)) }
 
 pub sits_is : (w : List ℕ) (x : Tree) (n k i : ℕ) → SeekPre w x n → i < n → (y : ℕ) → y ≡ long w (x.rows + 4 * i) → Sits w x n k i (eqb y k)
 sits_is w x n k i p l y e = record { own = λ t. rw (sym e ∙ eqb-true y k t) at (p.indexed.own i l) }
 
-pub near_seek : (w : List ℕ) (x : Tree) (n k i : ℕ) (r : Row) → Nearby w x n k r → r ≡ At i → At i ≡ find_in w x.rows k n
+pub near_seek : (w : List ℕ) (x : Tree) (n k i : ℕ) (r : Option ℕ) → Nearby w x n k r → r ≡ Some i → Some i ≡ find_in w x.rows k n
 near_seek w x n k i r s e = sym (s.has i e)
 
 -- ---- the values of a row stored
@@ -118,7 +117,7 @@ pub record Valued (w : List ℕ) (x : Tree) (n k i y z : ℕ) (u : List ℕ) : T
   pub finds : (j : ℕ) → find_in u x.rows j n ≡ find_in w x.rows j n
   pub others : (j : ℕ) → (x.rows + 4 * i + 2 ≡ j → ⊥) → (x.rows + 4 * i + 3 ≡ j → ⊥) → word u j ≡ word w j
 
-module _ (w : List ℕ) (x : Tree) (n k i : ℕ) (p : SeekPre w x n) (e : find_in w x.rows k n ≡ At i) where
+module _ (w : List ℕ) (x : Tree) (n k i : ℕ) (p : SeekPre w x n) (e : find_in w x.rows k n ≡ Some i) where
   less : i < n
   less = find_below w x.rows k n i e
 

@@ -1,10 +1,8 @@
 -- The row of a key, found or made: what seat promises.
-use Rattle.std.specs.Prelude.{◌≡◌, List, ℕ, ◌+◌, ◌*◌, ◌<◌, ◌≤◌, Bool, true, length}
+use Rattle.std.specs.Prelude.{◌≡◌, List, ℕ, ◌+◌, ◌*◌, ◌<◌, ◌≤◌, Bool, true, length, Option, Some, None}
 use Rattle.words.specs.Words.{word}
 use Rattle.words.specs.Front.{Front}
 use Rattle.table.specs.Table.{find_in, Slot, none, some, lookup, upd}
-use Rattle.table.specs.declared.Row.{Row}
-use Rattle.table.specs.declared.Row.TheVariants.{At, Nothing}
 use Rattle.tree.specs.Tree.{Indexed, Entered}
 use Rattle.tree.specs.declared.Tree.{Tree}
 use Rattle.tree.specs.declared.Seating.{Seating}
@@ -16,9 +14,9 @@ seat_of y z (some a b) = some a b
 
 -- The row of the key k: the one that there is, and nothing changes, or a new one with the values y and z.
 pub record Seated (w : List ℕ) (x : Tree) (n k y z : ℕ) (u : List ℕ) (r : Seating) : Type 0 where
-  pub known : (i : ℕ) → find_in w x.rows k n ≡ At i → (u ≡ w) × ((r.rows ≡ n) × (r.at ≡ i))
-  pub fresh : find_in w x.rows k n ≡ Nothing → Entered w x n k y z u (n + 1) × ((r.rows ≡ n + 1) × (r.at ≡ n))
-  pub row : find_in u x.rows k r.rows ≡ At r.at
+  pub known : (i : ℕ) → find_in w x.rows k n ≡ Some i → (u ≡ w) × ((r.rows ≡ n) × (r.at ≡ i))
+  pub fresh : find_in w x.rows k n ≡ None → Entered w x n k y z u (n + 1) × ((r.rows ≡ n + 1) × (r.at ≡ n))
+  pub row : find_in u x.rows k r.rows ≡ Some r.at
   pub others : (j : ℕ) → (k ≡ j → ⊥) → find_in u x.rows j r.rows ≡ find_in w x.rows j n
   pub few : r.at < r.rows
   pub says : (j : ℕ) → lookup u x.rows r.rows j ≡ upd (lookup w x.rows n) k (seat_of y z (lookup w x.rows n k)) j
@@ -32,8 +30,8 @@ pub record Seated (w : List ℕ) (x : Tree) (n k y z : ℕ) (u : List ℕ) (r : 
 
 -- whether row i is the key's
 pub record Sits (w : List ℕ) (x : Tree) (n k i : ℕ) (r : Bool) : Type 0 where
-  pub own : r ≡ true → find_in w x.rows k n ≡ At i
+  pub own : r ≡ true → find_in w x.rows k n ≡ Some i
 
 -- an answer is the key's row
-pub record Nearby (w : List ℕ) (x : Tree) (n k : ℕ) (r : Row) : Type 0 where
-  pub has : (i : ℕ) → r ≡ At i → find_in w x.rows k n ≡ At i
+pub record Nearby (w : List ℕ) (x : Tree) (n k : ℕ) (r : Option ℕ) : Type 0 where
+  pub has : (i : ℕ) → r ≡ Some i → find_in w x.rows k n ≡ Some i

@@ -30,20 +30,14 @@ pub enum Frame {
 fn is_sabm(control: u8) -> bool
     ensures { result ≡ is_sabm control }
 {
-    if control == 0x2F {
-        return true;
-    }
-    control == 0x3F
+    control == 0x2F || control == 0x3F
 }
 
 // 0xEF, or 0xFF with the P/F bit.
 fn is_uih(control: u8) -> bool
     ensures { result ≡ is_uih control }
 {
-    if control == 0xEF {
-        return true;
-    }
-    control == 0xFF
+    control == 0xEF || control == 0xFF
 }
 
 // A length field: how many bytes it has, and its value.
@@ -82,10 +76,7 @@ fn dlci_of(address: u8) -> u32
 fn credit_width(control: u8) -> usize
     ensures { (result ≡ cond (eqb control 0xFF) 1 0) × (result ≤ 1) }
 {
-    if control == 0xFF {
-        return 1;
-    }
-    0
+    if control == 0xFF { 1 } else { 0 }
 }
 
 // The check over an address and the control of UIH. Bits are powers of x, the highest bit the first: the address goes on by 16

@@ -1,5 +1,5 @@
 -- Storing unescaped bytes.
-use Rattle.std.proofs.Common.{◌≡◌, ℕ, ◌+◌, ◌-◌, ◌<◌, ◌≤◌, Bool, true, false, List, ◌++◌, length, take, drop, set, sym, refl, ap, ◌∙◌, zero-add, arith, length-drop, length-take-le, drop-drop, take_at, take-add, drop_at}
+use Rattle.std.proofs.Common.{◌≡◌, ℕ, ◌+◌, ◌-◌, ◌*◌, ◌/◌, ◌%◌, ◌<◌, ◌≤◌, Bool, true, false, List, ◌++◌, length, take, drop, set, sym, refl, ap, ◌∙◌, zero-add, arith, length-drop, length-take-le, drop-drop, take_at, take-add, drop_at}
 use lib.Seq.{sets, length-sets}
 use Rattle.laws.proofs.Choice.{no_way}
 use Rattle.laws.specs.Stores.{Writes}
@@ -64,6 +64,17 @@ module _ (s : List ℕ) (i₀ : ℕ) (d : List ℕ) (count i : ℕ) (e : List �
       let h = f.few in
       let q : k + (count - k) ≡ count = omega arith in
       rw q at (filled_then s i₀ d 0 k i e (count - k) r g (omega (arith, f.room)) f.done (rw zero-add v))
+
+-- so many blocks of sixteen, and the rest
+pub fill_blocks : (s : List ℕ) (i₀ : ℕ) (d : List ℕ) (count i : ℕ) (e : List ℕ) (b : ℕ) → Filling s i₀ d 0 count i e (16 * b) → b < count / 16 → (r : ℕ) (g : List ℕ) → Filled s i e (16 * b) 16 r g → Filling s i₀ d 0 count r g (16 * (b + 1))
+fill_blocks s i₀ d count i e b f h r g v =
+    let q : 16 * b + 16 ≡ 16 * (b + 1) = omega arith in
+    rw q at (fill_block_turn s i₀ d count i e (16 * b) f 16 (omega arith) r g v)
+
+pub fill_rest : (s : List ℕ) (i₀ : ℕ) (d : List ℕ) (count i : ℕ) (e : List ℕ) (b : ℕ) → Filling s i₀ d 0 count i e (16 * b) → b ≡ count / 16 → (r : ℕ) (g : List ℕ) → Filled s i e (16 * (count / 16)) (count % 16) r g → Filled s i₀ d 0 count r g
+fill_rest s i₀ d count i e b f h r g v =
+    let q : count - 16 * (count / 16) ≡ count % 16 = omega arith in
+    fill_last s i₀ d count i e (16 * (count / 16)) (rw h at f) r g (rw q v)
 
 -- ---- a part without a 3D
 

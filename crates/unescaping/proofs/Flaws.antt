@@ -1,34 +1,36 @@
 -- Where escaping is first broken: pair by pair, part by part, and what unescaping says of it.
-use Rattle.std.proofs.Common.{◌≡◌, ℕ, zero, suc, ◌+◌, ◌-◌, ◌%◌, ◌<◌, ◌≤◌, Bool, true, false, cond, eqb, List, [], ◌∷◌, length, get_or, take, drop, sym, refl, ap, ◌∙◌, subst, arith, length-drop, length-take-le, take_all, take-take, drop-drop, eq-eqb, ne_eqb, eqb-true}
+use Rattle.std.proofs.Common.{◌≡◌, ℕ, zero, suc, ◌+◌, ◌-◌, ◌%◌, ◌<◌, ◌≤◌, Bool, true, false, cond, not, eqb, List, [], ◌∷◌, length, get_or, take, drop, sym, refl, ap, ◌∙◌, subst, arith, length-drop, length-take-le, take_all, take-take, drop-drop, eq-eqb, ne_eqb, eqb-true}
 use lib.Seq.{take-nil, take-length}
 use borrow.Author.Tests.{eqb-false}
 use Rattle.laws.proofs.Choice.{split_b, no_way}
 use Rattle.laws.proofs.Lists.{drop_step, drop_end}
-use Rattle.laws.specs.Answers.{Outcome, gives, refuses}
+use Rattle.laws.specs.Answers.{refused, Outcome, gives, refuses}
 use Rattle.mdr.specs.Escape.{within, escapee, push, unescape}
 use Rattle.mdr.proofs.Escaping.{within_range}
-use Rattle.blocks.specs.Blocks.{OneIf, Tallied}
+use Rattle.blocks.specs.Blocks.{Tallied}
 use Rattle.unescaping.specs.Flaws.{sentries, Measured, is_breach, breaches, breaches_after, flaw_of, Clean, FrontPart, KeptIf, LastPart, SoundIf, ScannedIs}
 use Rattle.unescaping.specs.Places.{bytes_of}
 use Rattle.blocks.specs.declared.Totals.{Totals}
 use Rattle.unescaping.specs.declared.Scanned.{Scanned}
-use Rattle.unescaping.specs.declared.Flaw.{Flaw}
-use Rattle.unescaping.specs.declared.Flaw.TheVariants as flaw
-use Rattle.blocks.proofs.Counting.{Tallying, tally_start, tally_block, tally_last}
+use Rattle.std.specs.Prelude.{Result, Ok, Err}
+use Rattle.std.specs.Int.{from_bool}
+use Rattle.mdr.specs.declared.UnpackError.{UnpackError}
+use Rattle.mdr.specs.declared.UnpackError.TheVariants.{TrailingSentry, BadEscapee}
+use Rattle.mdr.specs.Told.{told_error}
+use Rattle.blocks.proofs.Counting.{bit, Tallying, tally_start, tally_block, tally_last}
 use Rattle.unescaping.proofs.Unescaping.{sentry}
 
 -- ---- what unescaping says
 
-abbrev tells : Flaw → Outcome → Type 0
-tells flaw.Sound o = o ≡ gives [] (bytes_of o)
-tells flaw.Trailing o = o ≡ refuses 13 []
-tells (flaw.Bad b) o = o ≡ refuses 14 (b ∷ [])
+-- a part is unescaped, or refused as told
+abbrev tells : Result Unit UnpackError → Outcome → Type 0
+tells (Ok u) o = o ≡ gives [] (bytes_of o)
+tells (Err e) o = (n : ℕ) × ((vs : List ℕ) × ((told_error e ≡ refused n vs) × (o ≡ refuses n vs)))
 
-tells_push : (f : Flaw) (b : ℕ) (o : Outcome) → tells f o → tells f (push b o)
-tells_push flaw.Sound b (gives vs bs) e = let q : vs ≡ [] = cc in rw q
-tells_push flaw.Sound b (refuses n vs) e = let z : ◌≡◌ {A = ℕ} 0 1 = cc in absurd (omega arith)
-tells_push flaw.Trailing b o e = rw e
-tells_push (flaw.Bad x) b o e = rw e
+tells_push : (f : Result Unit UnpackError) (b : ℕ) (o : Outcome) → tells f o → tells f (push b o)
+tells_push (Ok u) b (gives vs bs) e = let q : vs ≡ [] = cc in rw q
+tells_push (Ok u) b (refuses n vs) e = let z : ◌≡◌ {A = ℕ} 0 1 = cc in absurd (omega arith)
+tells_push (Err x) b o (n, (vs, (p, q))) = (n, (vs, (p, rw q)))
 
 escapee_plain : (e : ℕ) → escapee e ≡ true → eqb e 0x3D ≡ false
 escapee_plain e u = let r = within_range 0x2C 0x2E e u in ne_eqb e 0x3D (λ q. omega arith)
@@ -36,7 +38,7 @@ escapee_plain e u = let r = within_range 0x2C 0x2E e u in ne_eqb e 0x3D (λ q. o
 flaw_tells : (s : List ℕ) → tells (flaw_of s) (unescape s)
 unfolding flaw_of
 flaw_tells [] = refl
-flaw_tells (b ∷ []) = split_b (eqb b 0x3D) (λ t. rw t refl) (λ t. rw t refl)
+flaw_tells (b ∷ []) = split_b (eqb b 0x3D) (λ t. rw t (13, ([], (refl, refl)))) (λ t. rw t refl)
 flaw_tells (b ∷ e ∷ es) =
     let ih = flaw_tells (e ∷ es) in
     let jh = flaw_tells es in
@@ -44,26 +46,23 @@ flaw_tells (b ∷ e ∷ es) =
     (λ t.
     split_b (escapee e)
     (λ u. rw (t, u, escapee_plain e u) (tells_push (flaw_of es) (e + 0x10) (unescape es) jh))
-    (λ u. rw (t, u) refl))
+    (λ u. rw (t, u) (14, ((e ∷ []), (refl, refl)))))
     (λ t. rw t (tells_push (flaw_of (e ∷ es)) b (unescape (e ∷ es)) ih))
 
-pub told_as : (s : List ℕ) (f : Flaw) → f ≡ flaw_of s → (g : Flaw) → f ≡ g → tells g (unescape s)
-told_as s f p g q = subst (λ (x : Flaw). tells x (unescape s)) (sym p ∙ q) (flaw_tells s)
+pub told_as : (s : List ℕ) (f : Result Unit UnpackError) → f ≡ flaw_of s → tells f (unescape s)
+told_as s f p = subst (λ (x : Result Unit UnpackError). tells x (unescape s)) (sym p) (flaw_tells s)
 
 -- ---- from pair to pair
 
-pub breach_plain : (b e : ℕ) → (b ≡ 0x3D → ⊥) → OneIf (is_breach b e) 0
-unfolding is_breach
-breach_plain b e n = rw (ne_eqb b 0x3D n) (record { is = refl; most = omega arith })
-
-module _ (b e : ℕ) (p : b ≡ 0x3D) (t : Bool) (q : t ≡ escapee e) where
-  pub breach_kept : t ≡ true → OneIf (is_breach b e) 0
+module _ (b e : ℕ) where
+  pub breach_plain : (b ≡ 0x3D → ⊥) → eqb b 0x3D ≡ is_breach b e
   unfolding is_breach
-  breach_kept u = rw (eq-eqb b 0x3D p, sym q ∙ u) (record { is = refl; most = omega arith })
+  breach_plain n = rw (ne_eqb b 0x3D n)
 
-  pub breach_broken : t ≡ false → OneIf (is_breach b e) 1
+  pub breach_is : b ≡ 0x3D → (t : Bool) → t ≡ escapee e → not t ≡ is_breach b e
   unfolding is_breach
-  breach_broken u = rw (eq-eqb b 0x3D p, sym q ∙ u) (record { is = refl; most = omega arith })
+  breach_is p true q = rw (eq-eqb b 0x3D p, sym q)
+  breach_is p false q = rw (eq-eqb b 0x3D p, sym q)
 
 -- a pair that is kept is passed
 flaw_pass : (b e : ℕ) (es : List ℕ) → is_breach b e ≡ false → flaw_of (b ∷ e ∷ es) ≡ flaw_of (e ∷ es)
@@ -74,14 +73,14 @@ flaw_pass b e es h =
     (λ t. rw t)
 
 -- a sound part has only such
-flaw_kept : (b e : ℕ) (es : List ℕ) → flaw_of (b ∷ e ∷ es) ≡ flaw.Sound → (is_breach b e ≡ false) × (flaw_of (e ∷ es) ≡ flaw.Sound)
+flaw_kept : (b e : ℕ) (es : List ℕ) → flaw_of (b ∷ e ∷ es) ≡ Ok tt → (is_breach b e ≡ false) × (flaw_of (e ∷ es) ≡ Ok tt)
 unfolding flaw_of is_breach
 flaw_kept b e es h =
     split_b (eqb b 0x3D)
     (λ t.
     split_b (escapee e)
     (λ u. (rw (t, u), rw (t, u) at h))
-    (λ u. let f : flaw.Bad e ≡ flaw.Sound = rw (t, u) at h in let z : ◌≡◌ {A = ℕ} 0 1 = cc in absurd (omega arith)))
+    (λ u. let f : Err (BadEscapee e) ≡ Ok tt = rw (t, u) at h in let z : ◌≡◌ {A = ℕ} 0 1 = cc in absurd (omega arith)))
     (λ t. (rw t, rw t at h))
 
 none : (t : Bool) (n : ℕ) → cond t 1 0 + n ≡ 0 → t ≡ false
@@ -115,7 +114,7 @@ bare_breaches (b ∷ x ∷ bs) (suc n) e =
     let k : is_breach b x ≡ false = bare_kept b x (sentries (take n (x ∷ bs))) e in
     rw k (omega arith)
 
-sound_breaches : (l : List ℕ) (n : ℕ) → flaw_of l ≡ flaw.Sound → breaches (take n l) ≡ 0
+sound_breaches : (l : List ℕ) (n : ℕ) → flaw_of l ≡ Ok tt → breaches (take n l) ≡ 0
 sound_breaches [] n e = rw take-nil
 sound_breaches (b ∷ bs) zero e = refl
 sound_breaches (b ∷ []) (suc zero) e = refl
@@ -126,7 +125,7 @@ sound_breaches (b ∷ x ∷ bs) (suc (suc n)) e =
     let ih : breaches_after x (take n bs) ≡ 0 = sound_breaches (x ∷ bs) (suc n) k.1 in
     rw k.0 (omega arith)
 
-bare_flaw : (l : List ℕ) → sentries l ≡ 0 → flaw_of l ≡ flaw.Sound
+bare_flaw : (l : List ℕ) → sentries l ≡ 0 → flaw_of l ≡ Ok tt
 unfolding flaw_of
 bare_flaw [] e = refl
 bare_flaw (b ∷ bs) e =
@@ -134,12 +133,12 @@ bare_flaw (b ∷ bs) e =
     (λ t. no_way (sentry b t) (none (within 0x3D 0x3D b) (sentries bs) e))
     (λ t. rw t (bare_flaw bs (omega arith)))
 
-none_flaw : flaw_of [] ≡ flaw.Sound
+none_flaw : flaw_of [] ≡ Ok tt
 unfolding flaw_of
 none_flaw = refl
 
 -- the last byte
-one_flaw : (x : ℕ) → (x ≡ 0x3D → ⊥) → flaw_of (x ∷ []) ≡ flaw.Sound
+one_flaw : (x : ℕ) → (x ≡ 0x3D → ⊥) → flaw_of (x ∷ []) ≡ Ok tt
 unfolding flaw_of
 one_flaw x n = rw (ne_eqb x 0x3D n)
 
@@ -162,12 +161,13 @@ breaches_step l i h =
     ap breaches (drop_step l i (omega arith)) ∙ rw e
 
 module _ (l : List ℕ) (found i : ℕ) (s : Breaking l found i) where
-  pub break_turn : i < length l - 1 → (x : ℕ) → OneIf (is_breach (get_or l i 0) (get_or l (i + 1) 0)) x → Breaking l (found + x) (i + 1)
-  break_turn h x o = record {
-    few = omega arith;
-    most = omega (arith, o.most);
-    counted = omega (arith, o.is, breaches_step l i (omega arith));
-  }
+  pub break_turn : i < length l - 1 → (t : Bool) → t ≡ is_breach (get_or l i 0) (get_or l (i + 1) 0) → (x : ℕ) → x ≡ from_bool t → Breaking l (found + x) (i + 1)
+  break_turn h t q x o =
+      let b = bit t in record {
+        few = omega arith;
+        most = omega (arith, o, b.1);
+        counted = omega (arith, o, rw q at b.0, breaches_step l i (omega arith), ap from_bool q);
+      }
 
   pub break_end : length l - 1 ≤ i → found ≡ breaches l
   break_end h = omega (arith, ap breaches (last_one l i (omega (arith, s.few))))
@@ -192,16 +192,16 @@ module _ (s : List ℕ) (i : ℕ) (c : Clean s i) where
     same = sym (ap flaw_of (drop_step s i h ∙ ap (λ (x : List ℕ). get_or s i 0 ∷ x) (drop_step s (i + 1) l)) ∙ rw (eq-eqb (get_or s i 0) 0x3D p, sym q ∙ u, escapee_plain (get_or s (i + 1) 0) (sym q ∙ u))) ∙ c.same;
   }
 
-  pub flaw_trailing : i < length s → get_or s i 0 ≡ 0x3D → length s ≤ i + 1 → flaw.Trailing ≡ flaw_of s
+  pub flaw_trailing : i < length s → get_or s i 0 ≡ 0x3D → length s ≤ i + 1 → Err TrailingSentry ≡ flaw_of s
   unfolding flaw_of
   flaw_trailing h p l = sym (ap flaw_of (last_one s i (omega arith)) ∙ rw (eq-eqb (get_or s i 0) 0x3D p)) ∙ c.same
 
   pub flaw_bad : i < length s → get_or s i 0 ≡ 0x3D → i + 1 < length s → (t : Bool) → t ≡ escapee (get_or s (i + 1) 0) → t ≡ false
-      → flaw.Bad (get_or s (i + 1) 0) ≡ flaw_of s
+      → Err (BadEscapee (get_or s (i + 1) 0)) ≡ flaw_of s
   unfolding flaw_of
   flaw_bad h p l t q u = sym (ap flaw_of (drop_step s i h ∙ ap (λ (x : List ℕ). get_or s i 0 ∷ x) (drop_step s (i + 1) l)) ∙ rw (eq-eqb (get_or s i 0) 0x3D p, sym q ∙ u)) ∙ c.same
 
-  pub flaw_end : length s ≤ i → flaw.Sound ≡ flaw_of s
+  pub flaw_end : length s ≤ i → Ok tt ≡ flaw_of s
   unfolding flaw_of
   flaw_end l = sym (ap flaw_of (drop_end s i l)) ∙ c.same
 
@@ -241,7 +241,7 @@ sound_unknown l = record { is = λ z. no_way z refl }
 
 pub record Scanning (s : List ℕ) (sum hits i : ℕ) : Type 0 where
   pub left : i < length s
-  pub tallies : Tallying s 0x3D 0x3D sum hits i
+  pub tallies : Tallying s 0x3D 0x3D sum hits (drop i s)
   pub clean : Clean s i
 
 pub scan_start : (s : List ℕ) → 7 ≤ length s → Scanning s 0 0 0
@@ -283,7 +283,7 @@ module _ (s : List ℕ) (sum hits i : ℕ) (v : Scanning s sum hits i) where
   scan_kept k h t w y u z sum' p =
       let e : i + k + 1 - i ≡ suc k = omega arith in record {
         left = omega arith;
-        tallies = tally_block s 0x3D 0x3D sum hits i v.tallies k h t w sum' p;
+        tallies = tally_block s 0x3D 0x3D sum hits i v.tallies k t w sum' p;
         clean = clean_part k h (rw e at (u.none z));
       }
 
@@ -298,7 +298,7 @@ module _ (s : List ℕ) (sum hits i : ℕ) (v : Scanning s sum hits i) where
   last_part : (t : Totals) → Tallied (take (length s - i) (drop i s)) 0x3D 0x3D t → 7 ≤ length s → (r : Scanned) → r.sum ≡ (sum + t.sum) % 256
       → r.hits ≡ hits + t.hits → Measured s r.sum r.hits
   last_part t w h r p q =
-      let u = tally_last s 0x3D 0x3D sum hits i v.tallies t w (record { sum = r.sum; hits = r.hits }) p q in
+      let u = tally_last s 0x3D 0x3D sum hits i v.tallies (omega (arith, v.left)) t w (record { sum = r.sum; hits = r.hits }) p q in
       record { long = h; summed = u.sum; found = u.hits }
 
   pub scan_open : (t : Totals) → Tallied (take (length s - i) (drop i s)) 0x3D 0x3D t → 7 ≤ length s → (r : Scanned) → r.sum ≡ (sum + t.sum) % 256
@@ -310,7 +310,7 @@ module _ (s : List ℕ) (sum hits i : ℕ) (v : Scanning s sum hits i) where
       → r.at ≡ length s → ScannedIs s r
   scan_sound t w h y u z r p q e =
       let a : take (length s - i) (drop i s) ≡ drop i s = take_all (length s - i) (drop i s) (omega (arith, length-drop i s)) in
-      let f : flaw_of s ≡ flaw.Sound = sym v.clean.same ∙ ap flaw_of (sym a) ∙ u.is z in record {
+      let f : flaw_of s ≡ Ok tt = sym v.clean.same ∙ ap flaw_of (sym a) ∙ u.is z in record {
         clean = rw e (record { few = omega arith; same = ap flaw_of (drop_end s (length s) (omega arith)) ∙ none_flaw ∙ sym f });
         counts = λ x. last_part t w h r p q;
       }

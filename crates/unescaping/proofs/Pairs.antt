@@ -1,52 +1,36 @@
 -- Escaped bytes by pairs: a 3D and what follows it as one number, sixteen at once.
-use Rattle.std.proofs.Common.{◌≡◌, ℕ, zero, suc, ◌+◌, ◌*◌, ◌/◌, ◌<◌, ◌≤◌, true, eqb, List, [], ◌∷◌, ◌++◌, length, get_or, drop, set, sym, refl, ap, ◌∙◌, append-nil, arith, eq-eqb, ne_eqb, eqb-true}
+use Rattle.std.proofs.Common.{◌≡◌, ℕ, zero, suc, ◌+◌, ◌*◌, ◌/◌, ◌<◌, ◌≤◌, Bool, true, eqb, ◌||◌, ◌&&◌, List, [], ◌∷◌, ◌++◌, length, get_or, drop, set, sym, refl, ap, ◌∙◌, append-nil, arith, eq-eqb, ne_eqb}
 use lib.Seq.{sets-eq}
-use Rattle.laws.proofs.Choice.{split≡}
+use Rattle.laws.proofs.Choice.{split≡, no_way}
 use Rattle.laws.proofs.Lists.{drop_step, drop_end}
 use Rattle.laws.specs.Stores.{Writes, Emitting}
 use Rattle.laws.proofs.Stores.{emit_start, emit_turn, emit_end}
 use Rattle.mdr.specs.Escape.{within, escapee, unescape}
 use Rattle.mdr.proofs.Escaping.{within_range}
-use Rattle.blocks.specs.Blocks.{OneIf, Joined}
+use Rattle.blocks.proofs.Counting.{both}
 use Rattle.unescaping.specs.Pairs.{PairIs, Pair, PairIf, Paired, PairedIf, halves}
 use Rattle.unescaping.proofs.Unescaping.{pushes}
 
 -- ---- one pair
 
-pub one_eq : (w x : ℕ) → w ≡ x → OneIf (eqb w x) 1
-one_eq w x e = rw (eq-eqb w x e) (record { is = refl; most = omega arith })
-
-pub one_ne : (w x : ℕ) → (w ≡ x → ⊥) → OneIf (eqb w x) 0
-one_ne w x n = rw (ne_eqb w x n) (record { is = refl; most = omega arith })
-
-pub pair_is : (l : List ℕ) (i a b w : ℕ) → a ≡ get_or l (2 * i) 0 → b ≡ get_or l (2 * i + 1) 0 → Joined a b w → PairIs l i w
-pair_is l i a b w p q v = record { low = v.low ∙ p; high = v.high ∙ q }
+pub pair_is : (l : List ℕ) (i a b w : ℕ) → a ≡ get_or l (2 * i) 0 → b ≡ get_or l (2 * i + 1) 0 → w ≡ a + 256 * b → a < 256 → PairIs l i w
+pair_is l i a b w p q v h = record { low = omega arith; high = omega arith }
 
 pair_of : (w e : ℕ) → w ≡ 0x3D + 256 * e → escapee e ≡ true → Pair w
 pair_of w e p q = let k : w / 256 ≡ e = omega arith in record { low = omega arith; high = rw k q }
 
-zero_of : (w x a : ℕ) → OneIf (eqb w x) a → (w ≡ x → ⊥) → a ≡ 0
-zero_of w x a o n = o.is ∙ rw (ne_eqb w x n)
-
-pub pair_if : (w a b c : ℕ) → OneIf (eqb w 0x2C3D) a → OneIf (eqb w 0x2D3D) b → OneIf (eqb w 0x2E3D) c → PairIf w (a + b + c)
+pub pair_if : (w : ℕ) → PairIf w (eqb w 0x2C3D || eqb w 0x2D3D || eqb w 0x2E3D)
 unfolding within
-pair_if w a b c x y z =
+pair_if w =
     split≡ w 0x2C3D
-    (λ e.
-    let p = zero_of w 0x2D3D b y (λ q. omega arith) in
-    let q = zero_of w 0x2E3D c z (λ q. omega arith) in
-    record { most = omega (arith, x.most); is = λ r. pair_of w 0x2C (omega arith) refl })
+    (λ e. record { is = λ r. pair_of w 0x2C (omega arith) refl })
     (λ m.
-    let o = zero_of w 0x2C3D a x m in
     split≡ w 0x2D3D
-    (λ e.
-    let q = zero_of w 0x2E3D c z (λ q. omega arith) in
-    record { most = omega (arith, y.most); is = λ r. pair_of w 0x2D (omega arith) refl })
+    (λ e. record { is = λ r. pair_of w 0x2D (omega arith) refl })
     (λ n.
-    let p = zero_of w 0x2D3D b y n in
     split≡ w 0x2E3D
-    (λ e. record { most = omega (arith, z.most); is = λ r. pair_of w 0x2E (omega arith) refl })
-    (λ k. let q = zero_of w 0x2E3D c z k in record { most = omega arith; is = λ r. absurd (omega arith) })))
+    (λ e. record { is = λ r. pair_of w 0x2E (omega arith) refl })
+    (λ k. record { is = λ r. no_way (rw (ne_eqb w 0x2C3D m, ne_eqb w 0x2D3D n, ne_eqb w 0x2E3D k) at r) refl })))
 
 module _ (w : ℕ) (p : Pair w) where
   pub pair_room : w + 4035 < 65536
@@ -60,37 +44,30 @@ module _ (w : ℕ) (p : Pair w) where
 
 -- ---- sixteen are tested
 
-pub record Pairing (l : List ℕ) (hits i : ℕ) : Type 0 where
-  pub few : i ≤ 16
-  pub most : hits ≤ i
-  pub first : hits ≡ i → (k : ℕ) → k < i → get_or l (2 * k) 0 ≡ 0x3D
-  pub second : hits ≡ i → (k : ℕ) → k < i → escapee (get_or l (2 * k + 1) 0) ≡ true
+pub record Pairing (l : List ℕ) (all : Bool) (i : ℕ) : Type 0 where
+  pub first : all ≡ true → (k : ℕ) → k < i → get_or l (2 * k) 0 ≡ 0x3D
+  pub second : all ≡ true → (k : ℕ) → k < i → escapee (get_or l (2 * k + 1) 0) ≡ true
 
-pub pairing_start : (l : List ℕ) → Pairing l 0 0
-pairing_start l = record { few = omega arith; most = omega arith; first = λ e k h. absurd (omega arith); second = λ e k h. absurd (omega arith) }
+pub pairing_start : (l : List ℕ) → Pairing l true 0
+pairing_start l = record { first = λ e k h. absurd (omega arith); second = λ e k h. absurd (omega arith) }
 
-module _ (l : List ℕ) (hits i : ℕ) (s : Pairing l hits i) where
-  pub pairing_turn : i < 16 → (w : ℕ) → PairIs l i w → (x : ℕ) → PairIf w x → Pairing l (hits + x) (i + 1)
-  pairing_turn h w p x v = record {
-    few = omega arith;
-    most = omega (arith, s.most, v.most);
+module _ (l : List ℕ) (all : Bool) (i : ℕ) (s : Pairing l all i) where
+  pub pairing_turn : (w : ℕ) → PairIs l i w → (t : Bool) → PairIf w t → Pairing l (all && t) (i + 1)
+  pairing_turn w p t v = record {
     first = λ e k m.
+        let b = both all t e in
         split≡ k i
-        (λ q. rw q (sym p.low ∙ (v.is (omega (arith, s.most, v.most))).low))
-        (λ n. s.first (omega (arith, s.most, v.most)) k (omega arith));
+        (λ q. rw q (sym p.low ∙ (v.is b.1).low))
+        (λ n. s.first b.0 k (omega arith));
     second = λ e k m.
+        let b = both all t e in
         split≡ k i
-        (λ q. rw (q, sym p.high) (v.is (omega (arith, s.most, v.most))).high)
-        (λ n. s.second (omega (arith, s.most, v.most)) k (omega arith));
+        (λ q. rw (q, sym p.high) (v.is b.1).high)
+        (λ n. s.second b.0 k (omega arith));
   }
 
-  pub pairing_end : 16 ≤ i → PairedIf l (eqb hits 16)
-  pairing_end h =
-      let k : i ≡ 16 = omega (arith, s.few) in record {
-        is = λ z.
-            let e : hits ≡ i = eqb-true hits 16 z ∙ sym k in
-            record { first = λ j m. s.first e j (omega arith); second = λ j m. s.second e j (omega arith) };
-      }
+  pub pairing_end : 16 ≤ i → PairedIf l all
+  pairing_end h = record { is = λ z. record { first = λ j m. s.first z j (omega arith); second = λ j m. s.second z j (omega arith) } }
 
 pub pair_here : (l : List ℕ) (i w : ℕ) → PairIs l i w → Paired l → i < 16 → Pair w
 pair_here l i w p v h = record { low = p.low ∙ v.first i h; high = rw p.high (v.second i h) }

@@ -1,10 +1,10 @@
 -- Where escaping is first broken, and what a first look at an escaped part tells.
-use Rattle.std.specs.Prelude.{◌≡◌, ℕ, ◌+◌, ◌-◌, ◌%◌, ◌≤◌, Bool, true, false, cond, List, [], ◌∷◌, length, take, drop, ◌==◌}
+use Rattle.std.specs.Prelude.{◌≡◌, ℕ, ◌+◌, ◌-◌, ◌%◌, ◌≤◌, Bool, true, false, cond, List, [], ◌∷◌, length, take, drop, ◌==◌, Result, Ok, Err}
 use Rattle.mdr.specs.Sum.{total}
 use Rattle.mdr.specs.Escape.{escapee}
 use Rattle.mdr.specs.Escaping.{count_in}
-use Rattle.unescaping.specs.declared.Flaw.{Flaw}
-use Rattle.unescaping.specs.declared.Flaw.TheVariants as flaw
+use Rattle.mdr.specs.declared.UnpackError.{UnpackError}
+use Rattle.mdr.specs.declared.UnpackError.TheVariants.{TrailingSentry, BadEscapee}
 use Rattle.unescaping.specs.declared.Scanned.{Scanned}
 
 abbrev pub sentries : List ℕ → ℕ
@@ -30,12 +30,12 @@ breaches [] = 0
 breaches (b ∷ bs) = breaches_after b bs
 
 -- the first of them: what follows it, or that nothing does
-abbrev pub flaw_next : List ℕ → Flaw → Flaw
-flaw_next [] f = flaw.Trailing
-flaw_next (e ∷ es) f = cond (escapee e) f (flaw.Bad e)
+abbrev pub flaw_next : List ℕ → Result Unit UnpackError → Result Unit UnpackError
+flaw_next [] f = Err TrailingSentry
+flaw_next (e ∷ es) f = cond (escapee e) f (Err (BadEscapee e))
 
-unfoldable pub flaw_of : List ℕ → Flaw
-flaw_of [] = flaw.Sound
+unfoldable pub flaw_of : List ℕ → Result Unit UnpackError
+flaw_of [] = Ok tt
 flaw_of (b ∷ bs) = cond (b == 0x3D) (flaw_next bs (flaw_of bs)) (flaw_of bs)
 
 -- none stands before a place
@@ -60,8 +60,8 @@ pub record LastPart (l : List ℕ) (hits : ℕ) : Type 0 where
   pub found : hits ≡ sentries l
 
 pub record SoundIf (l : List ℕ) (sound : Bool) : Type 0 where
-  pub is : sound ≡ true → flaw_of l ≡ flaw.Sound
+  pub is : sound ≡ true → flaw_of l ≡ Ok tt
 
 pub record ScannedIs (s : List ℕ) (r : Scanned) : Type 0 where
   pub clean : Clean s r.at
-  pub counts : flaw_of s ≡ flaw.Sound → Measured s r.sum r.hits
+  pub counts : flaw_of s ≡ Ok tt → Measured s r.sum r.hits

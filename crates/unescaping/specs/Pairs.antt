@@ -12,9 +12,8 @@ pub record Pair (w : ℕ) : Type 0 where
   pub low : w % 256 ≡ 0x3D
   pub high : escapee (w / 256) ≡ true
 
-pub record PairIf (w r : ℕ) : Type 0 where
-  pub most : r ≤ 1
-  pub is : r ≡ 1 → Pair w
+pub record PairIf (w : ℕ) (t : Bool) : Type 0 where
+  pub is : t ≡ true → Pair w
 
 -- sixteen of them
 pub record Paired (l : List ℕ) : Type 0 where

@@ -3,23 +3,20 @@
 
 ghost use Rattle.std.specs.Prelude.{◌≡◌, ◌+◌, ◌*◌, ◌/◌, ◌≤◌, length, ◌==◌};
 ghost use Rattle.laws.specs.Stores.{Writes};
-ghost use Rattle.blocks.specs.Blocks.{OneIf};
 ghost use Rattle.unescaping.specs.Places.{ahead, GotIs, Filled};
 ghost use Rattle.unescaping.specs.Flaws.{is_breach, breaches, flaw_of, Clean, FrontPart, KeptIf, LastPart, SoundIf, ScannedIs};
 ghost use Rattle.unescaping.specs.Pairs.{PairIs, Pair, PairIf, Paired, PairedIf, DenseIf, halves};
 
-use blocks::{copy, copy_block, is_bare, is_within, join_two, tally_few};
+use blocks::{copy, copy_block, is_bare, is_within, tally_few};
+use mdr::UnpackError;
 
 // ---- where escaping is broken
 
-// 1 for a 3D that is not followed by 2C, 2D or 2E, else 0.
-fn breaks(b: u8, e: u8) -> u8
-    ensures { OneIf (is_breach b e) result }
+// Whether a byte is a 3D that is not followed by 2C, 2D or 2E.
+fn breaks(b: u8, e: u8) -> bool
+    ensures { result ≡ is_breach b e }
 {
-    if b != 0x3D {
-        return 0;
-    }
-    if is_within(e, 0x2C, 0x2E) { 0 } else { 1 }
+    b == 0x3D && !is_within(e, 0x2C, 0x2E)
 }
 
 // How many 3D before the last byte are not followed by 2C, 2D or 2E. There is no early way out, so that the loop runs
@@ -29,45 +26,34 @@ fn count_breaks(part: &[u8]) -> u8
     requires part_len_bound { length part.now ≤ 256 }
     ensures { result ≡ breaches part.now }
 {
-    let n = part.len() - 1;
     let mut found: u8 = 0;
-    let mut i: usize = 0;
-    while i < n {
-        found += breaks(part[i], part[i + 1]);
-        i += 1;
+    for i in 0..part.len() - 1 {
+        found += u8::from(breaks(part[i], part[i + 1]));
     }
     found
 }
 
-#[derive(Clone, Copy)]
-pub enum Flaw {
-    Sound,
-    Trailing,
-    Bad(u8),
-}
-
-// The first place where escaping is broken, from a place on before which it is not.
-pub fn first_flaw(s: &[u8], from: usize) -> Flaw
+// Refuses a part by the first place where escaping is broken, from a place on before which it is not.
+pub fn first_flaw(s: &[u8], from: usize) -> Result<(), UnpackError>
     requires { Clean s.now from }
     ensures { result ≡ flaw_of s.now }
 {
-    let mut i: usize = from;
+    let mut i = from;
     while i < s.len() {
         let b = s[i];
         i += 1;
         if b == 0x3D {
             if s.len() <= i {
-                return Flaw::Trailing;
+                return Err(UnpackError::TrailingSentry);
             }
             let e = s[i];
-            if is_within(e, 0x2C, 0x2E) {
-                i += 1;
-            } else {
-                return Flaw::Bad(e);
+            if !is_within(e, 0x2C, 0x2E) {
+                return Err(UnpackError::BadEscapee(e));
             }
+            i += 1;
         }
     }
-    Flaw::Sound
+    Ok(())
 }
 
 // Whether no 3D before the last byte of a part breaks escaping; so many stand there.
@@ -118,12 +104,13 @@ pub fn scan(s: &[u8]) -> Scanned
     let mut sum: u8 = 0;
     let mut hits: usize = 0;
     let mut i: usize = 0;
+    // Stays: each part is looked at with the byte after it, so that parts overlap; chunks do not.
     while 192 < n - i {
         let j = i + 192;
         let k = j + 1;
         let t = tally_few(&s[i..j], 0x3D, 0x3D);
         if is_kept(&s[i..k], t.hits) {
-            sum = std::num::wrapping_add_u8(sum, t.sum);
+            sum = sum.wrapping_add(t.sum);
             hits += t.hits;
             i = j;
         } else {
@@ -131,7 +118,7 @@ pub fn scan(s: &[u8]) -> Scanned
         }
     }
     let t = tally_few(&s[i..n], 0x3D, 0x3D);
-    sum = std::num::wrapping_add_u8(sum, t.sum);
+    sum = sum.wrapping_add(t.sum);
     hits += t.hits;
     if is_sound(&s[i..n], t.hits) {
         i = n;
@@ -172,12 +159,10 @@ fn fill_few(s: &[u8], from: usize, out: &mut [u8], at: usize, count: usize) -> u
     requires count_in_bounds_2 { at + count ≤ length out.old }
     ensures { Filled s.now from out.old at count result out.new }
 {
-    let mut i: usize = from;
-    let mut k: usize = 0;
-    while k < count {
+    let mut i = from;
+    for k in 0..count {
         let g = get(s, i);
         out[at + k] = g.byte;
-        k += 1;
         i = g.next;
     }
     i
@@ -188,34 +173,27 @@ fn pair_at(part: &[u8], i: usize) -> u16
     requires { 2 * i + 2 ≤ length part.now }
     ensures { PairIs part.now i result }
 {
-    join_two(part[2 * i], part[2 * i + 1])
+    u16::from_le_bytes([part[2 * i], part[2 * i + 1]])
 }
 
-fn one_if(w: u16, x: u16) -> u16
-    ensures { OneIf (w == x) result }
-{
-    if w == x { 1 } else { 0 }
-}
-
-// 1 for a 3D and what may follow it, else 0. A pair is one number, so that a loop runs on many at once.
-fn one_pair(w: u16) -> u16
+// Whether a pair is a 3D and what may follow it. A pair is one number, so that a loop runs on many at once.
+fn is_pair(w: u16) -> bool
     ensures { PairIf w result }
 {
-    one_if(w, 0x2C3D) + one_if(w, 0x2D3D) + one_if(w, 0x2E3D)
+    (w == 0x2C3D) | (w == 0x2D3D) | (w == 0x2E3D)
 }
 
-// Whether 32 bytes are sixteen escaped ones.
+// Whether 32 bytes are sixteen escaped ones. Not inlined: there its loads get mixed up with those of the test for bare bytes.
+#[inline(never)]
 fn is_paired(part: &[u8]) -> bool
     requires { length part.now ≡ 32 }
     ensures { PairedIf part.now result }
 {
-    let mut hits: u16 = 0;
-    let mut i: usize = 0;
-    while i < 16 {
-        hits += one_pair(pair_at(part, i));
-        i += 1;
+    let mut all = true;
+    for i in 0..16 {
+        all &= is_pair(pair_at(part, i));
     }
-    hits == 16
+    all
 }
 
 // The byte that a pair stands for: the second and 16. Adding 4035 makes a 3D 16 times 256.
@@ -234,10 +212,8 @@ fn unpair(part: &[u8], out: &mut [u8], at: usize) -> usize
     ensures { Writes out.old at (halves part.now) result out.new }
 {
     let mut block = [0u8; 16];
-    let mut i: usize = 0;
-    while i < 16 {
+    for i in 0..16 {
         block[i] = unpaired(pair_at(part, i));
-        i += 1;
     }
     copy(&block, out, at)
 }
@@ -281,14 +257,13 @@ pub fn fill(s: &[u8], from: usize, out: &mut [u8], count: usize) -> usize
     requires count_in_bounds_2 { count ≤ length out.old }
     ensures { Filled s.now from out.old 0 count result out.new }
 {
-    let mut i: usize = from;
-    let mut k: usize = 0;
+    let blocks = count / 16;
+    let mut i = from;
     let mut dense = false;
-    while 16 <= count - k {
-        let j = fill_block(s, i, out, k, dense);
+    for b in 0..blocks {
+        let j = fill_block(s, i, out, 16 * b, dense);
         dense = j - i == 32;
         i = j;
-        k += 16;
     }
-    fill_few(s, i, out, k, count - k)
+    fill_few(s, i, out, 16 * blocks, count % 16)
 }

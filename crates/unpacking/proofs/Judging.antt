@@ -2,40 +2,35 @@
 use Prim.Native.Nat.{ℕ, suc, ◌+◌, ◌-◌, ◌*◌, ◌/◌, ◌%◌, ◌<◌, ◌≤◌}
 use mathlib.Core.Path.{◌≡◌, refl, sym, ap, ◌∙◌, subst}
 use mathlib.Core.Bool.{Bool, true, false}
-use mathlib.Core.List.{List, [], ◌∷◌, ◌++◌, append-nil}
+use mathlib.Core.List.{List, [], ◌∷◌, ◌++◌}
 use native.Mathlib.Nat.{add-mul-mod_self_left, add-mod-mod}
 use native.Mathlib.Omega.{arith}
 use lib.ListN.{length, get_or, take, drop, take-append-drop, length-drop, length-append}
 use lib.Seq.{take-suc, take-length, get_or_at}
-use borrow.Author.Tests.{le-leb, lt-leb, eq-eqb, ne_eqb}
-use Rattle.laws.proofs.Choice.{no_way}
+use borrow.Author.Tests.{eqb-true, le-leb, lt-leb, eq-eqb, ne_eqb}
+use lib.Dec.{eqb}
 use Rattle.laws.proofs.Lists.{drop_step, drop_end}
 use Rattle.laws.specs.Numbers.{be32}
-use Rattle.laws.specs.Answers.{refused, Outcome, gives, refuses}
+use Rattle.laws.specs.Answers.{refused, Outcome, refuses}
 use Rattle.mdr.specs.Sum.{total, checksum_of}
 use Rattle.mdr.specs.Escape.{unescape}
 use Rattle.mdr.specs.Frame.{declared_of, last_of, computed_of, judged, bodied, unpack_of}
 use Rattle.mdr.proofs.Wire.{judged_whole, wire_body}
 use Rattle.blocks.specs.Blocks.{Minus, Bare}
-use Rattle.unescaping.specs.Flaws.{sentries, Measured, flaw_of, ScannedIs}
+use Rattle.unescaping.specs.Flaws.{Measured, flaw_of, ScannedIs}
 use Rattle.unescaping.specs.Places.{ahead, Sound, GotIs}
 use Rattle.unpacking.specs.Readings.{HeaderIs, Summed, RefusedBy, Reads, inside}
 use Rattle.unescaping.specs.declared.Got.{Got}
 use Rattle.unpacking.specs.declared.Header.{Header}
 use Rattle.unpacking.specs.declared.Head.{Head}
-use Rattle.unescaping.specs.declared.Flaw.{Flaw}
 use Rattle.unescaping.specs.declared.Scanned.{Scanned}
-use Rattle.unescaping.specs.declared.Flaw.TheVariants as flaw
-use Rattle.mdr.specs.declared.Unpacked.TheVariants.{TooShort, NoStart, NoEnd, TrailingSentry, BadEscapee, BodyTooShort, LengthMismatch, BadChecksum}
-use Rattle.unpacking.specs.declared.Reading.{Reading}
-use Rattle.unpacking.specs.declared.Reading.TheVariants.{Whole, Refused}
+use Rattle.mdr.specs.declared.UnpackError.{UnpackError}
+use Rattle.mdr.specs.declared.UnpackError.TheVariants.{TooShort, NoStart, NoEnd, BodyTooShort, LengthMismatch, BadChecksum}
+use Rattle.std.specs.Prelude.{Result, Ok, Err}
 use Rattle.blocks.proofs.Counting.{total_append}
 use Rattle.unescaping.proofs.Flaws.{told_as}
 use Rattle.unescaping.proofs.Places.{ahead_bare}
-use Rattle.unescaping.proofs.Unescaping.{unescape_bare, pushes_gives, weighed, closing, Ends, ends}
-
-bare_sound : (s : List ℕ) → sentries s ≡ 0 → unescape s ≡ gives [] s
-bare_sound s e = rw append-nil at (unescape_bare s [] e ∙ pushes_gives s [] [])
+use Rattle.unescaping.proofs.Unescaping.{weighed, closing, Ends, ends}
 
 -- ---- the header
 
@@ -92,16 +87,8 @@ sums : (B : List ℕ) (n sum last : ℕ) → n ≡ length B → 1 ≤ length B �
 unfolding checksum_of
 sums B n sum last p h q e l = record { long = p; summed = omega (arith, total_last B h); ends = q }
 
-pub bare_summed : (s : List ℕ) (all sum : ℕ) → Measured s all 0 → Minus all (get_or s (length s - 1) 0) sum → Summed (ahead s 0) (length s) sum (get_or s (length s - 1) 0)
-bare_summed s all sum m v =
-    rw (ahead_bare s 0 (sym m.found))
-    (sums s (length s) sum (get_or s (length s - 1) 0) refl (omega (arith, m.long)) refl (v.back ∙ m.summed) v.small)
-
-pub bare_yes : (s : List ℕ) (all : ℕ) → Measured s all 0 → Bare 0x3D 0x3D s true
-bare_yes s all m = record { none = λ e. sym m.found }
-
-pub bare_no : (s : List ℕ) → Bare 0x3D 0x3D s false
-bare_no s = record { none = λ e. no_way e refl }
+pub bare_if : (s : List ℕ) (raw hits : ℕ) → Measured s raw hits → Bare 0x3D 0x3D s (eqb hits 0)
+bare_if s raw hits m = record { none = λ e. sym m.found ∙ eqb-true hits 0 e }
 
 off_is : (h : ℕ) → h % 256 * 45 % 256 ≡ 45 * h % 256
 off_is h =
@@ -134,19 +121,19 @@ refused_by : (o : Outcome) (n : ℕ) (vs : List ℕ) → o ≡ refuses n vs → 
 refused_by o n vs e = record { number = n; values = vs; is = e; tells = refl }
 
 module _ (s : List ℕ) (n sum last : ℕ) (m : Summed (ahead s 0) n sum last) where
-  pub judge_short : n < 7 → Reads (judged (ahead s 0)) s (Refused BodyTooShort)
+  pub judge_short : n < 7 → Reads (judged (ahead s 0)) s (Err BodyTooShort)
   unfolding judged
   judge_short h = record { is = refused_by _ 15 [] (rw (lt-leb 7 (length (ahead s 0)) (omega (arith, m.long)))) }
 
-  pub judge_sum : 7 ≤ n → (last ≡ sum → ⊥) → Reads (judged (ahead s 0)) s (Refused (BadChecksum last sum))
+  pub judge_sum : 7 ≤ n → (last ≡ sum → ⊥) → Reads (judged (ahead s 0)) s (Err (BadChecksum last sum))
   unfolding judged
   judge_sum h e = record { is = refused_by _ 17 (last ∷ sum ∷ []) (rw (le-leb 7 (length (ahead s 0)) (omega (arith, m.long)), ne_eqb (last_of (ahead s 0)) (computed_of (ahead s 0)) (λ q. e (m.ends ∙ q ∙ sym m.summed)), m.ends, m.summed)) }
 
-  pub judge_length : 7 ≤ n → last ≡ sum → (h : Header) → HeaderIs s h → (h.declared ≡ n - 7 → ⊥) → Reads (judged (ahead s 0)) s (Refused (LengthMismatch h.declared (n - 7)))
+  pub judge_length : 7 ≤ n → last ≡ sum → (h : Header) → HeaderIs s h → (h.declared ≡ n - 7 → ⊥) → Reads (judged (ahead s 0)) s (Err (LengthMismatch h.declared (n - 7)))
   unfolding judged
   judge_length h e x p q = record { is = refused_by _ 16 (x.declared ∷ (n - 7) ∷ []) (rw (le-leb 7 (length (ahead s 0)) (omega (arith, m.long)), eq-eqb (last_of (ahead s 0)) (computed_of (ahead s 0)) (sym m.ends ∙ e ∙ m.summed), ne_eqb (declared_of (ahead s 0)) (length (ahead s 0) - 7) (λ v. q (p.declared ∙ v ∙ ap (λ (k : ℕ). k - 7) (sym m.long))), p.declared, m.long)) }
 
-  pub judge_whole : 7 ≤ n → last ≡ sum → (h : Header) → HeaderIs s h → h.declared ≡ n - 7 → (t : Bool) → Bare 0x3D 0x3D s t → (r : Head) → r.kind ≡ h.kind → r.seq ≡ h.seq → r.len ≡ n - 7 → r.at ≡ h.at → r.bare ≡ t → Reads (judged (ahead s 0)) s (Whole r)
+  pub judge_whole : 7 ≤ n → last ≡ sum → (h : Header) → HeaderIs s h → h.declared ≡ n - 7 → (t : Bool) → Bare 0x3D 0x3D s t → (r : Head) → r.kind ≡ h.kind → r.seq ≡ h.seq → r.len ≡ n - 7 → r.at ≡ h.at → r.bare ≡ t → Reads (judged (ahead s 0)) s (Ok r)
   judge_whole h e x p q t v r a b c d f =
       let k : length (ahead s 0) - 7 ≡ n - 7 = ap (λ (j : ℕ). j - 7) (sym m.long) in
       let w = judged_whole (ahead s 0) (omega (arith, m.long)) (sym m.ends ∙ e ∙ m.summed) (sym p.declared ∙ q ∙ sym k) in record {
@@ -159,42 +146,37 @@ module _ (s : List ℕ) (n sum last : ℕ) (m : Summed (ahead s 0) n sum last) w
 
 -- ---- from the body to the escaped part, from there to the wire
 
-pub reads_as_law : (o o' : Outcome) (s : List ℕ) (r : Reading) → o ≡ o' → Reads o' s r → Reads o s r
+pub reads_as_law : (o o' : Outcome) (s : List ℕ) (r : Result Head UnpackError) → o ≡ o' → Reads o' s r → Reads o s r
 reads_as_law o o' s r e v = subst (λ (x : Outcome). Reads x s r) (sym e) v
 
-pub body_bare : (s : List ℕ) (all : ℕ) (r : Reading) → Measured s all 0 → Reads (judged (ahead s 0)) s r → Reads (bodied (unescape s)) s r
-body_bare s all r m v = reads_as_law _ _ s r (rw (bare_sound s (sym m.found), ahead_bare s 0 (sym m.found))) v
-
-pub body_sound : (s : List ℕ) (r : Reading) → Sound s → Reads (judged (ahead s 0)) s r → Reads (bodied (unescape s)) s r
+pub body_sound : (s : List ℕ) (r : Result Head UnpackError) → Sound s → Reads (judged (ahead s 0)) s r → Reads (bodied (unescape s)) s r
 body_sound s r v w = reads_as_law _ _ s r (rw v.is) w
 
-pub body_trailing : (s : List ℕ) (f : Flaw) → f ≡ flaw_of s → f ≡ flaw.Trailing → Reads (bodied (unescape s)) s (Refused TrailingSentry)
-body_trailing s f p e = record { is = refused_by _ 13 [] (ap bodied (told_as s f p flaw.Trailing e)) }
+module _ (s : List ℕ) where
+  pub body_flawed : (e : UnpackError) → Err e ≡ flaw_of s → Reads (bodied (unescape s)) s (Err e)
+  body_flawed e p = let t = told_as s (Err e) p in record { is = record { number = t.0; values = t.1.0; is = ap bodied t.1.1.1; tells = t.1.1.0 } }
 
-pub body_bad : (s : List ℕ) (f : Flaw) (b : ℕ) → f ≡ flaw_of s → f ≡ flaw.Bad b → Reads (bodied (unescape s)) s (Refused (BadEscapee b))
-body_bad s f b p e = record { is = refused_by _ 14 (b ∷ []) (ap bodied (told_as s f p (flaw.Bad b) e)) }
+  pub flaw_sound : Ok tt ≡ flaw_of s → Sound s
+  unfolding ahead
+  flaw_sound p = record { is = told_as s (Ok tt) p }
 
-pub flaw_sound : (s : List ℕ) (f : Flaw) → f ≡ flaw_of s → f ≡ flaw.Sound → Sound s
-unfolding ahead
-flaw_sound s f p e = record { is = told_as s f p flaw.Sound e }
-
-pub scanned_counts : (s : List ℕ) (r : Scanned) → ScannedIs s r → (f : Flaw) → f ≡ flaw_of s → f ≡ flaw.Sound → Measured s r.sum r.hits
-scanned_counts s r v f p e = v.counts (sym p ∙ e)
+  pub scanned_counts : (r : Scanned) → ScannedIs s r → Ok tt ≡ flaw_of s → Measured s r.sum r.hits
+  scanned_counts r v p = v.counts (sym p)
 
 module _ (w : List ℕ) where
-  pub wire_short : length w < 9 → Reads (unpack_of w) (inside w) (Refused TooShort)
+  pub wire_short : length w < 9 → Reads (unpack_of w) (inside w) (Err TooShort)
   unfolding unpack_of
   wire_short h = record { is = refused_by _ 10 [] (rw (lt-leb 9 (length w) h)) }
 
-  pub wire_start : 9 ≤ length w → (get_or w 0 0 ≡ 0x3E → ⊥) → Reads (unpack_of w) (inside w) (Refused NoStart)
+  pub wire_start : 9 ≤ length w → (get_or w 0 0 ≡ 0x3E → ⊥) → Reads (unpack_of w) (inside w) (Err NoStart)
   unfolding unpack_of
   wire_start h s = record { is = refused_by _ 11 [] (rw (le-leb 9 (length w) h, ne_eqb (get_or w 0 0) 0x3E s)) }
 
-  pub wire_end : 9 ≤ length w → get_or w 0 0 ≡ 0x3E → (get_or w (length w - 1) 0 ≡ 0x3C → ⊥) → Reads (unpack_of w) (inside w) (Refused NoEnd)
+  pub wire_end : 9 ≤ length w → get_or w 0 0 ≡ 0x3E → (get_or w (length w - 1) 0 ≡ 0x3C → ⊥) → Reads (unpack_of w) (inside w) (Err NoEnd)
   unfolding unpack_of
   wire_end h s e = record { is = refused_by _ 12 [] (rw (le-leb 9 (length w) h, eq-eqb (get_or w 0 0) 0x3E s, ne_eqb (get_or w (length w - 1) 0) 0x3C e)) }
 
-  pub wire_whole : 9 ≤ length w → get_or w 0 0 ≡ 0x3E → get_or w (length w - 1) 0 ≡ 0x3C → (r : Reading) → Reads (bodied (unescape (inside w))) (inside w) r → Reads (unpack_of w) (inside w) r
+  pub wire_whole : 9 ≤ length w → get_or w 0 0 ≡ 0x3E → get_or w (length w - 1) 0 ≡ 0x3C → (r : Result Head UnpackError) → Reads (bodied (unescape (inside w))) (inside w) r → Reads (unpack_of w) (inside w) r
   wire_whole h s e r v =
       let k : length w - 2 ≡ length w - 1 - 1 = omega arith in
       reads_as_law _ _ (inside w) r (wire_body w h s e ∙ rw k) v

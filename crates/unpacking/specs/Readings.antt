@@ -1,14 +1,13 @@
 -- What the parts of unpacking promise each other.
-use Rattle.std.specs.Prelude.{ℕ, ◌-◌, ◌<◌, ◌≡◌, List, [], ◌∷◌, length, get_or, take, drop}
+use Rattle.std.specs.Prelude.{ℕ, ◌-◌, ◌<◌, ◌≡◌, List, [], ◌∷◌, length, get_or, take, drop, Result, Ok, Err}
 use Rattle.laws.specs.Answers.{Answer, refused, Outcome, gives, refuses}
 use Rattle.mdr.specs.Frame.{declared_of, last_of, computed_of}
-use Rattle.mdr.specs.Told.{told}
+use Rattle.mdr.specs.Told.{told_error}
 use Rattle.blocks.specs.Blocks.{Bare}
 use Rattle.unescaping.specs.Places.{ahead}
 use Rattle.unpacking.specs.declared.Header.{Header}
 use Rattle.unpacking.specs.declared.Head.{Head}
-use Rattle.unpacking.specs.declared.Reading.{Reading}
-use Rattle.unpacking.specs.declared.Reading.TheVariants.{Whole, Refused}
+use Rattle.mdr.specs.declared.UnpackError.{UnpackError}
 
 -- what the first six bytes say, and where the rest starts
 pub record HeaderIs (s : List ℕ) (h : Header) : Type 0 where
@@ -36,11 +35,11 @@ pub record Holds (o : Outcome) (s : List ℕ) (h : Head) : Type 0 where
   pub enough : h.len < length (ahead s h.at)
   pub bare : Bare 0x3D 0x3D s h.bare
 
-abbrev pub reads_as : Outcome → List ℕ → Reading → Type 0
-reads_as o s (Whole h) = Holds o s h
-reads_as o s (Refused u) = RefusedBy o (told u)
+abbrev pub reads_as : Outcome → List ℕ → Result Head UnpackError → Type 0
+reads_as o s (Ok h) = Holds o s h
+reads_as o s (Err e) = RefusedBy o (told_error e)
 
-pub record Reads (o : Outcome) (s : List ℕ) (r : Reading) : Type 0 where
+pub record Reads (o : Outcome) (s : List ℕ) (r : Result Head UnpackError) : Type 0 where
   pub is : reads_as o s r
 
 -- the escaped part of a wire

@@ -13,23 +13,16 @@ ghost use Rattle.unescaping.specs.Flaws.{Measured};
 ghost use Rattle.unpacking.specs.Readings.{HeaderIs, Summed, Reads, inside};
 
 use blocks::{copy, minus};
-use mdr::{Inspected, Unpacked};
-use unescaping::{Flaw, fill, first_flaw, get, scan};
+use mdr::{Frame, UnpackError, Unpacked};
+use unescaping::{fill, first_flaw, get, scan};
 
 // ---- the first six bytes, and the last
-
-fn wide(b: u8) -> u64
-    ensures value { result ≡ b }
-    ensures upper_bound { result < 256 }
-{
-    b as u64
-}
 
 // The number that four bytes are, the highest first.
 fn join(a: u8, b: u8, c: u8, d: u8) -> u64
     ensures { result ≡ 16777216 * a + 65536 * b + 256 * c + d }
 {
-    16777216 * wide(a) + 65536 * wide(b) + 256 * wide(c) + wide(d)
+    u64::from(u32::from_be_bytes([a, b, c, d]))
 }
 
 // The first six bytes, and where the payload starts.
@@ -104,32 +97,26 @@ struct Head {
     bare: bool,
 }
 
-#[derive(Clone, Copy)]
-enum Reading {
-    Whole(Head),
-    Refused(Unpacked),
-}
-
 // What the unescaped bytes say: there are n, last is the last and sum that of those before it.
-fn judge(s: &[u8], n: usize, sum: u8, last: u8, bare: bool) -> Reading
+fn judge(s: &[u8], n: usize, sum: u8, last: u8, bare: bool) -> Result<Head, UnpackError>
     requires summed { Summed (ahead s.now 0) n sum last }
     requires bare { Bare 0x3D 0x3D s.now bare }
     ensures { Reads (judged (ahead s.now 0)) s.now result }
 {
     if n < 7 {
-        return Reading::Refused(Unpacked::BodyTooShort);
+        return Err(UnpackError::BodyTooShort);
     }
     let len = n - 7;
     let actual = len as u64;
     let h = read_header(s, bare);
     let declared = h.declared;
     if last != sum {
-        return Reading::Refused(Unpacked::BadChecksum(last, sum));
+        return Err(UnpackError::BadChecksum(last, sum));
     }
     if declared != actual {
-        return Reading::Refused(Unpacked::LengthMismatch(declared, actual));
+        return Err(UnpackError::LengthMismatch(declared, actual));
     }
-    Reading::Whole(Head {
+    Ok(Head {
         kind: h.kind,
         seq: h.seq,
         len,
@@ -138,19 +125,8 @@ fn judge(s: &[u8], n: usize, sum: u8, last: u8, bare: bool) -> Reading
     })
 }
 
-// Nothing is escaped, and all is the sum of all bytes.
-fn read_bare(s: &[u8], all: u8) -> Reading
-    requires { Measured s.now all 0 }
-    ensures { Reads (bodied (unescape s.now)) s.now result }
-{
-    let n = s.len();
-    let last = s[n - 1];
-    let sum = minus(all, last);
-    judge(s, n, sum, last, true)
-}
-
-// Each 3D and what follows it stand for one byte, 45 less than their sum.
-fn read_sound(s: &[u8], raw: u8, sentries: usize) -> Reading
+// raw is the sum of all bytes as they stand. Each 3D and what follows it stand for one byte, 45 less than their sum.
+fn read_counted(s: &[u8], raw: u8, sentries: usize) -> Result<Head, UnpackError>
     requires measured { Measured s.now raw sentries }
     requires sound { Sound s.now }
     ensures { Reads (bodied (unescape s.now)) s.now result }
@@ -160,48 +136,32 @@ fn read_sound(s: &[u8], raw: u8, sentries: usize) -> Reading
     let off = (sentries % 256 * 45 % 256) as u8;
     let all = minus(raw, off);
     let sum = minus(all, last);
-    judge(s, n, sum, last, false)
+    judge(s, n, sum, last, sentries == 0)
 }
 
-// raw is the sum of all bytes as they stand.
-fn read_counted(s: &[u8], raw: u8, sentries: usize) -> Reading
-    requires measured { Measured s.now raw sentries }
-    requires sound { Sound s.now }
-    ensures { Reads (bodied (unescape s.now)) s.now result }
-{
-    if sentries == 0 {
-        return read_bare(s, raw);
-    }
-    read_sound(s, raw, sentries)
-}
-
-fn read_body(s: &[u8]) -> Reading
+fn read_body(s: &[u8]) -> Result<Head, UnpackError>
     requires { 7 ≤ length s.now }
     ensures { Reads (bodied (unescape s.now)) s.now result }
 {
     let t = scan(s);
-    let f = first_flaw(s, t.at);
-    match f {
-        Flaw::Trailing => Reading::Refused(Unpacked::TrailingSentry),
-        Flaw::Bad(b) => Reading::Refused(Unpacked::BadEscapee(b)),
-        Flaw::Sound => read_counted(s, t.sum, t.hits),
-    }
+    first_flaw(s, t.at)?;
+    read_counted(s, t.sum, t.hits)
 }
 
 // What a wire says, before an output is looked at.
-fn read_frame(wire: &[u8]) -> Reading
+fn read_frame(wire: &[u8]) -> Result<Head, UnpackError>
     ensures { Reads (unpack_of wire.now) (inside wire.now) result }
 {
     let n = wire.len();
     if n < 9 {
-        return Reading::Refused(Unpacked::TooShort);
+        return Err(UnpackError::TooShort);
     }
     if wire[0] != 0x3E {
-        return Reading::Refused(Unpacked::NoStart);
+        return Err(UnpackError::NoStart);
     }
     let end = n - 1;
     if wire[end] != 0x3C {
-        return Reading::Refused(Unpacked::NoEnd);
+        return Err(UnpackError::NoEnd);
     }
     read_body(&wire[1..end])
 }
@@ -223,33 +183,28 @@ fn write_payload(s: &[u8], at: usize, len: usize, bare: bool, out: &mut [u8])
 }
 
 // Reads one frame, and writes its payload to the front of out.
-pub fn unpack(wire: &[u8], out: &mut [u8]) -> Unpacked
+pub fn unpack(wire: &[u8], out: &mut [u8]) -> Result<Unpacked, UnpackError>
     ensures { Meets (unpack_of wire.now) out.old (told result) out.new }
 {
-    let x = read_frame(wire);
-    match x {
-        Reading::Refused(u) => u,
-        Reading::Whole(h) => {
-            let len = h.len;
-            if out.len() < len {
-                return Unpacked::OutShort(len);
-            }
-            let end = wire.len() - 1;
-            write_payload(&wire[1..end], h.at, len, h.bare, out);
-            Unpacked::Frame(h.kind, h.seq, len)
-        }
+    let h = read_frame(wire)?;
+    let len = h.len;
+    if out.len() < len {
+        return Err(UnpackError::OutShort(len));
     }
+    let end = wire.len() - 1;
+    write_payload(&wire[1..end], h.at, len, h.bare, out);
+    Ok(Unpacked {
+        kind: h.kind,
+        seq: h.seq,
+        len,
+    })
 }
 
 // Whether a wire unpacks.
 pub fn unpacks(wire: &[u8]) -> bool
     ensures { result ≡ unpacks_of wire.now }
 {
-    let x = read_frame(wire);
-    match x {
-        Reading::Refused(u) => false,
-        Reading::Whole(h) => true,
-    }
+    read_frame(wire).is_ok()
 }
 
 fn first_byte(s: &[u8], at: usize, len: usize) -> u8
@@ -264,16 +219,16 @@ fn first_byte(s: &[u8], at: usize, len: usize) -> u8
 }
 
 // Reads one frame without an output.
-pub fn inspect(wire: &[u8]) -> Inspected
+pub fn inspect(wire: &[u8]) -> Result<Frame, UnpackError>
     ensures { told_inspected result ≡ glance (unpack_of wire.now) }
 {
-    let x = read_frame(wire);
-    match x {
-        Reading::Refused(u) => Inspected::Unsound(u),
-        Reading::Whole(h) => {
-            let end = wire.len() - 1;
-            let b = first_byte(&wire[1..end], h.at, h.len);
-            Inspected::Sound(h.kind, h.seq, h.len, b)
-        }
-    }
+    let h = read_frame(wire)?;
+    let end = wire.len() - 1;
+    let first = first_byte(&wire[1..end], h.at, h.len);
+    Ok(Frame {
+        kind: h.kind,
+        seq: h.seq,
+        size: h.len,
+        first,
+    })
 }

@@ -31,7 +31,8 @@ module _ (v width : ℕ) (out₀ : List ℕ) (at₀ : ℕ) (out : List ℕ) (at 
         emits = rw (← z) (emit_one out₀ at₀ (le width v) out at (rest % 256) (le (at₀ + width - at) rest) (le (at₀ + width - at - 1) (rest / 256)) c.emits (le_step (at₀ + width - at) rest (omega arith)));
       }
 
-  pub numbering_end : at₀ + width ≤ at → Writes out₀ at₀ (le width v) at out
+  pub numbering_end : at₀ + width ≤ at → Writes out₀ at₀ (le width v) (at₀ + width) out
   numbering_end h =
       let z : at₀ + width - at ≡ 0 = omega arith in
-      emit_end out₀ at₀ (le width v) out at (le (at₀ + width - at) rest) c.emits (rw z)
+      let e : at ≡ at₀ + width = omega (arith, c.within) in
+      rw e at (emit_end out₀ at₀ (le width v) out at (le (at₀ + width - at) rest) c.emits (rw z))

@@ -9,7 +9,7 @@ use Prim.Native.Nat.{ℕ, ◌+◌, ◌*◌, ◌/◌, ◌%◌, ◌<◌, ◌≤◌
 use native.Mathlib.Omega.{arith}
 use lib.ListN.{length, get_or, set, length-set}
 use lib.Seq.{get_or-set_same, get_or-set_other}
-use Rattle.laws.specs.Numbers.{le32}
+use Rattle.laws.specs.Numbers.{le32, le64}
 use Rattle.words.specs.Words.{word, put_word, long, put_long}
 
 pub length_put : (w : List ℕ) (i v : ℕ) → length (put_word w i v) ≡ length w
@@ -81,3 +81,8 @@ long_put_same w i v h =
     let b : word (put_word (put_word w i (v % 4294967296)) (i + 1) (v / 4294967296)) (i + 1) ≡ v / 4294967296 =
     word_put_same (put_word w i (v % 4294967296)) (i + 1) (v / 4294967296) (simp length_put (omega arith)) in
     rw (a, b) (omega arith)
+
+-- two words one after the other are one number of eight bytes
+pub long_read : (w : List ℕ) (i : ℕ) → le64 w (4 * i) ≡ long w i
+unfolding long word le64
+long_read w i = let n : 4 * (i + 1) ≡ 4 * i + 4 = omega arith in rw n

@@ -27,13 +27,14 @@ use Rattle.spans.proofs.Scans.{seek_le, silent, rest_le, all_left}
 use Rattle.spans.specs.declared.Wrote.{Wrote}
 use Rattle.split.specs.Last.{lastn}
 use Rattle.split.specs.Rows.{row_of, piece, dlci_at, tail_at, len_at, bytes_at, held_in, held_of, stream_to, opened, Fits, joined, capped_length, ahead, all}
-use Rattle.split.specs.Walks.{Told, Moved}
+use Rattle.split.specs.Walks.{PutPre, GatherPre, Told, Moved}
 use Rattle.split.specs.declared.Plan.{Plan}
 use Rattle.split.proofs.Lasts.{length_lastn, lastn_zero, capped_small}
+use Rattle.split.proofs.Fronts.{laid_lying}
 use Rattle.split.proofs.Tables.{length_bytes}
 use Rattle.split.proofs.Steps.{own_key, own_fits, length_joined, joined_small, kept_own, moved_opens, moved_quiet, moved_fits}
 use Rattle.split.proofs.Aheads.{opened_none, ahead_none, next_run, ahead_skip, opened_skip, fits_skip}
-use Rattle.writing.specs.Writing.{Closes, items_of, items_from, WritePre, FirstOut, FirstWrote, RestPre, OutPre, GatherOut, closed_item, ClosePre, ListPre}
+use Rattle.writing.specs.Writing.{Closes, items_of, items_from, WritePre, FirstOut, FirstWrote, RestPre, closed_item, ClosePre, ListPre}
 use Rattle.writing.specs.declared.Onward.{Onward}
 
 -- ---- a piece
@@ -182,11 +183,11 @@ module _ (f w : List ℕ) (p : Plan) (i : ℕ) (out : List ℕ) (at h k : ℕ) (
       body_long : length d₂ ≡ length out
       body_long = writes_long d₁ a _ b d₂ w₂ ∙ writes_long out at _ a d₁ w₁
 
-      pub close_gather : GatherOut f w p i h d₂ b
-      close_gather = record { laid = q.laid; row = q.row; come = q.come; fits = omega (arith, close_sum, body_long) }
+      pub close_gather : GatherPre f w p i h d₂ b
+      close_gather = record { lying = laid_lying f w p q.laid; row = q.row; come = q.come; fits = omega (arith, close_sum, body_long) }
 
-      pub close_put : (d₃ : List ℕ) → d₃ ≡ sets d₂ b (lastn h (stream_to f w p i)) → OutPre f w p i 0 k d₃ (b + h)
-      close_put d₃ e = record { laid = q.laid; row = q.row; part = omega (arith, q.part); fits = omega (arith, close_sum, ap length e ∙ length-sets d₂ b (lastn h (stream_to f w p i)), body_long) }
+      pub close_put : (d₃ : List ℕ) → d₃ ≡ sets d₂ b (lastn h (stream_to f w p i)) → PutPre f w p i 0 k d₃ (b + h)
+      close_put d₃ e = record { lying = laid_lying f w p q.laid; row = q.row; part = omega (arith, q.part); fits = omega (arith, close_sum, ap length e ∙ length-sets d₂ b (lastn h (stream_to f w p i)), body_long) }
 
   module _ (x kind time : ℕ) (ex : x ≡ word w (row_of p i + 1)) (ek : kind ≡ 2 - x % 2) (et : time ≡ long w (row_of p i + 6)) where
     abbrev wire : List ℕ

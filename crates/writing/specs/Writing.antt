@@ -59,19 +59,6 @@ pub record Closes (f w : List ℕ) (p : Plan) (i h e : ℕ) : Type 0 where
   pub at : e ≡ seek 0x3C (bytes_at f w p i)
   pub high : e < len_at w p i
 
--- m bytes of the piece j from skip on, to a place in out
-pub record OutPre (f w : List ℕ) (p : Plan) (j skip m : ℕ) (out : List ℕ) (to : ℕ) : Type 0 where
-  pub laid : Laid f w p
-  pub row : j < p.n
-  pub part : skip + m ≤ len_at w p j
-  pub fits : to + m ≤ length out
-
-pub record GatherOut (f w : List ℕ) (p : Plan) (i h : ℕ) (out : List ℕ) (at : ℕ) : Type 0 where
-  pub laid : Laid f w p
-  pub row : i < p.n
-  pub come : h ≤ length (stream_to f w p i)
-  pub fits : at + h ≤ length out
-
 -- the span of the h bytes held and the first k bytes of the piece
 unfoldable pub closed_item : List ℕ → List ℕ → Plan → ℕ → ℕ → ℕ → List ℕ
 closed_item f w p i h k = span_item (span (piece f w p i).rx (piece f w p i).time (lastn h (stream_to f w p i) ++ take k (bytes_at f w p i)))

@@ -8,64 +8,12 @@ ghost use Rattle.items.specs.Items.{span_list};
 ghost use Rattle.spans.specs.Spans.{spans};
 ghost use Rattle.split.specs.Last.{lastn};
 ghost use Rattle.split.specs.Rows.{bytes_at, stream_to, all};
-ghost use Rattle.writing.specs.Writing.{items_of, items_from, WritePre, FirstOut, FirstWrote, RestPre, OutPre, GatherOut, ClosePre, closed_item, ListPre};
+ghost use Rattle.writing.specs.Writing.{items_of, items_from, WritePre, FirstOut, FirstWrote, RestPre, ClosePre, closed_item, ListPre};
 
-use items::{direction_in, put_head};
+use items::{Direction, put_head};
 use spans::{begins, write_part};
-use split::{Plan, earlier, held_before, length_of, piece};
-use words::{copy_to, get32, get64, least, part, put_le};
-
-// Copies m bytes of piece j, from skip on, to a place in out.
-fn put_out<'a>(
-    file: &'a [u8],
-    w: &'a [u8],
-    p: Plan,
-    j: usize,
-    skip: usize,
-    m: usize,
-    out: &mut [u8],
-    to: usize,
-)
-    requires { OutPre file.now w.now p j skip m out.old to }
-    ensures { out.new ≡ sets out.old to (take m (drop skip (bytes_at file.now w.now p j))) }
-{
-    copy_to(part(piece(file, w, p, j), skip, m), out, to);
-}
-
-// Puts the last h bytes of what came under the key of i before i to a place in out: piece by piece, the newest first.
-fn gather_out<'a>(
-    file: &'a [u8],
-    w: &'a [u8],
-    p: Plan,
-    i: usize,
-    h: usize,
-    out: &mut [u8],
-    at: usize,
-)
-    requires { GatherOut file.now w.now p i h out.old at }
-    ensures { out.new ≡ sets out.old at (lastn h (stream_to file.now w.now p i)) }
-{
-    let mut j = earlier(w, p, i);
-    let mut left = h;
-    while 0 < left {
-        let k = j - 1;
-        let n = length_of(w, p, k);
-        let m = least(left, n);
-        j = earlier(w, p, k);
-        put_out(file, w, p, k, n - m, m, out, at + left - m);
-        left -= m;
-    }
-}
-
-// The kind of an item, by the second word of a row.
-fn kind_of(word: u32) -> u16
-    ensures { result ≡ 2 - word % 2 }
-{
-    if word % 2 == 1 {
-        return 1;
-    }
-    2
-}
+use split::{Plan, gather, held_before, length_of, piece, put_part};
+use words::{get32, get64, part, put_le};
 
 // Writes the span of the h bytes held and the first k bytes of piece i.
 fn write_closed<'a>(
@@ -82,13 +30,13 @@ fn write_closed<'a>(
     ensures { Writes out.old at (closed_item file.now w.now p i h k) result out.new }
 {
     let row = p.rows + 8 * i;
-    let kind = kind_of(get32(w, row + 1));
+    let direction = Direction::in_side(get32(w, row + 1));
     let ms = get64(w, row + 6);
-    let time = put_head(out, at, kind, 8 + h + k);
+    let time = put_head(out, at, direction.kind(), 8 + h + k);
     let body = put_le(out, time, ms, 8);
-    gather_out(file, w, p, i, h, out, body);
+    gather(file, w, p, i, h, out, body);
     let rest = body + h;
-    put_out(file, w, p, i, 0, k, out, rest);
+    put_part(file, w, p, i, 0, k, out, rest);
     rest + k
 }
 
@@ -118,7 +66,7 @@ fn write_first<'a>(
         let to = write_closed(file, w, p, i, out, at, h, k);
         return Onward { at: to, skip: k };
     }
-    Onward { at: at, skip: 0 }
+    Onward { at, skip: 0 }
 }
 
 // Writes the spans of piece i from a place on. What its key holds after it needs no look.
@@ -139,7 +87,7 @@ fn write_rest<'a>(
         return at;
     }
     let row = p.rows + 8 * i;
-    let direction = direction_in(get32(w, row + 1));
+    let direction = Direction::in_side(get32(w, row + 1));
     let ms = get64(w, row + 6);
     let c = write_part(part(piece(file, w, p, i), skip, n), direction, ms, out, at);
     c.at
@@ -174,12 +122,9 @@ pub fn write_spans<'a>(file: &'a [u8], w: &'a [u8], p: Plan, out: &mut [u8]) -> 
     let rows = p.rows;
     let dlci = p.dlci;
     let mut at = 0;
-    let mut i = 0;
-    while i < n {
-        let j = i;
-        i += 1;
-        if get32(w, rows + 8 * j) == dlci {
-            at = write_piece(file, w, p, j, out, at);
+    for i in 0..n {
+        if get32(w, rows + 8 * i) == dlci {
+            at = write_piece(file, w, p, i, out, at);
         }
     }
     at

@@ -11,11 +11,11 @@ returns-in_default-field16 c = search acl_size
 pub returns-then-end-lo : goal.returns-then-end-lo
 returns-then-end-lo c = search acl_short
 
-pub overflow_add-lo : goal.overflow_add-lo
-overflow_add-lo c = omega (arith, c.requires.order, c.requires.inside, c.requires.small)
+pub overflow_add-result : goal.overflow_add-result
+overflow_add-result c = omega (arith, c.requires.order, c.requires.inside, c.requires.small)
 
-pub narrow-requires : goal.narrow-requires
-narrow-requires c = omega (arith, c.requires.order, c.requires.inside, c.requires.small)
+pub overflow_cast-result : goal.overflow_cast-result
+overflow_cast-result c = omega (arith, c.requires.order, c.requires.inside, c.requires.small)
 
 pub returns : goal.returns
 returns c = search acl_packet

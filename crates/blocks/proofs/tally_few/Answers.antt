@@ -1,11 +1,15 @@
-use Rattle.blocks.proofs.Counting.{tally_start, tally_turn, tally_end}
+use Rattle.blocks.proofs.Counting.{bit, tally_start, tally_turn, tally_few_hits, tally_all}
+use native.Mathlib.Omega.{arith}
 use Rattle.blocks.proofs.tally_few.Goals as goal
 
-pub loop-i-init : goal.loop-i-init
-loop-i-init c = search tally_start
+pub loop-b-init : goal.loop-b-init
+loop-b-init c = search tally_start
 
-pub loop-i-preserved : goal.loop-i-preserved
-loop-i-preserved c = search tally_turn
+pub overflow_add-hits : goal.overflow_add-hits
+overflow_add-hits c = omega (arith, tally_few_hits _ _ _ _ _ _ c.loop-b.invariant c.loop-b-test.true, c.from-hits.ensures, (bit c.is_within.result).1)
+
+pub loop-b-preserved : goal.loop-b-preserved
+loop-b-preserved c = search tally_turn
 
 pub returns : goal.returns
-returns c = search tally_end
+returns c = search tally_all

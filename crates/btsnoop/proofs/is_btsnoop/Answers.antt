@@ -13,5 +13,5 @@ slice_bounds-same-end c = sym (length-take-le 8 c.args.file.now (omega arith))
 pub returns-then-same : goal.returns-then-same
 returns-then-same c = search begins_version
 
-pub returns : goal.returns
-returns c = search begins_not
+pub returns-else-same : goal.returns-else-same
+returns-else-same c = search begins_not

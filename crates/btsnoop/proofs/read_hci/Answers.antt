@@ -7,8 +7,8 @@ returns-then-flags-eq1 c = search hci_skip
 pub read_h4-requires : goal.read_h4-requires
 read_h4-requires c = search hci_pre
 
-pub returns-then-datalink-eq1002 : goal.returns-then-datalink-eq1002
-returns-then-datalink-eq1002 c = search hci_h4
+pub returns-then-datalink-eq-H4 : goal.returns-then-datalink-eq-H4
+returns-then-datalink-eq-H4 c = search hci_h4
 
 pub read_fragment-requires : goal.read_fragment-requires
 read_fragment-requires c = search hci_pre

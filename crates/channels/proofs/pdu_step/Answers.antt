@@ -5,4 +5,4 @@ pub step_at-requires : goal.step_at-requires
 step_at-requires c = step_inside _ _ _ _ c.requires _ c.payload.ensures
 
 pub returns : goal.returns
-returns c = pdu_step_is _ _ _ _ c.requires _ c.payload.ensures _ _ _ c.get32-side.ensures c.direction_in.ensures c.step_at.ensures
+returns c = pdu_step_is _ _ _ _ c.requires _ c.payload.ensures _ _ _ c.get32-side.ensures c.in_side.ensures c.step_at.ensures

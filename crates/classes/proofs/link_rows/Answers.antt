@@ -4,8 +4,8 @@ use Rattle.classes.proofs.link_rows.Goals as goal
 pub loop-i-init : goal.loop-i-init
 loop-i-init c = search linking_start
 
-pub note_row-h-requires : goal.note_row-h-requires
-note_row-h-requires c = search linking_row
+pub note_row-last-requires : goal.note_row-last-requires
+note_row-last-requires c = search linking_row
 
 pub link-requires : goal.link-requires
 link-requires c = search linking_pre

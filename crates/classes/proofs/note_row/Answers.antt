@@ -7,8 +7,8 @@ returns-then-repeats c = search note_same
 pub put32-requires : goal.put32-requires
 put32-requires c = search note_put
 
-pub returns-in-Met : goal.returns-in-Met
-returns-in-Met c = search note_met
+pub returns-in-Taken : goal.returns-in-Taken
+returns-in-Taken c = search note_met
 
 pub returns-in-Free : goal.returns-in-Free
 returns-in-Free c = search note_free

@@ -1,11 +1,13 @@
-use Rattle.commands.proofs.Searching.{part_rises, spot_found, spot_none}
+use Rattle.commands.proofs.Searching.{part_fits, spot_some, spot_else}
 use Rattle.commands.proofs.find_in.Goals as goal
 
-pub find-i-requires : goal.find-i-requires
-find-i-requires c = search part_rises
+pub slice_bounds-codes-end : goal.slice_bounds-codes-end
+slice_bounds-codes-end c = part_fits _ _ _ c.all_codes.ensures c.requires.count_bound c.requires.all_codes_value
 
-pub returns-then-i-count : goal.returns-then-i-count
-returns-then-i-count c = search spot_found
+pub returns-in-Ok : goal.returns-in-Ok
+returns-in-Ok c =
+    spot_some _ _ _ c.all_codes.ensures c.requires.count_bound c.requires.all_codes_value _ _ c.binary_search.ensures.position _ c.in-Ok.is
 
-pub returns : goal.returns
-returns c = search spot_none
+pub returns-in-Err : goal.returns-in-Err
+returns-in-Err c =
+    spot_else _ _ _ c.all_codes.ensures c.requires.count_bound c.requires.all_codes_value _ _ c.binary_search.ensures.position _ c.in-Err.is

@@ -1,5 +1,6 @@
-use Rattle.commands.proofs.Places.{place_long}
+use mathlib.Core.Path.{ap}
+use lib.ListN.{length}
 use Rattle.commands.proofs.name_len.Goals as goal
 
 pub returns : goal.returns
-returns c = search place_long
+returns c = (ap length c.name_of.ensures.is, c.name_of.ensures.small)

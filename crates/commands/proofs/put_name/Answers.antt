@@ -1,9 +1,7 @@
-use Rattle.commands.proofs.Places.{name_written, part_long}
-use native.Mathlib.Omega.{arith}
 use Rattle.commands.proofs.put_name.Goals as goal
 
 pub copy_to-requires : goal.copy_to-requires
-copy_to-requires c = omega (arith, part_long _ _ c.place_of-p.ensures _ c.all_letters-all.ensures)
+copy_to-requires c = rw c.name_of.ensures.is c.requires.i_in_bounds
 
 pub returns : goal.returns
-returns c = search name_written
+returns c = rw c.name_of.ensures.is at c.copy_to.ensures

@@ -1,23 +1,28 @@
-use Rattle.counter.proofs.Reading.{read_start, read_digit, read_over, read_hyphen, read_low, read_high, read_end}
+use Rattle.counter.proofs.Reading.{read_start, read_digit, read_over, read_hyphen, read_other, read_end}
+use native.Mathlib.Omega.{arith}
 use Rattle.counter.proofs.read_digits.Goals as goal
 
-pub loop-i-init : goal.loop-i-init
-loop-i-init c = search read_start
+pub returns-in-45 : goal.returns-in-45
+returns-in-45 c = read_hyphen _ _ _ c.loop-b.invariant c.loop-b-test.true (omega arith)
 
-pub returns-then-b-eq45 : goal.returns-then-b-eq45
-returns-then-b-eq45 c = search read_hyphen
+pub returns-in_default : goal.returns-in_default
+returns-in_default c =
+    read_other _ _ _ c.loop-b.invariant c.loop-b-test.true (λ e. omega arith) (λ p q. omega arith)
 
-pub returns-then-b-lt48 : goal.returns-then-b-lt48
-returns-then-b-lt48 c = search read_low
+pub returns-in_default-2 : goal.returns-in_default-2
+returns-in_default-2 c =
+    read_other _ _ _ c.loop-b.invariant c.loop-b-test.true (λ e. omega arith) (λ p q. omega arith)
 
-pub returns-then-b-gt57 : goal.returns-then-b-gt57
-returns-then-b-gt57 c = search read_high
+pub returns-then-from-v : goal.returns-then-from-v
+returns-then-from-v c =
+    read_over _ _ _ c.loop-b.invariant c.loop-b-test.true (omega arith) (omega arith) (omega arith)
 
-pub returns-then-v-gt4294967295 : goal.returns-then-v-gt4294967295
-returns-then-v-gt4294967295 c = search read_over
+pub loop-b-init : goal.loop-b-init
+loop-b-init c = read_start _
 
-pub loop-i-preserved : goal.loop-i-preserved
-loop-i-preserved c = search read_digit
+pub loop-b-preserved : goal.loop-b-preserved
+loop-b-preserved c =
+    rw c.from.ensures (read_digit _ _ _ c.loop-b.invariant c.loop-b-test.true (omega arith) (omega arith) (omega arith))
 
 pub returns : goal.returns
 returns c = search read_end

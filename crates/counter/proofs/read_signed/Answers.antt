@@ -1,11 +1,14 @@
 use Rattle.counter.proofs.Reading.{signed_none, signed_plus, signed_bare}
+use Rattle.std.proofs.lemmas.List.{take_rest}
+use mathlib.Core.Path.{◌∙◌}
+use native.Mathlib.Omega.{arith}
 use Rattle.counter.proofs.read_signed.Goals as goal
 
-pub returns-then-s-start : goal.returns-then-s-start
-returns-then-s-start c = search signed_none
+pub returns-in-empty : goal.returns-in-empty
+returns-in-empty c = signed_none _ (omega arith)
 
-pub returns-then-s-start-eq43 : goal.returns-then-s-start-eq43
-returns-then-s-start-eq43 c = search signed_plus
+pub returns-in-43 : goal.returns-in-43
+returns-in-43 c = rw take_rest at c.read_number.ensures ∙ signed_plus _ (omega arith)
 
-pub returns : goal.returns
-returns c = search signed_bare
+pub returns-in_default : goal.returns-in_default
+returns-in_default c = c.read_number-in_default.ensures ∙ signed_bare _ (λ e. omega arith)

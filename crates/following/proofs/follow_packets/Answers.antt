@@ -1,4 +1,4 @@
-use Rattle.following.proofs.Walking.{follow_start, follow_pre, follow_less, follow_again, follow_cut, follow_end}
+use Rattle.following.proofs.Walking.{follow_start, follow_pre, follow_less, follow_again, follow_end}
 use Rattle.l2cap.proofs.Running.{link_room}
 use Rattle.following.proofs.follow_packets.Goals as goal
 
@@ -17,8 +17,5 @@ loop-end-smaller c = search follow_less
 pub loop-end-preserved : goal.loop-end-preserved
 loop-end-preserved c = search follow_again
 
-pub returns-in-Cut : goal.returns-in-Cut
-returns-in-Cut c = search follow_cut
-
-pub returns-in-End : goal.returns-in-End
-returns-in-End c = search follow_end
+pub returns : goal.returns
+returns c = search follow_end

@@ -1,11 +1,12 @@
+use Rattle.std.proofs.lemmas.Result.{err_from_is_err_and}
 use Rattle.gaps.proofs.Finding.{find_packets, find_found, find_refused}
 use Rattle.gaps.proofs.find_gaps.Goals as goal
 
+pub returns-in_err-t : goal.returns-in_err-t
+returns-in_err-t c = let p = err_from_is_err_and c.from_residual.result c.from_residual.ensures.1 in rw (p.1, p.2) (search (find_refused, c.in_err-t.was))
+
 pub find_signs-requires : goal.find_signs-requires
-find_signs-requires c = search find_packets
+find_signs-requires c = search (find_packets, c.in_ok-t.was)
 
-pub returns-in-Read : goal.returns-in-Read
-returns-in-Read c = search find_found
-
-pub returns-in-Refused : goal.returns-in-Refused
-returns-in-Refused c = search find_refused
+pub returns : goal.returns
+returns c = search (find_found, c.in_ok-t.was)

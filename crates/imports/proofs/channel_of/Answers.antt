@@ -1,8 +1,5 @@
-use Rattle.imports.proofs.NumberLaws.{channel_only, channel_any}
+use Rattle.imports.proofs.NumberLaws.{channel_law}
 use Rattle.imports.proofs.channel_of.Goals as goal
 
-pub returns-then-channel-le255 : goal.returns-then-channel-le255
-returns-then-channel-le255 c = search channel_only
-
 pub returns : goal.returns
-returns c = search channel_any
+returns c = rw c.ok.ensures.value (channel_law _ _ c.try_from.ensures)

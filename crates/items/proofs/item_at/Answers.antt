@@ -11,4 +11,4 @@ pub returns-then-left-size : goal.returns-then-left-size
 returns-then-left-size c = search step_passes
 
 pub returns : goal.returns
-returns c = step_whole _ _ _ _ _ c.if-list-at.false c.if-left-lt6.false c.get_le32.ensures c.wide32-size.ensures c.if-left-size.false c.get_le16.ensures
+returns c = step_whole _ _ _ _ c.if-list-at.false c.if-left-lt6.false c.get_le32-size.ensures c.if-left-size.false c.get_le16.ensures

@@ -1,15 +1,11 @@
 use Rattle.items.proofs.Walks.{here_ill, here_room, here_span}
-use native.Mathlib.Omega.{arith}
 use Rattle.items.proofs.next_span.Goals as goal
 
-pub returns-then-end-eq0 : goal.returns-then-end-eq0
-returns-then-end-eq0 c = search here_ill
+pub returns-in_err-end : goal.returns-in_err-end
+returns-in_err-end c = rw c.from_residual.ensures (here_ill _ _ c.requires _ c.pass.ensures c.in_err-end.was)
 
-pub get_le16-requires : goal.get_le16-requires
-get_le16-requires c = omega (arith, here_room _ _ c.requires _ c.pass-end.ensures c.if-end-eq0.false)
-
-pub get_le64-ms-requires : goal.get_le64-ms-requires
-get_le64-ms-requires c = omega (arith, here_room _ _ c.requires _ c.pass-end.ensures c.if-end-eq0.false)
+pub span_to-requires : goal.span_to-requires
+span_to-requires c = here_room _ _ c.requires _ c.pass.ensures _ c.in_ok-end.was
 
 pub returns : goal.returns
-returns c = search here_span
+returns c = here_span _ _ c.requires _ c.pass.ensures _ c.in_ok-end.was _ c.span_to.ensures

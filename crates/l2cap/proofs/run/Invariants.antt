@@ -1,9 +1,5 @@
-use Prim.Native.Nat.{◌-◌}
 use Rattle.l2cap.proofs.Ranges.{Ranging}
 use Rattle.l2cap.proofs.run.Given as goal
 
 abbrev pub invariant-loop-i : goal.invariant-loop-i
 invariant-loop-i l = Ranging l.file l.initial.w l.q l.initial.s l.from l.upto l.w l.s l.i
-
-abbrev pub decreases-loop-i : goal.decreases-loop-i
-decreases-loop-i l = l.upto - l.i

@@ -5,17 +5,17 @@ use Rattle.l2cap.proofs.step.Goals as goal
 pub row_of-at-requires : goal.row_of-at-requires
 row_of-at-requires c = search step_row
 
-pub arrive-next-requires : goal.arrive-next-requires
-arrive-next-requires c = search step_arrive
+pub arrive-requires : goal.arrive-requires
+arrive-requires c = search step_arrive
 
 pub returns-in_default : goal.returns-in_default
 returns-in_default c = search step_skip
 
 pub needed-need-requires : goal.needed-need-requires
-needed-need-requires c = step_walk _ _ _ _ _ c.requires _ c.row_of-at.ensures _ c.arrive-next.ensures _ _ c.in-From.is
+needed-need-requires c = step_walk _ _ _ _ _ c.requires _ c.row_of-at.ensures _ c.arrive.ensures _ _ c.in-Some.is
 
 pub finish-end-requires : goal.finish-end-requires
-finish-end-requires c = step_finish _ _ _ _ _ c.requires _ c.row_of-at.ensures _ c.arrive-next.ensures _ _ c.in-From.is _ c.needed-need.ensures c.if-need-got.true
+finish-end-requires c = step_finish _ _ _ _ _ c.requires _ c.row_of-at.ensures _ c.arrive.ensures _ _ c.in-Some.is _ c.needed-need.ensures c.if-need-got.true
 
 pub set_open-requires : goal.set_open-requires
 set_open-requires c = full_room _ _ _ _ _ c.requires _ c.row_of-at.ensures _ _ _ _ c.finish-end.ensures
@@ -24,13 +24,13 @@ pub returns-then-need-got : goal.returns-then-need-got
 returns-then-need-got c = search step_full
 
 pub overflow_add-first : goal.overflow_add-first
-overflow_add-first c = omega (arith, first_fits _ _ _ _ _ c.requires _ c.row_of-at.ensures _ c.arrive-next.ensures _ _ c.in-From.is)
+overflow_add-first c = omega (arith, first_fits _ _ _ _ _ c.requires _ c.row_of-at.ensures _ c.arrive.ensures _ _ c.in-Some.is)
 
-pub narrow-requires : goal.narrow-requires
-narrow-requires c = search narrow_first
+pub overflow_cast-first : goal.overflow_cast-first
+overflow_cast-first c = omega (arith, narrow_first _ _ _ _ _ c.requires _ c.row_of-at.ensures _ c.arrive.ensures _ _ c.in-Some.is)
 
-pub narrow-requires-2 : goal.narrow-requires-2
-narrow-requires-2 c = search narrow_got
+pub overflow_cast-got : goal.overflow_cast-got
+overflow_cast-got c = omega (arith, narrow_got _ _ _ _ _ c.requires _ c.row_of-at.ensures _ c.arrive.ensures _ _ c.in-Some.is)
 
 pub set_open-requires-2 : goal.set_open-requires-2
 set_open-requires-2 c = at_room _ _ _ _ _ c.requires _ c.row_of-at.ensures

@@ -4,11 +4,11 @@ use Rattle.letters.proofs.find_ending.Goals as goal
 pub loop-p-init : goal.loop-p-init
 loop-p-init c = search ending_start
 
-pub returns-then-is_part : goal.returns-then-is_part
-returns-then-is_part c = search ending_found
+pub returns-then-same : goal.returns-then-same
+returns-then-same c = ending_found _ _ c.loop-p.invariant _ (rw c.part.ensures.is at c.same.ensures) c.loop-p-test.true c.if-same.true
 
 pub loop-p-preserved : goal.loop-p-preserved
-loop-p-preserved c = search ending_turn
+loop-p-preserved c = ending_turn _ _ c.loop-p.invariant _ (rw c.part.ensures.is at c.same.ensures) c.loop-p-test.true c.if-same.false
 
 pub returns : goal.returns
 returns c = search ending_none

@@ -1,12 +1,6 @@
-use Rattle.letters.proofs.Joining.{stem_room, ending_room, name_written}
-use borrow.Author.Rules.{rules}
+use Rattle.letters.proofs.Joining.{name_written}
 use Rattle.letters.proofs.put_name.Goals as goal
 
-pub put_part-then-requires : goal.put_part-then-requires
-put_part-then-requires c = record { tables = search rules; p_bound = search rules; p_in_bounds = search stem_room }
-
-pub put_part-requires : goal.put_part-requires
-put_part-requires c = record { tables = search rules; p_bound = search rules; p_in_bounds = search ending_room }
-
 pub returns : goal.returns
-returns c = search name_written
+returns c =
+    name_written _ _ c.halves_of-h.ensures _ _ _ _ _ _ (rw c.part.ensures.is at c.copy_to-then.ensures) (rw c.part-2.ensures.is at c.copy_to.ensures)

@@ -1,9 +1,6 @@
-use Rattle.lexical.specs.Steps.{Comparing}
-use Prim.Native.Nat.{◌-◌}
+use Rattle.lexical.proofs.Comparing.{Comparing}
+use Prim.Native.Nat.{◌*◌}
 use Rattle.lexical.proofs.bytes_le.Given as goal
 
-abbrev pub invariant-loop-i : goal.invariant-loop-i
-invariant-loop-i l = Comparing l.a l.b l.i
-
-abbrev pub decreases-loop-i : goal.decreases-loop-i
-decreases-loop-i l = l.few - l.i
+abbrev pub invariant-loop-k : goal.invariant-loop-k
+invariant-loop-k l = Comparing l.a l.b (8 * l.k)

@@ -1,9 +1,5 @@
 use Rattle.measuring.proofs.Counting.{CountingTo}
-use Prim.Native.Nat.{◌-◌}
 use Rattle.measuring.proofs.count_spans.Given as goal
 
 abbrev pub invariant-loop-i : goal.invariant-loop-i
 invariant-loop-i l = CountingTo l.file l.initial.w l.p l.w l.i l.s
-
-abbrev pub decreases-loop-i : goal.decreases-loop-i
-decreases-loop-i l = l.p.n - l.i

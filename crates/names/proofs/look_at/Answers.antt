@@ -1,8 +1,5 @@
-use Rattle.names.proofs.Naming.{look_sound, look_unsound}
+use Rattle.names.proofs.Naming.{looks}
 use Rattle.names.proofs.look_at.Goals as goal
 
-pub returns-in-Unsound : goal.returns-in-Unsound
-returns-in-Unsound c = search look_unsound
-
-pub returns-in-Sound : goal.returns-in-Sound
-returns-in-Sound c = search look_sound
+pub returns : goal.returns
+returns c = rw c.ok.ensures.value (looks _ _ c.inspect.ensures)

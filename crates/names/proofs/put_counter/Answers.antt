@@ -9,7 +9,7 @@ pub put_zeros-to-requires : goal.put_zeros-to-requires
 put_zeros-to-requires c = record { k_bound = omega arith; k_in_bounds = omega (arith, length_six c.args.n) }
 
 pub put_decimal-requires : goal.put_decimal-requires
-put_decimal-requires c = omega (arith, length_six c.args.n, length-replicate {A = ℕ} c.missing-z.result 48)
+put_decimal-requires c = omega (arith, length_six c.args.n, length-replicate {A = ℕ} c.saturating_sub-z.result 48)
 
 pub returns : goal.returns
 returns c = search counter_written

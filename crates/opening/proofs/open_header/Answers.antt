@@ -1,11 +1,12 @@
+use Rattle.std.proofs.lemmas.Result.{err_from_is_err_and}
 use Rattle.opening.proofs.Opening.{header_pre, header_refused, header_read}
 use Rattle.opening.proofs.open_header.Goals as goal
 
 pub open_records-requires : goal.open_records-requires
-open_records-requires c = search header_pre
+open_records-requires c = search (header_pre, c.in_ok-format.was)
 
-pub returns-in-Refused : goal.returns-in-Refused
-returns-in-Refused c = search header_refused
+pub returns-in_err-format : goal.returns-in_err-format
+returns-in_err-format c = let p = err_from_is_err_and c.from_residual.result c.from_residual.ensures.1 in rw (p.1, p.2) (search (header_refused, c.in_err-format.was))
 
-pub returns-in-Read : goal.returns-in-Read
-returns-in-Read c = search header_read
+pub returns : goal.returns
+returns c = search (header_read, c.in_ok-format.was)

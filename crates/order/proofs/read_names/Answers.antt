@@ -7,8 +7,8 @@ returns-then-runs c = search read_up
 pub returns-then-runs-2 : goal.returns-then-runs-2
 returns-then-runs-2 c = search read_down
 
-pub returns-in-Ill : goal.returns-in-Ill
-returns-in-Ill c = search read_ill
+pub returns-in-Err : goal.returns-in-Err
+returns-in-Err c = search read_ill
 
-pub returns-in-Well : goal.returns-in-Well
-returns-in-Well c = search read_mixed
+pub returns-in-Ok : goal.returns-in-Ok
+returns-in-Ok c = search read_mixed

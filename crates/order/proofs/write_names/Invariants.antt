@@ -3,6 +3,3 @@ use Rattle.order.proofs.write_names.Given as goal
 
 abbrev pub invariant-loop-i : goal.invariant-loop-i
 invariant-loop-i l = Writing l.names l.n l.initial.out l.out l.i l.to
-
-abbrev pub decreases-loop-i : goal.decreases-loop-i
-decreases-loop-i l = l.i

@@ -1,4 +1,4 @@
-use Rattle.packets.proofs.Adding.{walk_start, walk_in, walk_pass_less, walk_pass, walk_pre, walk_less, walk_turn, walk_cut, walk_end}
+use Rattle.packets.proofs.Adding.{walk_start, walk_in, walk_pass_less, walk_pass, walk_pre, walk_less, walk_turn, ended}
 use Rattle.packets.proofs.read_packets.Goals as goal
 
 pub loop-end-init : goal.loop-end-init
@@ -22,8 +22,5 @@ loop-end-smaller c = search walk_less
 pub loop-end-preserved : goal.loop-end-preserved
 loop-end-preserved c = search walk_turn
 
-pub returns-in-Cut : goal.returns-in-Cut
-returns-in-Cut c = search walk_cut
-
-pub returns-in-End : goal.returns-in-End
-returns-in-End c = search walk_end
+pub returns : goal.returns
+returns c = search ended

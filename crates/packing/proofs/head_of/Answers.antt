@@ -1,7 +1,5 @@
-use Rattle.mdr.specs.Frame.{head_of}
-use Rattle.std.proofs.Common.{refl}
+use Rattle.packing.proofs.Escapes.{head_bytes}
 use Rattle.packing.proofs.head_of.Goals as goal
 
 pub returns : goal.returns
-unfolding head_of
-returns c = refl
+returns c = head_bytes _ _ _ _ c.to_be_bytes.ensures

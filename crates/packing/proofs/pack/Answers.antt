@@ -1,3 +1,4 @@
+use Rattle.std.proofs.Common.{refl}
 use Rattle.packing.proofs.Escapes.{bare_if, frame_room, pack_long, pack_short, pack_wrote}
 use Rattle.packing.proofs.pack.Goals as goal
 
@@ -8,7 +9,7 @@ pub returns-then-out-needed : goal.returns-then-out-needed
 returns-then-out-needed c = search pack_short
 
 pub write_frame-requires : goal.write_frame-requires
-write_frame-requires c = record { bare = search bare_if; sum_in_bounds = frame_room _ _ c.args.payload.now _ _ _ _ _ c.head_of-head.ensures c.tally_few-h.ensures c.tally-t.ensures c.wrapping_add_u8-sum.ensures.value c.one_within-more.ensures c.args.out.now c.if-out-needed.false }
+write_frame-requires c = record { bare = search bare_if; sum_in_bounds = frame_room _ _ c.args.payload.now _ _ _ _ _ c.head_of-head.ensures c.tally_few-h.ensures c.tally-t.ensures refl _ c.is_within.ensures c.from-more.ensures c.args.out.now c.if-out-needed.false }
 
 pub returns : goal.returns
 returns c = search pack_wrote

@@ -1,14 +1,17 @@
-use Rattle.packing.proofs.Twins.{part_start, part_second, part_turn, part_end}
+use Rattle.packing.proofs.Twins.{low_high, part_start, part_second, part_turn, part_end}
+use native.Mathlib.Omega.{arith}
 use Rattle.packing.proofs.put_pairs.Goals as goal
 
-pub loop-i-init : goal.loop-i-init
-loop-i-init c = search part_start
+pub loop-w-init : goal.loop-w-init
+loop-w-init c = search part_start
 
-pub bounds-out-at-in-loop-i : goal.bounds-out-at-in-loop-i
-bounds-out-at-in-loop-i c = search part_second
+pub bounds-out-at-in-loop-w : goal.bounds-out-at-in-loop-w
+bounds-out-at-in-loop-w c = search part_second
 
-pub loop-i-preserved : goal.loop-i-preserved
-loop-i-preserved c = search part_turn
+pub loop-w-preserved : goal.loop-w-preserved
+loop-w-preserved c =
+    let b = low_high _ _ c.to_le_bytes.ensures (omega (arith, c.type_inv.pairs c.loop-w.w-index)) in
+    part_turn _ _ _ _ _ _ c.loop-w.invariant c.loop-w-test.true _ _ b.0 b.1
 
 pub returns : goal.returns
 returns c = search part_end

@@ -4,5 +4,5 @@ use Rattle.recorded.proofs.is_skipped.Goals as goal
 pub returns-then-is_acl : goal.returns-then-is_acl
 returns-then-is_acl c = search skipped_acl
 
-pub returns : goal.returns
-returns c = search skipped_not
+pub returns-else-is_acl : goal.returns-else-is_acl
+returns-else-is_acl c = search skipped_not

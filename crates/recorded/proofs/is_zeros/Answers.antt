@@ -1,14 +1,13 @@
-use Rattle.recorded.proofs.Records.{zeros_start, zeros_not, zeros_turn, zeros_end}
+use mathlib.Core.Path.{◌∙◌}
+use lib.Dec.{eqb}
+use Rattle.std.proofs.Common.{rules, tests}
+use Rattle.std.proofs.lemmas.Iterator.{YieldsList-from_slice}
+use Rattle.std.proofs.lemmas.Iterator.Search.{all_from_yields_List}
+use Rattle.acl.specs.Reading.{between}
+use Rattle.recorded.proofs.Records.{zeros_all}
 use Rattle.recorded.proofs.is_zeros.Goals as goal
 
-pub loop-i-init : goal.loop-i-init
-loop-i-init c = search zeros_start
-
-pub returns-then-b-i-ne0 : goal.returns-then-b-i-ne0
-returns-then-b-i-ne0 c = search zeros_not
-
-pub loop-i-preserved : goal.loop-i-preserved
-loop-i-preserved c = search zeros_turn
-
 pub returns : goal.returns
-returns c = search zeros_end
+returns c =
+    let b = between c.args.file.now c.args.at c.args.end in
+    all_from_yields_List (λ x. eqb x 0) _ _ c.all.result c.all.ensures.ran (YieldsList-from_slice b cc) (λ x b q k. search (rules, tests)) ∙ zeros_all b

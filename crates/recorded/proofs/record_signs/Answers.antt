@@ -1,4 +1,4 @@
-use Rattle.recorded.proofs.Looking.{looking_start, looking_pre, looking_less, looking_turn, looking_cut, looking_end}
+use Rattle.recorded.proofs.Looking.{looking_start, looking_pre, looking_less, looking_turn, looking_end}
 use Rattle.recorded.proofs.record_signs.Goals as goal
 
 pub loop-end-init : goal.loop-end-init
@@ -13,8 +13,5 @@ loop-end-smaller c = search looking_less
 pub loop-end-preserved : goal.loop-end-preserved
 loop-end-preserved c = search looking_turn
 
-pub returns-in-Cut : goal.returns-in-Cut
-returns-in-Cut c = search looking_cut
-
-pub returns-in-End : goal.returns-in-End
-returns-in-End c = search looking_end
+pub returns : goal.returns
+returns c = search looking_end

@@ -7,8 +7,8 @@ returns-then-out-written c = search compared_no
 pub loop-i-init : goal.loop-i-init
 loop-i-init c = search comparing_start
 
-pub returns-then-out-i : goal.returns-then-out-i
-returns-then-out-i c = search compared_no
+pub returns-then-x-output_byte : goal.returns-then-x-output_byte
+returns-then-x-output_byte c = search compared_no
 
 pub loop-i-preserved : goal.loop-i-preserved
 loop-i-preserved c = search comparing_turn

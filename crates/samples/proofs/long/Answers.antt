@@ -1,11 +1,11 @@
-use Rattle.samples.proofs.Places.{long_few, long_past, long_there}
+use Rattle.samples.proofs.Places.{has_room, long_none, long_there}
 use Rattle.samples.proofs.long.Goals as goal
 
-pub returns-then-n-lt8 : goal.returns-then-n-lt8
-returns-then-n-lt8 c = search long_few
+pub get_le64-requires : goal.get_le64-requires
+get_le64-requires c = search has_room
 
-pub returns-then-n-at : goal.returns-then-n-at
-returns-then-n-at c = search long_past
+pub returns-then-has_bytes : goal.returns-then-has_bytes
+returns-then-has_bytes c = search long_there
 
 pub returns : goal.returns
-returns c = search long_there
+returns c = search long_none

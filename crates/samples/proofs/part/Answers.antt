@@ -1,11 +1,8 @@
-use Rattle.samples.proofs.Places.{part_past, part_short, part_there}
+use Rattle.samples.proofs.Places.{part_none, part_there}
 use Rattle.samples.proofs.part.Goals as goal
 
-pub returns-then-n-at : goal.returns-then-n-at
-returns-then-n-at c = search part_past
-
-pub returns-then-n-at-2 : goal.returns-then-n-at-2
-returns-then-n-at-2 c = search part_short
+pub returns-then-has_bytes : goal.returns-then-has_bytes
+returns-then-has_bytes c = search part_there
 
 pub returns : goal.returns
-returns c = search part_there
+returns c = search part_none

@@ -1,11 +1,11 @@
-use Rattle.samples.proofs.Places.{word_few, word_past, word_there}
+use Rattle.samples.proofs.Places.{has_room, word_none, word_there}
 use Rattle.samples.proofs.word.Goals as goal
 
-pub returns-then-n-lt4 : goal.returns-then-n-lt4
-returns-then-n-lt4 c = search word_few
+pub get_le32-requires : goal.get_le32-requires
+get_le32-requires c = search has_room
 
-pub returns-then-n-at : goal.returns-then-n-at
-returns-then-n-at c = search word_past
+pub returns-then-has_bytes : goal.returns-then-has_bytes
+returns-then-has_bytes c = search word_there
 
 pub returns : goal.returns
-returns c = search word_there
+returns c = search word_none

@@ -1,10 +1,5 @@
-use lib.ListN.{length}
-use Prim.Native.Nat.{◌-◌}
 use Rattle.search.proofs.Searching.{Seeking}
 use Rattle.search.proofs.find_few.Given as goal
 
 abbrev pub invariant-loop-i : goal.invariant-loop-i
 invariant-loop-i l = Seeking l.s l.from l.x l.i
-
-abbrev pub decreases-loop-i : goal.decreases-loop-i
-decreases-loop-i l = length l.s - l.i

@@ -1,4 +1,4 @@
-use Rattle.search.proofs.Searching.{seeking_start, seeking_hit, seeking_miss, seeking_found}
+use Rattle.search.proofs.Searching.{seeking_start, seeking_hit, seeking_miss, seeking_to, seeking_found}
 use native.Mathlib.Omega.{arith}
 use Rattle.search.proofs.find_near.Goals as goal
 
@@ -12,4 +12,4 @@ pub loop-i-preserved : goal.loop-i-preserved
 loop-i-preserved c = seeking_miss _ _ _ _ c.loop-i.invariant (omega arith) c.if-s-i.false
 
 pub returns : goal.returns
-returns c = search seeking_found
+returns c = seeking_found _ _ _ _ _ (seeking_to _ _ _ _ c.loop-i.invariant _ (c.loop-i.auto.i-end (omega arith)) c.loop-i-test.false) c.find_byte.ensures

@@ -7,5 +7,5 @@ returns-then-end-at-lt20 c = search directed_short
 pub returns-then-way-lt2 : goal.returns-then-way-lt2
 returns-then-way-lt2 c = search directed_acl
 
-pub returns : goal.returns
-returns c = search directed_other
+pub returns-else-way-lt2 : goal.returns-else-way-lt2
+returns-else-way-lt2 c = search directed_other

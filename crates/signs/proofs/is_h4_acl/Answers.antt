@@ -4,5 +4,5 @@ use Rattle.signs.proofs.is_h4_acl.Goals as goal
 pub returns-then-lo-end : goal.returns-then-lo-end
 returns-then-lo-end c = search h4_some
 
-pub returns : goal.returns
-returns c = search h4_none
+pub returns-else-lo-end : goal.returns-else-lo-end
+returns-else-lo-end c = search h4_none

@@ -4,5 +4,5 @@ use Rattle.signs.proofs.is_monitor_acl.Goals as goal
 pub returns-then-op-eq4 : goal.returns-then-op-eq4
 returns-then-op-eq4 c = search monitor_sent
 
-pub returns : goal.returns
-returns c = search monitor_else
+pub returns-else-op-eq4 : goal.returns-else-op-eq4
+returns-else-op-eq4 c = search monitor_else

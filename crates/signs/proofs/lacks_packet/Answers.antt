@@ -7,8 +7,8 @@ overflow_add-at c = search packet_fits
 pub lacks_data-requires : goal.lacks_data-requires
 lacks_data-requires c = (search packet_lies, c.requires.most)
 
-pub returns-then-is_acl : goal.returns-then-is_acl
-returns-then-is_acl c = search packet_lacks
+pub returns-else-not-is_acl : goal.returns-else-not-is_acl
+returns-else-not-is_acl c = search packet_lacks
 
-pub returns : goal.returns
-returns c = search packet_none
+pub returns-then-not-is_acl : goal.returns-then-not-is_acl
+returns-then-not-is_acl c = search packet_none

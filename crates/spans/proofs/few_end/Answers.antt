@@ -4,8 +4,8 @@ use Rattle.spans.proofs.few_end.Goals as goal
 pub loop-i-init : goal.loop-i-init
 loop-i-init c = search ending_start
 
-pub returns-then-s-i-eq60 : goal.returns-then-s-i-eq60
-returns-then-s-i-eq60 c = search ending_hit
+pub returns-then-x-eq60 : goal.returns-then-x-eq60
+returns-then-x-eq60 c = search ending_hit
 
 pub loop-i-preserved : goal.loop-i-preserved
 loop-i-preserved c = search ending_miss

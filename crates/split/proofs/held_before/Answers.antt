@@ -1,8 +1,15 @@
-use Rattle.split.proofs.Tables.{held_none, held_newest}
+use Rattle.split.proofs.Tables.{before_less, held_none, held_newest}
+use native.Mathlib.Omega.{arith}
 use Rattle.split.proofs.held_before.Goals as goal
 
-pub returns-then-j-eq0 : goal.returns-then-j-eq0
-returns-then-j-eq0 c = search held_none
+pub overflow_add-p : goal.overflow_add-p
+overflow_add-p c = let h = before_less _ _ _ _ c.earlier.ensures _ c.in-Some.is in omega (arith, c.well_formed, c.ranges, c.requires.row.row, c.requires.row.ends, c.requires.row.words)
 
-pub returns : goal.returns
-returns c = search held_newest
+pub get32-requires : goal.get32-requires
+get32-requires c = let h = before_less _ _ _ _ c.earlier.ensures _ c.in-Some.is in omega (arith, c.requires.row.row, c.requires.row.ends, c.requires.row.words)
+
+pub returns-in-Some : goal.returns-in-Some
+returns-in-Some c = held_newest _ _ _ _ c.earlier.ensures _ c.in-Some.is _ c.get32.ensures
+
+pub returns-in-None : goal.returns-in-None
+returns-in-None c = held_none _ _ _ _ c.earlier.ensures c.in-None.is

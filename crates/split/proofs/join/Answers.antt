@@ -1,15 +1,18 @@
-use Rattle.split.proofs.Steps.{join_put, join_done}
+use Rattle.split.proofs.Steps.{join_row, join_gather, join_put, join_small, join_done}
 use native.Mathlib.Omega.{arith}
 use Rattle.split.proofs.join.Goals as goal
 
-pub overflow_add-p : goal.overflow_add-p
-overflow_add-p c = let g = join_put _ _ _ _ _ c.requires _ c.gather.ensures _ c.length_of-n.ensures in omega (arith, g.fits)
+pub gather-requires : goal.gather-requires
+gather-requires c = join_gather _ _ _ _ _ c.requires _ c.split_at_mut-tables.ensures.front _ c.split_at_mut-tables.ensures.back
 
-pub put_bytes-requires : goal.put_bytes-requires
-put_bytes-requires c = join_put _ _ _ _ _ c.requires _ c.gather.ensures _ c.length_of-n.ensures
+pub length_of-n-requires : goal.length_of-n-requires
+length_of-n-requires c = join_row _ _ _ _ _ c.requires _ c.split_at_mut-tables.ensures.front _ c.split_at_mut-tables.ensures.back
+
+pub put_part-requires : goal.put_part-requires
+put_part-requires c = join_put _ _ _ _ _ c.requires _ c.split_at_mut-tables.ensures.front _ c.split_at_mut-tables.ensures.back _ c.gather.ensures _ c.length_of-n.ensures
 
 pub overflow_add-result : goal.overflow_add-result
-overflow_add-result c = let g = join_put _ _ _ _ _ c.requires _ c.gather.ensures _ c.length_of-n.ensures in omega (arith, g.fits)
+overflow_add-result c = let g = join_small _ _ _ _ _ c.requires _ c.split_at_mut-tables.ensures.front _ c.split_at_mut-tables.ensures.back _ c.gather.ensures _ c.length_of-n.ensures in omega arith
 
 pub returns : goal.returns
-returns c = join_done _ _ _ _ _ c.requires _ c.gather.ensures _ c.length_of-n.ensures _ c.put_bytes.ensures
+returns c = join_done _ _ _ _ _ c.requires _ c.split_at_mut-tables.ensures.front _ c.split_at_mut-tables.ensures.back _ c.gather.ensures _ c.length_of-n.ensures _ c.put_part.ensures

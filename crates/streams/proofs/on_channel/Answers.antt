@@ -2,10 +2,10 @@ use Rattle.streams.specs.Streams.{channel_of}
 use Rattle.outcome.specs.Import.{on_channel}
 use Rattle.streams.proofs.on_channel.Goals as goal
 
-pub returns-in-Any : goal.returns-in-Any
+pub returns-in-None : goal.returns-in-None
 unfolding on_channel channel_of
-returns-in-Any c = rw c.in-Any.is
+returns-in-None c = rw c.in-None.is
 
-pub returns-in-Only : goal.returns-in-Only
+pub returns-in-Some : goal.returns-in-Some
 unfolding on_channel channel_of
-returns-in-Only c = rw c.in-Only.is
+returns-in-Some c = rw c.in-Some.is

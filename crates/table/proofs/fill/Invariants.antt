@@ -1,9 +1,5 @@
 use Rattle.table.specs.Chain.{Filling}
-use Prim.Native.Nat.{◌-◌}
 use Rattle.table.proofs.fill.Given as goal
 
 abbrev pub invariant-loop-i : goal.invariant-loop-i
 invariant-loop-i l = Filling l.initial.w l.at l.m l.x l.w l.i
-
-abbrev pub decreases-loop-i : goal.decreases-loop-i
-decreases-loop-i l = l.m - l.i

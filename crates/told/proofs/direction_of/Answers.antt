@@ -4,5 +4,5 @@ use Rattle.told.proofs.direction_of.Goals as goal
 pub returns-then-way-eq1 : goal.returns-then-way-eq1
 returns-then-way-eq1 c = search way_rx
 
-pub returns : goal.returns
-returns c = search way_tx
+pub returns-else-way-eq1 : goal.returns-else-way-eq1
+returns-else-way-eq1 c = search way_tx

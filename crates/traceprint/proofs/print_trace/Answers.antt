@@ -5,13 +5,13 @@ use Rattle.traceprint.proofs.Told.{says, trace_refused, trace_listed}
 use Rattle.traceprint.proofs.print_trace.Goals as goal
 
 pub slice_bounds-spans-end : goal.slice_bounds-spans-end
-slice_bounds-spans-end g c = lies_within _ _ c.in-Spans.ensures.lies
+slice_bounds-spans-end g c = lies_within _ _ c.in-Ok.ensures.lies
 
 pub slice_bounds-print_spans-end : goal.slice_bounds-print_spans-end
-slice_bounds-print_spans-end g c = sym (length-take-le _ _ (lies_within _ _ c.in-Spans.ensures.lies))
+slice_bounds-print_spans-end g c = sym (length-take-le _ _ (lies_within _ _ c.in-Ok.ensures.lies))
 
-pub returns-in_default : goal.returns-in_default
-returns-in_default g c = says _ _ _ _ _ c.print_refusal.ensures (trace_refused _ _ (search rules) c.import_any-a.result _ c.import_any-a.ensures.meets c.in_default.not-Spans)
+pub returns-in-Err : goal.returns-in-Err
+returns-in-Err g c = says _ _ _ _ _ c.print_refusal.ensures (trace_refused _ _ (search rules) c.in-Err.e _ c.in-Err.ensures.meets)
 
-pub returns : goal.returns
-returns g c = says _ _ _ _ _ c.print_spans.ensures (trace_listed _ _ (search rules) c.in-Spans.s _ c.in-Spans.ensures.meets)
+pub returns-in-Ok : goal.returns-in-Ok
+returns-in-Ok g c = says _ _ _ _ _ c.print_spans.ensures (trace_listed _ _ (search rules) c.in-Ok.s _ c.in-Ok.ensures.meets)

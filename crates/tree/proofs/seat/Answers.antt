@@ -1,5 +1,5 @@
 use Rattle.tree.proofs.Seats.{seat_near}
 use Rattle.tree.proofs.seat.Goals as goal
 
-pub returns-in-At : goal.returns-in-At
-returns-in-At c = search seat_near
+pub returns-in-Some : goal.returns-in-Some
+returns-in-Some c = search seat_near

@@ -4,5 +4,5 @@ use Rattle.tree.proofs.sits.Goals as goal
 pub returns-then-i-count : goal.returns-then-i-count
 returns-then-i-count c = search sits_is
 
-pub returns : goal.returns
-returns c = search sits_past
+pub returns-else-i-count : goal.returns-else-i-count
+returns-else-i-count c = search sits_past

@@ -1,11 +1,8 @@
-use Rattle.unescaping.proofs.Flaws.{breach_plain, breach_kept, breach_broken}
+use Rattle.unescaping.proofs.Flaws.{breach_plain, breach_is}
 use Rattle.unescaping.proofs.breaks.Goals as goal
 
-pub returns-then-b-ne61 : goal.returns-then-b-ne61
-returns-then-b-ne61 c = search breach_plain
+pub returns-then-b-eq61 : goal.returns-then-b-eq61
+returns-then-b-eq61 c = search breach_is
 
-pub returns-then-is_within : goal.returns-then-is_within
-returns-then-is_within c = search breach_kept
-
-pub returns-else-is_within : goal.returns-else-is_within
-returns-else-is_within c = search breach_broken
+pub returns-else-b-eq61 : goal.returns-else-b-eq61
+returns-else-b-eq61 c = search breach_plain

@@ -1,11 +1,12 @@
-use Rattle.unescaping.proofs.Filling.{fill_start, fill_block_turn, fill_last}
+use Rattle.unescaping.proofs.Filling.{fill_start, fill_blocks, fill_rest}
+use Rattle.std.proofs.Common.{arith}
 use Rattle.unescaping.proofs.fill.Goals as goal
 
-pub loop-k-init : goal.loop-k-init
-loop-k-init c = search fill_start
+pub loop-b-init : goal.loop-b-init
+loop-b-init c = search fill_start
 
-pub loop-k-preserved : goal.loop-k-preserved
-loop-k-preserved c = search fill_block_turn
+pub loop-b-preserved : goal.loop-b-preserved
+loop-b-preserved c = search fill_blocks
 
 pub returns : goal.returns
-returns c = search fill_last
+returns c = fill_rest _ _ _ _ _ _ _ c.loop-b.invariant (omega (arith, c.loop-b-test.false, c.loop-b.auto)) _ _ c.fill_few.ensures

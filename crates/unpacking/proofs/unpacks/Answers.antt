@@ -1,8 +1,5 @@
-use Rattle.unpacking.proofs.Answers.{unpacks_true, unpacks_false}
+use Rattle.unpacking.proofs.Answers.{unpacks_is}
 use Rattle.unpacking.proofs.unpacks.Goals as goal
 
-pub returns-in-Refused : goal.returns-in-Refused
-returns-in-Refused c = search unpacks_false
-
-pub returns-in-Whole : goal.returns-in-Whole
-returns-in-Whole c = search unpacks_true
+pub returns : goal.returns
+returns c = rw c.is_ok.ensures.value (unpacks_is _ _ _ c.read_frame.ensures)

@@ -5,17 +5,17 @@ use Rattle.writing.proofs.write_closed.Goals as goal
 pub put_le-body-requires : goal.put_le-body-requires
 put_le-body-requires c = close_time _ _ _ _ _ _ _ _ c.requires _ _ _ c.put_head-time.ensures
 
-pub gather_out-requires : goal.gather_out-requires
-gather_out-requires c = close_gather _ _ _ _ _ _ _ _ c.requires _ _ _ c.put_head-time.ensures _ _ _ c.put_le-body.ensures
+pub gather-requires : goal.gather-requires
+gather-requires c = close_gather _ _ _ _ _ _ _ _ c.requires _ _ _ c.put_head-time.ensures _ _ _ c.put_le-body.ensures
 
 pub overflow_add-rest : goal.overflow_add-rest
 overflow_add-rest c = omega (arith, c.well_formed, c.ranges, close_sum _ _ _ _ _ _ _ _ c.requires _ _ _ c.put_head-time.ensures _ _ _ c.put_le-body.ensures)
 
-pub put_out-requires : goal.put_out-requires
-put_out-requires c = close_put _ _ _ _ _ _ _ _ c.requires _ _ _ c.put_head-time.ensures _ _ _ c.put_le-body.ensures _ c.gather_out.ensures
+pub put_part-requires : goal.put_part-requires
+put_part-requires c = close_put _ _ _ _ _ _ _ _ c.requires _ _ _ c.put_head-time.ensures _ _ _ c.put_le-body.ensures _ c.gather.ensures
 
 pub overflow_add-result : goal.overflow_add-result
 overflow_add-result c = omega (arith, c.well_formed, c.ranges, close_sum _ _ _ _ _ _ _ _ c.requires _ _ _ c.put_head-time.ensures _ _ _ c.put_le-body.ensures)
 
 pub returns : goal.returns
-returns c = close_written _ _ _ _ _ _ _ _ c.requires _ _ _ c.get32.ensures c.kind_of-kind.ensures c.get64-ms.ensures _ _ c.put_head-time.ensures _ _ c.put_le-body.ensures _ c.gather_out.ensures _ c.put_out.ensures
+returns c = close_written _ _ _ _ _ _ _ _ c.requires _ _ _ c.get32.ensures (rw c.in_side-direction.ensures at c.kind.ensures) c.get64-ms.ensures _ _ c.put_head-time.ensures _ _ c.put_le-body.ensures _ c.gather.ensures _ c.put_part.ensures

@@ -1,0 +1,11 @@
+use Rattle.unpacking.proofs.Judging.{sound_few, sound_summed, bare_if, body_sound}
+use Rattle.unpacking.proofs.read_counted.Goals as goal
+
+pub overflow_sub-n : goal.overflow_sub-n
+overflow_sub-n c = search sound_few
+
+pub judge-requires : goal.judge-requires
+judge-requires c = record { summed = search sound_summed; bare = search bare_if }
+
+pub returns : goal.returns
+returns c = search body_sound
