@@ -4,7 +4,7 @@
 ghost use Rattle.std.specs.Prelude.{◌≡◌, true, ◌≤◌, length};
 
 use rerun::run_plain;
-use samples::{Answer, Call, UNTOUCHED, fill, is_answer, part, read_answer, read_call, word};
+use samples::{Answer, Call, Op, UNTOUCHED, fill, is_answer, part, read_answer, read_call, word};
 
 fn import(
     tolerant: bool,
@@ -24,6 +24,7 @@ fn import(
 fn run_import(
     s: &[u8],
     c: Call,
+    tolerant: bool,
     work: &mut [u8],
     out: &mut [u8],
     values: &mut [u64],
@@ -34,14 +35,14 @@ fn run_import(
     if work.len() / 8 < n {
         return None;
     }
-    Some(import(c.op == 8, file, &mut work[..8 * n], out, channel, values))
+    Some(import(tolerant, file, &mut work[..8 * n], out, channel, values))
 }
 
 // The number that the call answers, if one is run.
 fn run(s: &[u8], c: Call, work: &mut [u8], out: &mut [u8], values: &mut [u64]) -> Option<u32> {
-    let op = c.op;
-    match op {
-        7 | 8 => run_import(s, c, work, out, values),
+    match c.op {
+        Some(Op::ImportStrict) => run_import(s, c, false, work, out, values),
+        Some(Op::Import) => run_import(s, c, true, work, out, values),
         _ => run_plain(s, c, out, values),
     }
 }

@@ -40,10 +40,7 @@ fn replay(s: &[u8], work: &mut [u8], space: &mut [u8]) -> Totals
 
 // A name up to its first dot.
 fn stem(name: &str) -> &str {
-    match name.split_once('.') {
-        Some((stem, _)) => stem,
-        None => name,
-    }
+    name.split_once('.').map_or(name, |(stem, _)| stem)
 }
 
 // The line of a sample: its name up to the dot, how many cases were replayed, and how many differ.

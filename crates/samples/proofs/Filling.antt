@@ -6,7 +6,6 @@ use mathlib.Core.List.{List}
 use native.Mathlib.Omega.{arith}
 use lib.ListN.{length, get_or, set, length-set}
 use lib.Seq.{get_or-set_same, get_or-set_other}
-use borrow.Author.Tests.{lt-ltb, le-ltb}
 use Rattle.laws.proofs.Choice.{split≡, no_way}
 use Rattle.samples.specs.Samples.{untouched_of, Fresh, output_of, Compared}
 
@@ -31,16 +30,6 @@ filling_turn e₀ e i v f h ev u eu = record {
 
 pub filling_end : (e₀ e : List ℕ) (i : ℕ) → Filling e₀ e i → length e₀ ≤ i → Fresh e
 filling_end e₀ e i f h = record { bytes = λ j l. f.bytes j (omega (arith, f.long)) }
-
--- ---- the byte that has to stand at a place
-
-pub output_written : (w : List ℕ) (i : ℕ) → i < length w → get_or w i 0 ≡ output_of w i
-unfolding output_of
-output_written w i h = rw (lt-ltb i (length w) h)
-
-pub output_past : (w : List ℕ) (i v : ℕ) → length w ≤ i → v ≡ untouched_of i → v ≡ output_of w i
-unfolding output_of
-output_past w i v h e = rw (le-ltb i (length w) h) e
 
 -- ---- compared up to a place
 

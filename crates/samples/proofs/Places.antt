@@ -6,10 +6,12 @@ use lib.Dec.{leb}
 use mathlib.Core.List.{List, []}
 use native.Mathlib.Omega.{arith}
 use lib.ListN.{length, get_or, take, drop, get_or-eq_default}
-use borrow.Author.Tests.{eq-eqb, ne_eqb, le-leb, lt-leb, leb-true}
+use borrow.Author.Tests.{le-leb, lt-leb, leb-true}
 use Rattle.laws.proofs.Choice.{split≤}
 use Rattle.laws.specs.Numbers.{le32, le64}
-use Rattle.samples.specs.Places.{capped, word_at, long_at, part_at, counted_at, numbers_size, second_at, call_of, call_at, answer_at}
+use Rattle.samples.specs.Places.{capped, word_at, long_at, part_at, counted_at, op_of, numbers_size, second_at, call_of, call_at, answer_at}
+use Rattle.std.specs.Prelude.{Option}
+use Rattle.samples.specs.declared.Op.{Op}
 use Rattle.samples.specs.declared.Counted.{Counted}
 
 -- ---- sums and numbers
@@ -60,49 +62,11 @@ module _ (s : List ℕ) (at : ℕ) (b : Bool) where
 
 -- ---- parts of a case
 
-pub counted_read : (s : List ℕ) (at a w n b : ℕ) → a ≡ capped at 4 → w ≡ word_at s at → n ≡ w → b ≡ capped a n → record { start = a; size = n; end = b } ≡ counted_at s at
-unfolding counted_at
-counted_read s at a w n b ea ew en eb = rw (eb, en, ew, ea)
-
-module _ (op : ℕ) where
-  pub size_three : op ≡ 3 → 13 ≡ numbers_size op
-  unfolding numbers_size
-  size_three e = rw e
-
-  pub size_seven : op ≡ 7 → 4 ≡ numbers_size op
-  unfolding numbers_size
-  size_seven e = rw e
-
-  pub size_eight : op ≡ 8 → 4 ≡ numbers_size op
-  unfolding numbers_size
-  size_eight e = rw e
-
-  pub size_one : op ≡ 1 → 2 ≡ numbers_size op
-  unfolding numbers_size
-  size_one e = rw e
-
-  pub size_two : op ≡ 2 → 2 ≡ numbers_size op
-  unfolding numbers_size
-  size_two e = rw e
-
-  pub size_none : (op ≡ 3 → ⊥) → (op ≡ 7 → ⊥) → (op ≡ 8 → ⊥) → (op ≡ 1 → ⊥) → (op ≡ 2 → ⊥) → 0 ≡ numbers_size op
-  unfolding numbers_size
-  size_none a b c d e = rw (ne_eqb op 3 a, ne_eqb op 7 b, ne_eqb op 8 c, ne_eqb op 1 d, ne_eqb op 2 e)
-
-module _ (s : List ℕ) (op at : ℕ) where
-  pub second_there : op ≡ 5 → (x : Counted) → x ≡ counted_at s at → x ≡ second_at s op at
-  unfolding second_at
-  second_there e x h = rw (eq-eqb op 5 e) h
-
-  pub second_none : (op ≡ 5 → ⊥) → record { start = at; size = 0; end = at } ≡ second_at s op at
-  unfolding second_at
-  second_none n = rw (ne_eqb op 5 n)
-
 pub call_read :
-    (s : List ℕ) (at op n z m : ℕ) (a b : Counted) → op ≡ get_or s at 0 → n ≡ capped at 1 → z ≡ numbers_size op → m ≡ capped n z → a ≡ counted_at s m → b ≡ second_at s op a.end →
+    (s : List ℕ) (at x : ℕ) (op : Option Op) (n z m : ℕ) (a b : Counted) → x ≡ get_or s at 0 → op ≡ op_of x → n ≡ capped at 1 → z ≡ numbers_size op → m ≡ capped n z → a ≡ counted_at s m → b ≡ second_at s op a.end →
     call_of op n a b ≡ call_at s at
 unfolding call_at
-call_read s at op n z m a b eo en ez em ea eb = rw (eb, ea, em, ez, en, eo)
+call_read s at x op n z m a b ex eo en ez em ea eb = rw (eb, ea, em, ez, en, eo, ex)
 
 pub answer_read :
     (s : List ℕ) (at i c v z m : ℕ) (o : Counted) (l n g j : ℕ) → i ≡ capped at 8 → c ≡ get_or s i 0 → v ≡ capped at 9 → z ≡ 8 * c → m ≡ capped v z → o ≡ counted_at s m →

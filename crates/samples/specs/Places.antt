@@ -1,6 +1,8 @@
 -- How a sample is laid out: what is read at a place. What lies past the end of the file reads as 0, and a part that passes it as empty.
-use Rattle.std.specs.Prelude.{ℕ, ◌+◌, ◌*◌, cond, ◌||◌, List, [], length, get_or, take, drop, leb, eqb}
+use Rattle.std.specs.Prelude.{ℕ, ◌+◌, ◌*◌, cond, Option, None, Some, List, [], length, get_or, take, drop, leb, eqb}
 use Rattle.laws.specs.Numbers.{le32, le64}
+use Rattle.samples.specs.declared.Op.{Op}
+use Rattle.samples.specs.declared.Op.TheVariants.{Unpack, Pack, FixtureName, IsCommandName, Plan, CaptureOrder, ImportStrict, Import}
 use Rattle.samples.specs.declared.Counted.{Counted}
 use Rattle.samples.specs.declared.Call.{Call}
 use Rattle.samples.specs.declared.Answer.{Answer}
@@ -22,24 +24,56 @@ part_at s at size = cond (leb (at + size) (length s)) (take size (drop at s)) []
 unfoldable pub counted_at : List ℕ → ℕ → Counted
 counted_at s at = record { start = capped at 4; size = word_at s at; end = capped (capped at 4) (word_at s at) }
 
+-- the call that a byte names, if it names one
+unfoldable pub op_of : ℕ → Option Op
+op_of b =
+    cond (eqb b 1) (Some Unpack)
+    (cond (eqb b 2) (Some Pack)
+    (cond (eqb b 3) (Some FixtureName)
+    (cond (eqb b 4) (Some IsCommandName)
+    (cond (eqb b 5) (Some Plan)
+    (cond (eqb b 6) (Some CaptureOrder)
+    (cond (eqb b 7) (Some ImportStrict)
+    (cond (eqb b 8) (Some Import) None)))))))
+
 -- how many bytes the numbers of an op take
-unfoldable pub numbers_size : ℕ → ℕ
-numbers_size op = cond (eqb op 3) 13 (cond (eqb op 7 || eqb op 8) 4 (cond (eqb op 1 || eqb op 2) 2 0))
+unfoldable pub numbers_size : Option Op → ℕ
+numbers_size (Some FixtureName) = 13
+numbers_size (Some ImportStrict) = 4
+numbers_size (Some Import) = 4
+numbers_size (Some Unpack) = 2
+numbers_size (Some Pack) = 2
+numbers_size (Some IsCommandName) = 0
+numbers_size (Some Plan) = 0
+numbers_size (Some CaptureOrder) = 0
+numbers_size None = 0
+
+-- no bytes, at a place
+abbrev pub no_bytes : ℕ → Counted
+no_bytes at = record { start = at; size = 0; end = at }
 
 -- the second input, which the plan alone has
-unfoldable pub second_at : List ℕ → ℕ → ℕ → Counted
-second_at s op at = cond (eqb op 5) (counted_at s at) (record { start = at; size = 0; end = at })
+unfoldable pub second_at : List ℕ → Option Op → ℕ → Counted
+second_at s (Some Plan) at = counted_at s at
+second_at s (Some Unpack) at = no_bytes at
+second_at s (Some Pack) at = no_bytes at
+second_at s (Some FixtureName) at = no_bytes at
+second_at s (Some IsCommandName) at = no_bytes at
+second_at s (Some CaptureOrder) at = no_bytes at
+second_at s (Some ImportStrict) at = no_bytes at
+second_at s (Some Import) at = no_bytes at
+second_at s None at = no_bytes at
 
 -- a call by its op, where its first input ends, and its second
-abbrev pub call_of : ℕ → ℕ → Counted → Counted → Call
+abbrev pub call_of : Option Op → ℕ → Counted → Counted → Call
 call_of op numbers a b =
     record { op = op; numbers = numbers; first = a.start; first_size = a.size; second = b.start; second_size = b.size; end = b.end }
 
 unfoldable pub call_at : List ℕ → ℕ → Call
 call_at s at =
-    call_of (get_or s at 0) (capped at 1)
-    (counted_at s (capped (capped at 1) (numbers_size (get_or s at 0))))
-    (second_at s (get_or s at 0) (counted_at s (capped (capped at 1) (numbers_size (get_or s at 0)))).end)
+    call_of (op_of (get_or s at 0)) (capped at 1)
+    (counted_at s (capped (capped at 1) (numbers_size (op_of (get_or s at 0)))))
+    (second_at s (op_of (get_or s at 0)) (counted_at s (capped (capped at 1) (numbers_size (op_of (get_or s at 0))))).end)
 
 -- output lent, number, values, and the output written
 abbrev pub answer_of : List ℕ → ℕ → Counted → Answer

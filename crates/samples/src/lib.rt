@@ -3,7 +3,7 @@
 #![tactic(auto)]
 
 ghost use Rattle.std.specs.Prelude.{◌≡◌, ◌*◌, ◌≤◌, ◌<◌, ◌+◌, length, leb, get_or, true};
-ghost use Rattle.samples.specs.Places.{capped, word_at, long_at, part_at, counted_at, numbers_size, second_at, call_at, answer_at};
+ghost use Rattle.samples.specs.Places.{capped, word_at, long_at, part_at, op_of, counted_at, numbers_size, second_at, call_at, answer_at};
 ghost use Rattle.samples.specs.Samples.{untouched_of, Fresh, output_of, Compared};
 
 // Room for a sample.
@@ -75,6 +75,7 @@ struct Counted {
     end: usize,
 }
 
+#[tactic(auto, unfolding(crate::specs::Places::counted_at))]
 fn read_counted(s: &[u8], at: usize) -> Counted
     ensures { result ≡ counted_at s.now at }
 {
@@ -87,10 +88,42 @@ fn read_counted(s: &[u8], at: usize) -> Counted
     }
 }
 
+// Which call a case runs.
+#[derive(Clone, Copy)]
+pub enum Op {
+    Unpack,
+    Pack,
+    FixtureName,
+    IsCommandName,
+    Plan,
+    CaptureOrder,
+    ImportStrict,
+    Import,
+}
+
+// The call that a byte names, if it names one.
+#[tactic(auto, unfolding(crate::specs::Places::op_of))]
+fn op_of(byte: u8) -> Option<Op>
+    ensures { result ≡ op_of byte }
+{
+    match byte {
+        1 => Some(Op::Unpack),
+        2 => Some(Op::Pack),
+        3 => Some(Op::FixtureName),
+        4 => Some(Op::IsCommandName),
+        5 => Some(Op::Plan),
+        6 => Some(Op::CaptureOrder),
+        7 => Some(Op::ImportStrict),
+        8 => Some(Op::Import),
+        _ => None,
+    }
+}
+
 // A call, and the place after it.
 #[derive(Clone, Copy)]
 pub struct Call {
-    pub op: u8,
+    // None where the byte names no call.
+    pub op: Option<Op>,
     // Where the op's numbers stand.
     pub numbers: usize,
     // Where the first input stands, and its length; the same of the second, which is empty where the op has none.
@@ -102,45 +135,37 @@ pub struct Call {
 }
 
 // How many bytes the numbers of an op take.
-fn numbers_size(op: u8) -> usize
+#[tactic(auto, unfolding(crate::specs::Places::numbers_size))]
+fn numbers_size(op: Option<Op>) -> usize
     ensures { result ≡ numbers_size op }
 {
-    if op == 3 {
-        return 13;
+    match op {
+        Some(Op::FixtureName) => 13,
+        Some(Op::ImportStrict | Op::Import) => 4,
+        Some(Op::Unpack | Op::Pack) => 2,
+        _ => 0,
     }
-    if op == 7 {
-        return 4;
-    }
-    if op == 8 {
-        return 4;
-    }
-    if op == 1 {
-        return 2;
-    }
-    if op == 2 {
-        return 2;
-    }
-    0
 }
 
 // The second input, which the plan alone has.
-fn read_second(s: &[u8], op: u8, at: usize) -> Counted
+#[tactic(auto, unfolding(crate::specs::Places::second_at))]
+fn read_second(s: &[u8], op: Option<Op>, at: usize) -> Counted
     ensures { result ≡ second_at s.now op at }
 {
-    if op == 5 {
-        return read_counted(s, at);
-    }
-    Counted {
-        start: at,
-        size: 0,
-        end: at,
+    match op {
+        Some(Op::Plan) => read_counted(s, at),
+        _ => Counted {
+            start: at,
+            size: 0,
+            end: at,
+        },
     }
 }
 
 pub fn read_call(s: &[u8], at: usize) -> Call
     ensures { result ≡ call_at s.now at }
 {
-    let op = byte(s, at);
+    let op = op_of(byte(s, at));
     let numbers = sum(at, 1);
     let first = read_counted(s, sum(numbers, numbers_size(op)));
     let second = read_second(s, op, first.end);
@@ -214,6 +239,7 @@ pub fn one_unless(same: bool) -> u64
 // What stands in the list of values, and at a place of the output, before a call.
 pub const UNTOUCHED: u64 = 0xD15EA5ED0DDBA115;
 
+#[tactic(auto, unfolding(crate::specs::Samples::untouched_of))]
 fn untouched(i: usize) -> u8
     ensures { result ≡ untouched_of i }
 {
@@ -251,6 +277,7 @@ fn has_values(s: &[u8], at: usize, count: usize, values: &[u64]) -> bool {
     true
 }
 
+#[tactic(auto, unfolding(crate::specs::Samples::output_of))]
 fn output_byte(written: &[u8], i: usize) -> u8
     ensures { result ≡ output_of written.now i }
 {
