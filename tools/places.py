@@ -108,8 +108,7 @@ def sentinels():
 
 
 def twins():
-    """Point 2: what the tool `duplicates` pairs (over copies of the files that it reads as Rust) is in the page; here, functions of one
-    crate whose bodies are alike but for names, numbers and texts."""
+    """Point 2: functions whose bodies are alike but for names, numbers and texts."""
     shapes = collections.defaultdict(list)
     for f in functions():
         text = " ".join(l.strip() for l in f.body if not l.strip().startswith("//"))
