@@ -10,10 +10,10 @@ ghost use Rattle.blocks.specs.Blocks.{Minus, Tallied, AllAre, Bare, Full};
 // ---- sums and counts
 
 // Whether a byte lies between two values.
-pub fn is_within(b: u8, lo: u8, hi: u8) -> bool
-    ensures { result ≡ within lo hi b }
+pub fn is_within<const LO: u8, const HI: u8>(b: u8) -> bool
+    ensures { result ≡ within LO HI b }
 {
-    lo <= b && b <= hi
+    LO <= b && b <= HI
 }
 
 // The sum of some bytes, wrapping in eight bits, and how many of them lie between two values.
@@ -24,15 +24,15 @@ pub struct Totals {
 }
 
 // Few enough that the count fits a byte, so that the loop runs on bytes alone.
-pub fn tally_few(part: &[u8], lo: u8, hi: u8) -> Totals
+pub fn tally_few<const LO: u8, const HI: u8>(part: &[u8]) -> Totals
     requires { length part.now ≤ 255 }
-    ensures { Tallied part.now lo hi result }
+    ensures { Tallied part.now LO HI result }
 {
     let mut sum: u8 = 0;
     let mut hits: u8 = 0;
     for &b in part {
         sum = sum.wrapping_add(b);
-        hits += u8::from(is_within(b, lo, hi));
+        hits += u8::from(is_within::<LO, HI>(b));
     }
     Totals {
         sum,
@@ -41,13 +41,13 @@ pub fn tally_few(part: &[u8], lo: u8, hi: u8) -> Totals
 }
 
 // Any number of bytes, part by part.
-pub fn tally(s: &[u8], lo: u8, hi: u8) -> Totals
-    ensures { Tallied s.now lo hi result }
+pub fn tally<const LO: u8, const HI: u8>(s: &[u8]) -> Totals
+    ensures { Tallied s.now LO HI result }
 {
     let mut sum: u8 = 0;
     let mut hits: usize = 0;
     for part in s.chunks(192) {
-        let t = tally_few(part, lo, hi);
+        let t = tally_few::<LO, HI>(part);
         sum = sum.wrapping_add(t.sum);
         hits += t.hits;
     }
@@ -56,28 +56,28 @@ pub fn tally(s: &[u8], lo: u8, hi: u8) -> Totals
 
 // Whether all bytes are as asked: between two values, or not. There is no early way out, so that the loop runs on many
 // bytes at once.
-fn all_are(part: &[u8], lo: u8, hi: u8, inside: bool) -> bool
-    ensures { AllAre inside lo hi part.now result }
+fn all_are<const LO: u8, const HI: u8>(part: &[u8], inside: bool) -> bool
+    ensures { AllAre inside LO HI part.now result }
 {
     let mut all = true;
     for &b in part {
-        all &= is_within(b, lo, hi) == inside;
+        all &= is_within::<LO, HI>(b) == inside;
     }
     all
 }
 
 // Whether no byte lies between two values.
-pub fn is_bare(part: &[u8], lo: u8, hi: u8) -> bool
-    ensures { Bare lo hi part.now result }
+pub fn is_bare<const LO: u8, const HI: u8>(part: &[u8]) -> bool
+    ensures { Bare LO HI part.now result }
 {
-    all_are(part, lo, hi, false)
+    all_are::<LO, HI>(part, false)
 }
 
 // Whether every byte lies between two values.
-pub fn is_full(part: &[u8], lo: u8, hi: u8) -> bool
-    ensures { Full lo hi part.now result }
+pub fn is_full<const LO: u8, const HI: u8>(part: &[u8]) -> bool
+    ensures { Full LO HI part.now result }
 {
-    all_are(part, lo, hi, true)
+    all_are::<LO, HI>(part, true)
 }
 
 // a less b, wrapping in eight bits.

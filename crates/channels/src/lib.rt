@@ -160,13 +160,13 @@ pub fn asks_session(s: &[u8]) -> bool
 // ---- the table of channels
 
 // The key of a channel.
-fn key_of(link: u32, direction: Direction, cid: u16) -> u64
-    ensures { result ≡ channel_key link (rx_of direction) cid }
+fn key_of(t: Triple) -> u64
+    ensures { result ≡ channel_key t.link (rx_of t.direction) t.cid }
 {
-    let side = 2 * (link as u64);
-    match direction {
-        Direction::Rx => (side + 1) * 65536 + (cid as u64),
-        Direction::Tx => side * 65536 + (cid as u64),
+    let side = 2 * (t.link as u64);
+    match t.direction {
+        Direction::Rx => (side + 1) * 65536 + (t.cid as u64),
+        Direction::Tx => side * 65536 + (t.cid as u64),
     }
 }
 
@@ -234,16 +234,18 @@ fn note(w: &mut [u8], x: Tree, rows: usize, said: Signal) -> usize
 {
     match said {
         Signal::Request(t, psm) => {
-            let d = t.direction;
-            let key = key_of(t.link, d, t.cid);
+            let key = key_of(t);
             raise(w, x, rows, key, request_grade(psm))
         }
         Signal::Response(t, source, ok) => {
-            let d = t.direction;
-            let other = flip(d);
-            let asked = key_of(t.link, other, source);
+            let asker = flip(t.direction);
+            let asked = key_of(Triple {
+                link: t.link,
+                direction: asker,
+                cid: source,
+            });
             let v = response_grade(w, x, rows, asked, ok);
-            let key = key_of(t.link, d, t.cid);
+            let key = key_of(t);
             raise(w, x, rows, key, v)
         }
         Signal::Other => rows,

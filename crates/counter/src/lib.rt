@@ -1,11 +1,12 @@
 // The counter that a fixture name carries, as a rank: no counter comes before the counter 0.
 #![tactic(auto)]
 
-ghost use Rattle.std.specs.Prelude.{◌≡◌};
-ghost use Rattle.counter.specs.Counter.{after_hyphen, to_hyphen, digits, number, signed, within, counter, rank};
+ghost use Rattle.std.specs.Prelude.{◌≡◌, take};
+ghost use Rattle.laws.specs.Keys.{eq_k};
+ghost use Rattle.counter.specs.Counter.{mark, after_hyphen, to_hyphen, digits, number, signed, within, counter, rank};
 
 use search::find_near;
-use words::same;
+use words::get_le32;
 
 // What follows the first hyphen, nothing if there is none.
 fn after_hyphen(s: &[u8]) -> &[u8]
@@ -54,13 +55,23 @@ fn read_signed(s: &[u8]) -> Option<u32>
     }
 }
 
+// Whether a name begins with `mdr-packet-`, by words of four bytes, the lowest first.
+// Stays: by std's ==, 200 orders of 1,000 names with counters take 85 ms, and so they take 70.
+fn is_marked(name: &[u8]) -> bool
+    ensures { result ≡ eq_k (take 11 name.now) mark }
+{
+    if name.len() < 11 || get_le32(name, 0) != 0x2D72646D || get_le32(name, 4) != 0x6B636170 {
+        return false;
+    }
+    get_le32(name, 7) == 0x2D74656B
+}
+
 // A name's counter.
 fn counter_of(name: &[u8]) -> Option<u32>
     ensures { result ≡ counter name.now }
 {
-    let (mark, parts) = name.split_at_checked(11)?;
-    if same(mark, b"mdr-packet-") {
-        return read_signed(after_hyphen(parts));
+    if is_marked(name) {
+        return read_signed(after_hyphen(&name[11..]));
     }
     None
 }

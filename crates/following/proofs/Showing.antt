@@ -8,9 +8,9 @@ use native.Mathlib.Omega.{arith}
 use lib.Dec.{eqb}
 use Rattle.laws.proofs.Choice.{no_way}
 use Rattle.words.specs.Words.{word}
-use Rattle.acl.specs.Reading.{between}
 use Rattle.trace.specs.Formats.{packet_by}
-use Rattle.trace.specs.declared.Format.{Format}
+use Rattle.trace.specs.Finding.{bytes_of}
+use Rattle.trace.specs.declared.record.Record.{Record}
 use Rattle.l2cap.specs.Steps.{row_at, open_in, Ran}
 use Rattle.l2cap.specs.declared.Open.{Open}
 use Rattle.l2cap.specs.declared.Tables.{Tables}
@@ -72,12 +72,12 @@ turn_done f w q at s g ge u t ran = record { count = refl; stepped = ran_one f q
 
 -- ---- one record
 
-module _ (g : Format) (f w : List ℕ) (q at e : ℕ) (s : Pass) (b : Bool) (be : b ≡ is_none (packet_by g (between f at e))) where
-  pub record_skip : b ≡ true → RecordTurned g f w q at e s w s
+module _ (r : Record) (w : List ℕ) (q : ℕ) (s : Pass) (b : Bool) (be : b ≡ is_none (packet_by r.format (bytes_of r))) where
+  pub record_skip : b ≡ true → RecordTurned r w q s w s
   record_skip h = record { skips = λ z. (refl, refl); turned = λ z. no_way (sym be ∙ h) z }
 
-  pub record_turn : b ≡ false → RecordTurn g f w q at e s → Turn f w q s
+  pub record_turn : b ≡ false → RecordTurn r w q s → Turn r.file.now w q s
   record_turn h p = p.turn (sym be ∙ h)
 
-  pub record_done : b ≡ false → (u : List ℕ) (r : Pass) → Turned f w q at s u r → RecordTurned g f w q at e s u r
-  record_done h u r d = record { skips = λ z. no_way z (sym be ∙ h); turned = λ z. d }
+  pub record_done : b ≡ false → (u : List ℕ) (t : Pass) → Turned r.file.now w q r.at s u t → RecordTurned r w q s u t
+  record_done h u t d = record { skips = λ z. no_way z (sym be ∙ h); turned = λ z. d }

@@ -1,4 +1,5 @@
 -- The walk over the records, from the first to the end of the whole ones.
+use Rattle.std.specs.Prelude.{Option as Maybe, Some, None}
 use Prim.Native.Nat.{ℕ, suc, ◌+◌, ◌-◌, ◌*◌, ◌/◌, ◌<◌, ◌≤◌}
 use mathlib.Core.Path.{◌≡◌, refl, sym, ap, ◌∙◌}
 use mathlib.Core.Bool.{true, false}
@@ -6,6 +7,7 @@ use mathlib.Core.List.{List, [], ◌∷◌}
 use mathlib.Core.Option.{Option, none, some}
 use native.Mathlib.Omega.{arith}
 use lib.ListN.{length}
+use denote.Ref.{Bor}
 use Rattle.laws.proofs.Choice.{split≤, no_way}
 use Rattle.laws.specs.Keys.{Key}
 use Rattle.laws.specs.Keyed.{after}
@@ -13,14 +15,13 @@ use Rattle.words.specs.Words.{word}
 use Rattle.container.specs.Packets.{Packet}
 use Rattle.acl.specs.Reading.{between}
 use Rattle.trace.specs.Formats.{file_head, packet_by, packets_by}
-use Rattle.trace.proofs.Formats.{head_least}
-use Rattle.trace.specs.Reader.{step_of}
 use Rattle.trace.specs.Walk.{RecordAt}
+use Rattle.trace.specs.Finding.{bytes_of, FoundHere, Found}
+use Rattle.trace.proofs.Finding.{found_here, found_told, found_none}
 use Rattle.trace.specs.declared.Format.{Format}
 use Rattle.packets.specs.PacketTable.{packet_at, packets_from, Read}
 use Rattle.packets.proofs.PacketFrames.{packets_next, packets_front}
-use Rattle.trace.specs.declared.Step.{Step}
-use Rattle.trace.specs.declared.Step.TheVariants.{Record}
+use Rattle.trace.specs.declared.record.Record.{Record}
 use Rattle.fragments.specs.Bytes.{number_of}
 use Rattle.fragments.specs.Links.{LinkedTo}
 use Rattle.fragments.proofs.Walking.{number_at}
@@ -31,9 +32,9 @@ use Rattle.signs.specs.Places.{Placed, placed_packet, placed_packets, packets_at
 use Rattle.signs.specs.Recorded.{is_none}
 use Rattle.signs.specs.Partial.{Begun, begun_at, nothing, stray_out, strays, given_up_out, given_up, at_end}
 use Rattle.signs.specs.Following.{Followed, begun_place, open_place}
-use Rattle.signs.proofs.Places.{rest_at, packets_start, file_packets, rest_packets, found_record, found_none}
+use Rattle.signs.proofs.Places.{rest_at, packets_start, file_packets, rest_packets, rest_none}
 use Rattle.signs.proofs.Counting.{counted_gap}
-use Rattle.following.specs.Passing.{RecordTurn, RecordTurned, first_pass, FollowedTo}
+use Rattle.following.specs.Passing.{RecordTurn, Turned, RecordTurned, first_pass, FollowedTo}
 use Rattle.following.specs.declared.Pass.{Pass}
 use Rattle.following.proofs.Begun.{begun_in, begun_place_law}
 use Rattle.following.proofs.Counting.{met_start, met_end}
@@ -100,34 +101,36 @@ module _ (g : Format) (f : List ℕ) (at e : ℕ) (here : RecordAt g f at e) whe
   coming_some p o = rest_packets g f at e here (packet_by g) ∙ rw o
 
 module _
-    (g : Format) (f w₀ : List ℕ) (q count : ℕ) (w : List ℕ) (s : Pass) (at : ℕ) (v : Following g f w₀ q count w s (coming g f at))
-    (x : Step) (h : x ≡ step_of g f at) where
-  pub follow_less : (e : ℕ) → x ≡ Record e → length f - e < length f - at
-  follow_less e z = let r : RecordAt g f at e = found_record g f at x h e z in omega (arith, head_least g, r.least, r.most)
+    (g : Format) (f : Bor (List ℕ)) (w₀ : List ℕ) (q count : ℕ) (w : List ℕ) (s : Pass) (at : ℕ) (v : Following g f.now w₀ q count w s (coming g f.now at))
+    (x : Maybe Record) (h : Found g f at x) (r : Record) (z : x ≡ Some r) where
+  found : FoundHere g f at r
+  found = found_here g f at x h r z
 
-  module _ (e : ℕ) (z : x ≡ Record e) where
-    here : RecordAt g f at e
-    here = found_record g f at x h e z
+  here : RecordAt g f.now at r.end
+  here = found_told g f at x h r z
 
-    pub follow_pre : RecordTurn g f w q at e s
-    unfolding is_none
-    follow_pre = record {
-      here = record { least = here.least; most = here.most; small = v.going.run.tabled.small };
-      turn = split_none (packet_by g (between f at e))
-          (λ o m. no_way (rw o) m)
-          (λ p o m. turn_pre g f w₀ q count w s (record { at = at; is = p }) (coming g f e) (rw (coming_some g f at e here p o) at v));
-    }
+  bytes_are : bytes_of r ≡ between f.now at r.end
+  bytes_are = rw (found.same_file, found.starts)
 
-    pub follow_again : (u : List ℕ) (r : Pass) → RecordTurned g f w q at e s u r → Following g f w₀ q count u r (coming g f e)
-    unfolding is_none
-    follow_again u r d =
-        split_none (packet_by g (between f at e))
-        (λ o.
-        let m : is_none (packet_by g (between f at e)) ≡ true = rw o in
-        rw ((d.skips m).0, (d.skips m).1) (rw (coming_none g f at e here o) at v))
-        (λ p o.
-        let m : is_none (packet_by g (between f at e)) ≡ false = rw o in
-        turn_next g f w₀ q count w s (record { at = at; is = p }) (coming g f e) (rw (coming_some g f at e here p o) at v) u r (d.turned m))
+  pub follow_pre : RecordTurn r w q s
+  unfolding is_none
+  follow_pre = record {
+    turn = rw (found.same_format, found.starts, found.same_file) (split_none (packet_by g (between f.now at r.end))
+        (λ o m. no_way (rw o) m)
+        (λ p o m. turn_pre g f.now w₀ q count w s (record { at = at; is = p }) (coming g f.now r.end) (rw (coming_some g f.now at r.end here p o) at v)));
+  }
+
+  pub follow_again : (u : List ℕ) (t : Pass) → RecordTurned r w q s u t → Following g f.now w₀ q count u t (coming g f.now r.end)
+  unfolding is_none
+  follow_again u t d =
+      split_none (packet_by g (between f.now at r.end))
+      (λ o.
+      let m : is_none (packet_by r.format (bytes_of r)) ≡ true = rw (found.same_format, bytes_are, o) in
+      rw ((d.skips m).0, (d.skips m).1) (rw (coming_none g f.now at r.end here o) at v))
+      (λ p o.
+      let m : is_none (packet_by r.format (bytes_of r)) ≡ false = rw (found.same_format, bytes_are, o) in
+      let k : Turned f.now w q at s u t = rw (found.same_file, found.starts) at (d.turned m) in
+      turn_next g f.now w₀ q count w s (record { at = at; is = p }) (coming g f.now r.end) (rw (coming_some g f.now at r.end here p o) at v) u t k)
 
 -- ---- the end
 
@@ -183,7 +186,7 @@ unfolding coming placed_packets
 coming_nil g f at e = rw e
 
 module _
-    (g : Format) (f w₀ : List ℕ) (q count : ℕ) (w : List ℕ) (s : Pass) (at : ℕ) (v : Following g f w₀ q count w s (coming g f at))
-    (x : Step) (h : x ≡ step_of g f at) where
-  pub follow_end : ((e : ℕ) → x ≡ Record e → ⊥) → FollowedTo g f count w s.signs
-  follow_end n = ended g f w₀ q count w s (rw (coming_nil g f at (found_none g f at x h n)) at v)
+    (g : Format) (f : Bor (List ℕ)) (w₀ : List ℕ) (q count : ℕ) (w : List ℕ) (s : Pass) (at : ℕ) (v : Following g f.now w₀ q count w s (coming g f.now at))
+    (x : Maybe Record) (h : Found g f at x) where
+  pub follow_end : x ≡ None → FollowedTo g f.now count w s.signs
+  follow_end n = ended g f.now w₀ q count w s (rw (coming_nil g f.now at (rest_none g f.now at (found_none g f at x h n))) at v)

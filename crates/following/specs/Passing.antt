@@ -1,10 +1,10 @@
 -- What the functions of the pass ask and promise: one packet, one record, the file.
 use Rattle.std.specs.Prelude.{ℕ, ◌+◌, ◌*◌, ◌≤◌, ◌≡◌, true, false, List, eqb}
 use Rattle.words.specs.Words.{word}
-use Rattle.acl.specs.Reading.{between}
 use Rattle.trace.specs.Formats.{packet_by}
-use Rattle.trace.specs.Walk.{RecordPre}
+use Rattle.trace.specs.Finding.{bytes_of}
 use Rattle.trace.specs.declared.Format.{Format}
+use Rattle.trace.specs.declared.record.Record.{Record}
 use Rattle.l2cap.specs.Steps.{row_at, open_in, Step, Stepped}
 use Rattle.signs.specs.Places.{packets_at}
 use Rattle.signs.specs.Recorded.{is_none}
@@ -31,13 +31,13 @@ pub record Turned (f w : List ℕ) (q at : ℕ) (s : Pass) (u : List ℕ) (r : P
 
 -- ---- one record
 
-pub record RecordTurn (g : Format) (f w : List ℕ) (q at end : ℕ) (s : Pass) : Type 0 where
-  pub here : RecordPre g f at end
-  pub turn : is_none (packet_by g (between f at end)) ≡ false → Turn f w q s
+-- a packet in it is the next
+pub record RecordTurn (r : Record) (w : List ℕ) (q : ℕ) (s : Pass) : Type 0 where
+  pub turn : is_none (packet_by r.format (bytes_of r)) ≡ false → Turn r.file.now w q s
 
-pub record RecordTurned (g : Format) (f w : List ℕ) (q at end : ℕ) (s : Pass) (u : List ℕ) (r : Pass) : Type 0 where
-  pub skips : is_none (packet_by g (between f at end)) ≡ true → (u ≡ w) × (r ≡ s)
-  pub turned : is_none (packet_by g (between f at end)) ≡ false → Turned f w q at s u r
+pub record RecordTurned (r : Record) (w : List ℕ) (q : ℕ) (s : Pass) (u : List ℕ) (t : Pass) : Type 0 where
+  pub skips : is_none (packet_by r.format (bytes_of r)) ≡ true → (u ≡ w) × (t ≡ s)
+  pub turned : is_none (packet_by r.format (bytes_of r)) ≡ false → Turned r.file.now w q r.at s u t
 
 -- ---- the file
 

@@ -11,7 +11,7 @@ ghost use Rattle.following.specs.Passing.{first_pass, Turn, Turned, RecordTurn, 
 use fragments::link_packets;
 use l2cap::{Tables, look, row_of, run};
 use signs::{Gap, lacks_packet, note};
-use trace::{Format, Step, file_head, read_at};
+use trace::{Format, Record, file_head, record_at};
 use words::get32;
 
 // Continuations with nothing open, and starts that give up a partial PDU.
@@ -65,23 +65,15 @@ fn follow_packet(file: &[u8], w: &mut [u8], q: usize, at: usize, s: Pass) -> Pas
     }
 }
 
-// One record, from a place up to another: the next packet is in it, or none.
-fn follow_record(
-    file: &[u8],
-    w: &mut [u8],
-    q: usize,
-    at: usize,
-    end: usize,
-    format: Format,
-    s: Pass,
-) -> Pass
-    requires { RecordTurn format file.now w.old q at end s }
-    ensures { RecordTurned format file.now w.old q at end s w.new result }
+// One record: the next packet is in it, or none.
+fn follow_record(r: Record, w: &mut [u8], q: usize, s: Pass) -> Pass
+    requires { RecordTurn r w.old q s }
+    ensures { RecordTurned r.entry w.old q s w.new result }
 {
-    if lacks_packet(file, at, end, format) {
+    if lacks_packet(r) {
         return s;
     }
-    follow_packet(file, w, q, at, s)
+    follow_packet(r.file, w, q, r.at, s)
 }
 
 // No packet is read, and there are so many rows of open PDUs.
@@ -115,9 +107,9 @@ pub fn follow_packets(file: &[u8], w: &mut [u8], format: Format, count: usize) -
     let rows = link_packets(w, q, count);
     let mut s = first_pass(q, rows);
     let mut at = file_head(format);
-    while let Step::Record(end) = read_at(file, at, format) {
-        s = follow_record(file, w, q, at, end, format, s);
-        at = end;
+    while let Some(r) = record_at(file, at, format) {
+        s = follow_record(r, w, q, s);
+        at = r.end;
     }
     s.signs
 }

@@ -12,7 +12,7 @@ ghost use Rattle.fragments.specs.Links.{index_of, head_of, head_with, Head, note
 ghost use Rattle.fragments.specs.Bytes.{begun, Next, Walk, Paste, Gather};
 
 use tree::{Seating, Tree, clear, seat};
-use words::{copy_to, get32, least, part, put32};
+use words::{copy_to, get32, part, put32};
 
 // Where the open PDUs stand and their index, with q a quarter of the file's length.
 fn index_of(q: usize) -> Tree
@@ -177,7 +177,7 @@ fn paste(file: &[u8], w: &mut [u8], i: usize, left: usize, to: usize) -> usize
     requires { Paste file.now w.old i left to }
     ensures { Writes w.old to (take left (packet_at file.now w.old i).bytes) result w.new }
 {
-    let n = least(len_of(w, i), left);
+    let n = len_of(w, i).min(left);
     let s = place_of(w, i);
     copy_to(part(file, s, n), w, to)
 }

@@ -1,12 +1,14 @@
 -- Laws of specs/Stores.
 use mathlib.Core.Path.{◌≡◌, refl, sym, ap, ◌∙◌}
 use mathlib.Core.List.{List, [], ◌∷◌, ◌++◌}
-use Prim.Native.Nat.{ℕ, suc, ◌+◌, ◌<◌, ◌≤◌}
+use Prim.Native.Nat.{ℕ, suc, ◌+◌, ◌-◌, ◌<◌, ◌≤◌}
 use native.Mathlib.Nat.{add-zero, zero-add}
 use native.Mathlib.Omega.{arith}
 use borrow.Author.Tests.{le-leb, lt-leb}
-use lib.ListN.{length, set, length-append}
-use lib.Seq.{sets, sets-eq, length-sets}
+use lib.ListN.{length, set, take, drop, length-append}
+use lib.Seq.{sets, sets-eq, length-sets, drop-drop}
+use Rattle.std.proofs.Common.{append_assoc}
+use borrow.Rule.Slice.PartMut.{put_mid}
 use Rattle.laws.specs.Stores.{Writes, Emitting, filled}
 
 pub sets_append : (l : List ℕ) (i : ℕ) (a b : List ℕ) → sets l i (a ++ b) ≡ sets (sets l i a) (i + length a) b
@@ -21,6 +23,12 @@ writes_then d at a r e b s g p q = record {
 
 pub writes_long : (d : List ℕ) (at : ℕ) (w : List ℕ) (r : ℕ) (e : List ℕ) → Writes d at w r e → length e ≡ length d
 writes_long d at w r e p = ap length p.writes ∙ length-sets d at w
+
+-- a part stored as it stands
+pub copied : (out part : List ℕ) (at : ℕ) → at + length part ≤ length out → Writes out at part (at + length part) (put_mid at (at + length part - at) out part)
+copied out part at h =
+    let k : at + length part - at ≡ length part = omega arith in
+    record { next = refl; writes = rw (k, drop-drop (length part) at out) (sym (sets-eq part out at h ∙ append_assoc (take at out) part (drop (at + length part) out))) }
 
 pub emit_start : (out : List ℕ) (at : ℕ) (all : List ℕ) → Emitting out at all out at all
 emit_start out at all = record { next = refl; long = refl; done = refl }

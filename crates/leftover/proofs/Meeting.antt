@@ -1,12 +1,13 @@
 -- Each packet is told by the row of its key; the walk leaves the packets that began what is open at the end.
 use Rattle.std.specs.Prelude.{Option as Maybe, Some, None}
-use Prim.Native.Nat.{ℕ, ◌+◌, ◌-◌, ◌/◌, ◌<◌, ◌≤◌}
+use Prim.Native.Nat.{ℕ, ◌+◌, ◌/◌, ◌<◌, ◌≤◌}
 use mathlib.Core.Path.{◌≡◌, refl, sym, ap, ◌∙◌}
 use mathlib.Core.Bool.{Bool, true, false, cond}
 use mathlib.Core.List.{List, [], ◌∷◌, ◌++◌, map, append_assoc, append-nil, map-append}
 use mathlib.Core.Option.{Option, none, some}
 use native.Mathlib.Omega.{arith}
 use lib.ListN.{length, length-append}
+use denote.Ref.{Bor}
 use lib.Dec.{eqb}
 use Rattle.laws.proofs.Choice.{split_b, no_way}
 use Rattle.laws.specs.Keyed.{keep}
@@ -14,12 +15,10 @@ use Rattle.laws.proofs.Keyed.{keep_append}
 use Rattle.container.specs.Packets.{Packet}
 use Rattle.acl.specs.Reading.{between}
 use Rattle.trace.specs.Formats.{file_head, packet_by}
-use Rattle.trace.proofs.Formats.{head_least}
-use Rattle.trace.specs.Reader.{step_of}
-use Rattle.trace.specs.Walk.{RecordAt}
+use Rattle.trace.specs.Finding.{bytes_of, FoundHere, Found}
+use Rattle.trace.proofs.Finding.{found_here, found_told, found_none}
 use Rattle.trace.specs.declared.Format.{Format}
-use Rattle.trace.specs.declared.Step.{Step}
-use Rattle.trace.specs.declared.Step.TheVariants.{Record}
+use Rattle.trace.specs.declared.record.Record.{Record}
 use Rattle.l2cap.specs.Steps.{open_from, row_at, open_in}
 use Rattle.l2cap.specs.declared.Open.{Open}
 use Rattle.signs.specs.Places.{Placed, placed_packet, placed_packets, packets_at}
@@ -29,7 +28,7 @@ use Rattle.signs.specs.Counting.{Counted, noted}
 use Rattle.signs.specs.Following.{Followed, begun_place, open_place, place_at}
 use Rattle.signs.specs.declared.Gap.{Gap}
 use Rattle.signs.proofs.Counting.{counted_none, counted_one}
-use Rattle.signs.proofs.Places.{rest_at, rest_turn, packets_start, found_record, found_none}
+use Rattle.signs.proofs.Places.{rest_at, rest_turn, packets_start, rest_none}
 use Rattle.signs.proofs.PlaceOrder.{place_here, places_many, table_has, places_tell}
 use Rattle.leftover.specs.Meeting.{began_by, counted_at, met_at, CountPre, MeetPre}
 use Rattle.leftover.specs.declared.Met.{Met}
@@ -53,18 +52,18 @@ pub counts_none : (w : List ℕ) (q i : ℕ) (g : Gap) (at : ℕ) (b : Bool) →
 unfolding counted_at
 counts_none w q i g at b e t = rw (← e, t)
 
-module _ (g : Format) (f w : List ℕ) (q at end : ℕ) (m : Met) (b : Bool) (e : b ≡ is_none (packet_by g (between f at end))) where
-  pub meets_none : b ≡ true → record { packets = m.packets; left = m.left } ≡ met_at w q at m (is_none (packet_by g (between f at end)))
+module _ (r : Record) (w : List ℕ) (q : ℕ) (m : Met) (b : Bool) (e : b ≡ is_none (packet_by r.format (bytes_of r))) where
+  pub meets_none : b ≡ true → record { packets = m.packets; left = m.left } ≡ met_at w q r.at m (is_none (packet_by r.format (bytes_of r)))
   unfolding met_at
   meets_none t = rw (← e, t)
 
   pub meets_one :
-      b ≡ false → (r : Gap) → r ≡ counted_at w q m.packets m.left at →
-      record { packets = m.packets + 1; left = r } ≡ met_at w q at m (is_none (packet_by g (between f at end)))
+      b ≡ false → (l : Gap) → l ≡ counted_at w q m.packets m.left r.at →
+      record { packets = m.packets + 1; left = l } ≡ met_at w q r.at m (is_none (packet_by r.format (bytes_of r)))
   unfolding met_at
-  meets_one t r n = rw (← e, t, n)
+  meets_one t l n = rw (← e, t, n)
 
-  pub meets_count : MeetPre g f w q at end m → b ≡ false → CountPre w q m.packets m.left
+  pub meets_count : MeetPre r w q m → b ≡ false → CountPre w q m.packets m.left
   meets_count p t = p.count (sym e ∙ t)
 
 -- ---- a packet is told by the row of its key
@@ -141,25 +140,30 @@ counted_next g f w count d before a rest e l c i n =
     (λ q. rw q (counted_one l (left_of (packets_at g f) before) a.at c))
     (λ q. rw (q, append-nil (left_of (packets_at g f) before)) c))
 
-module _ (g : Format) (f w : List ℕ) (count : ℕ) (d : Followed g f w count) (at : ℕ) (m : Met) (l : Leaving g f at m) (x : Step) (h : x ≡ step_of g f at) where
-  module _ (e : ℕ) (y : x ≡ Record e) where
+module _ (g : Format) (b : Bor (List ℕ)) (w : List ℕ) (count : ℕ) (d : Followed g b.now w count) (at : ℕ) (m : Met) (l : Leaving g b.now at m) (x : Maybe Record) (h : Found g b at x) where
+  abbrev f : List ℕ
+  f = b.now
+
+  module _ (r : Record) (y : x ≡ Some r) where
+    found : FoundHere g b at r
+    found = found_here g b at x h r y
+
     abbrev later : List (Placed Packet)
-    later = placed_packets (packet_by g) (rest_at g f e)
+    later = placed_packets (packet_by g) (rest_at g f r.end)
 
     -- the record's packet comes next, if there is one
-    next : l.before ++ (placed_packet at (packet_by g (between f at e)) ++ later) ≡ packets_at g f
+    next : l.before ++ (placed_packet at (packet_by g (between f at r.end)) ++ later) ≡ packets_at g f
     unfolding placed_packets
-    next = rw (rest_turn g f at e (found_record g f at x h e y)) at l.all
+    next = rw (rest_turn g f at r.end (found_told g b at x h r y)) at l.all
 
     few_packets : m.packets ≤ count
     few_packets = omega (arith, l.number, places_many g f w count d.list, ap length l.all, length-append l.before (placed_packets (packet_by g) (rest_at g f at)))
 
-    pub leaving_pre : MeetPre g f w (length f / 4) at e m
+    pub leaving_pre : MeetPre r w (length f / 4) m
     unfolding is_none placed_packet
     leaving_pre = record {
-      whole = (let r : RecordAt g f at e = found_record g f at x h e y in record { least = r.least; most = r.most; small = d.small });
       few = omega (arith, few_packets, d.tabled.total, d.small);
-      count = go (packet_by g (between f at e)) next;
+      count = rw (found.same_format, found.starts, found.same_file) (go (packet_by g (between f at r.end)) next);
     } where
       go : (o : Option Packet) → l.before ++ (placed_packet at o ++ later) ≡ packets_at g f → is_none o ≡ false → CountPre w (length f / 4) m.packets m.left
       go none n q = no_way refl q
@@ -170,10 +174,13 @@ module _ (g : Format) (f w : List ℕ) (count : ℕ) (d : Followed g f w count) 
             note = record { small = omega (arith, l.few, less, d.tabled.total, d.small) };
           }
 
-    pub leaving_turn : (r : Met) → r ≡ met_at w (length f / 4) at m (is_none (packet_by g (between f at e))) → Leaving g f e r
+    pub leaving_turn : (n : Met) → n ≡ met_at w (length f / 4) r.at m (is_none (packet_by r.format (bytes_of r))) → Leaving g f r.end n
     unfolding met_at is_none placed_packet
-    leaving_turn r z = rw z (go (packet_by g (between f at e)) next) where
-      go : (o : Option Packet) → l.before ++ (placed_packet at o ++ later) ≡ packets_at g f → Leaving g f e (met_at w (length f / 4) at m (is_none o))
+    leaving_turn n z = rw met (go (packet_by g (between f at r.end)) next) where
+      met : n ≡ met_at w (length f / 4) at m (is_none (packet_by g (between f at r.end)))
+      met = z ∙ rw (found.same_format, found.starts, found.same_file)
+
+      go : (o : Option Packet) → l.before ++ (placed_packet at o ++ later) ≡ packets_at g f → Leaving g f r.end (met_at w (length f / 4) at m (is_none o))
       go none n = record { before = l.before; all = n; number = l.number; few = l.few; counted = l.counted }
       go (some p) n = record {
         before = l.before ++ (record { at = at; is = p } ∷ []);
@@ -183,9 +190,6 @@ module _ (g : Format) (f w : List ℕ) (count : ℕ) (d : Followed g f w count) 
         counted = counted_next g f w count d l.before (record { at = at; is = p }) later n m.left l.counted m.packets l.number;
       }
 
-  pub leaving_less : (e : ℕ) → x ≡ Record e → length f - e < length f - at
-  leaving_less e q = let r : RecordAt g f at e = found_record g f at x h e q in omega (arith, head_least g, r.least, r.most)
-
-  pub leaving_end : ((e : ℕ) → x ≡ Record e → ⊥) → Counted (left_open (packets_at g f)) m.left
+  pub leaving_end : x ≡ None → Counted (left_open (packets_at g f)) m.left
   unfolding left_open left_of placed_packets
-  leaving_end n = let z : l.before ≡ packets_at g f = sym (append-nil l.before) ∙ (rw (found_none g f at x h n) at l.all) in rw z at l.counted
+  leaving_end n = let z : l.before ≡ packets_at g f = sym (append-nil l.before) ∙ (rw (rest_none g f at (found_none g b at x h n)) at l.all) in rw z at l.counted

@@ -1,9 +1,8 @@
 -- What the functions of the walk ask and promise.
 use Rattle.std.specs.Prelude.{Option, Some, None, ℕ, ◌+◌, ◌*◌, ◌≤◌, ◌≡◌, Bool, false, cond, List, length, eqb}
-use Rattle.acl.specs.Reading.{between}
 use Rattle.trace.specs.Formats.{packet_by}
-use Rattle.trace.specs.Walk.{RecordPre}
-use Rattle.trace.specs.declared.Format.{Format}
+use Rattle.trace.specs.Finding.{bytes_of}
+use Rattle.trace.specs.declared.record.Record.{Record}
 use Rattle.l2cap.specs.Steps.{row_at, RowPre, open_in}
 use Rattle.l2cap.specs.declared.Open.{Open}
 use Rattle.signs.specs.Counting.{noted, NotePre}
@@ -32,7 +31,6 @@ pub record CountPre (w : List ℕ) (q i : ℕ) (g : Gap) : Type 0 where
   pub began : BeganPre w q i
   pub note : NotePre g 1
 
-pub record MeetPre (g : Format) (f w : List ℕ) (q at end : ℕ) (m : Met) : Type 0 where
-  pub whole : RecordPre g f at end
+pub record MeetPre (r : Record) (w : List ℕ) (q : ℕ) (m : Met) : Type 0 where
   pub few : m.packets ≤ 1048576
-  pub count : is_none (packet_by g (between f at end)) ≡ false → CountPre w q m.packets m.left
+  pub count : is_none (packet_by r.format (bytes_of r)) ≡ false → CountPre w q m.packets m.left

@@ -2,8 +2,8 @@
 #![tactic(auto)]
 
 ghost use Rattle.std.specs.Prelude.{◌≡◌, length};
-ghost use Rattle.acl.specs.Reading.{between};
 ghost use Rattle.trace.specs.Formats.{packet_by};
+ghost use Rattle.trace.specs.Finding.{bytes_of};
 ghost use Rattle.l2cap.specs.Steps.{open_in, row_at};
 ghost use Rattle.signs.specs.Places.{packets_at};
 ghost use Rattle.signs.specs.Partial.{left_open};
@@ -14,7 +14,7 @@ ghost use Rattle.leftover.specs.Meeting.{began_by, counted_at, met_at, BeganPre,
 
 use l2cap::{look, row_of};
 use signs::{Gap, lacks_packet, note};
-use trace::{Format, Step, file_head, read_at};
+use trace::{Format, Record, file_head, record_at};
 
 // The packets met so far, and those of them that began what is open at the end.
 #[derive(Clone, Copy)]
@@ -45,17 +45,17 @@ fn count_packet(w: &[u8], q: usize, i: usize, g: Gap, at: usize) -> Gap
     g
 }
 
-// The record from one place up to another. Only a packet takes the next number.
-fn meet(file: &[u8], w: &[u8], q: usize, format: Format, at: usize, end: usize, m: Met) -> Met
-    requires { MeetPre format file.now w.now q at end m }
-    ensures { result ≡ met_at w.now q at m (is_none (packet_by format (between file.now at end))) }
+// A record. Only a packet takes the next number.
+fn meet(r: Record, w: &[u8], q: usize, m: Met) -> Met
+    requires { MeetPre r w.now q m }
+    ensures { result ≡ met_at w.now q r.entry.at m (is_none (packet_by r.entry.format (bytes_of r.entry))) }
 {
-    if lacks_packet(file, at, end, format) {
+    if lacks_packet(r) {
         return m;
     }
     Met {
         packets: m.packets + 1,
-        left: count_packet(w, q, m.packets, m.left, at),
+        left: count_packet(w, q, m.packets, m.left, r.at),
     }
 }
 
@@ -70,9 +70,9 @@ pub fn left_open(file: &[u8], w: &[u8], format: Format) -> Gap
         left: Gap { many: 0, first: 0 },
     };
     let mut at = file_head(format);
-    while let Step::Record(end) = read_at(file, at, format) {
-        m = meet(file, w, q, format, at, end, m);
-        at = end;
+    while let Some(r) = record_at(file, at, format) {
+        m = meet(r, w, q, m);
+        at = r.end;
     }
     m.left
 }

@@ -2,3 +2,4 @@ pub mod Digits
 pub mod Names
 pub mod Parts
 pub mod Told
+pub mod Stamps

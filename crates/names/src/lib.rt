@@ -6,8 +6,9 @@ ghost use Rattle.laws.specs.Answers.{Meets};
 ghost use Rattle.laws.specs.Stores.{Writes};
 ghost use Rattle.items.specs.Items.{rx_of};
 ghost use Rattle.commands.specs.Run.{name_at};
-ghost use Rattle.names.specs.Names.{way_name, frame_name, name_len, given, look_at, fixture_name};
+ghost use Rattle.names.specs.Names.{way_name, name_len, given, look_at, fixture_name};
 ghost use Rattle.names.specs.Told.{told_named};
+ghost use Rattle.names.specs.Stamps.{name_with};
 ghost use Rattle.names.specs.Parts.{head_of, head_len, part_of, part_len, type_part, type_len, seq_part, command_part, command_len, NameLen};
 ghost use Rattle.names.specs.Digits.{hex_digit, hex2, decimal, decimal6, DigitCount};
 
@@ -89,6 +90,14 @@ fn put_counter(out: &mut [u8], at: usize, n: u32) -> usize
 
 // ---- the name of a frame
 
+// What a name says of a frame beside its bytes: when it crossed the link, as which, and which way.
+#[derive(Clone, Copy)]
+pub struct Stamp {
+    pub ms: u64,
+    pub counter: u32,
+    pub direction: Direction,
+}
+
 fn put_way(out: &mut [u8], at: usize, direction: Direction) -> usize
     requires { at + 2 ≤ length out.old }
     ensures { Writes out.old at (way_name (rx_of direction)) result out.new }
@@ -99,16 +108,16 @@ fn put_way(out: &mut [u8], at: usize, direction: Direction) -> usize
     }
 }
 
-fn put_head(out: &mut [u8], at: usize, ms: u64, counter: u32, direction: Direction) -> usize
-    requires { at + head_len ms counter ≤ length out.old }
-    ensures { Writes out.old at (head_of ms counter (rx_of direction)) result out.new }
+fn put_head(out: &mut [u8], at: usize, stamp: Stamp) -> usize
+    requires { at + head_len stamp.ms stamp.counter ≤ length out.old }
+    ensures { Writes out.old at (head_of stamp.ms stamp.counter (rx_of stamp.direction)) result out.new }
 {
     let a = words::copy_to(b"mdr-packet-", out, at);
-    let b = put_decimal(out, a, ms);
+    let b = put_decimal(out, a, stamp.ms);
     let c = words::copy_to(b"-", out, b);
-    let d = put_counter(out, c, counter);
+    let d = put_counter(out, c, stamp.counter);
     let e = words::copy_to(b"-", out, d);
-    put_way(out, e, direction)
+    put_way(out, e, stamp.direction)
 }
 
 // A label, the name with a number, and a byte.
@@ -148,18 +157,11 @@ fn put_command(out: &mut [u8], at: usize, f: Frame) -> usize
 }
 
 // Writes a frame's name at a place, and returns the place after it.
-pub fn put_frame_name(
-    out: &mut [u8],
-    at: usize,
-    ms: u64,
-    counter: u32,
-    direction: Direction,
-    f: Frame,
-) -> usize
-    requires { at + name_len ms counter f ≤ length out.old }
-    ensures { Writes out.old at (frame_name ms counter (rx_of direction) f) result out.new }
+pub fn put_frame_name(out: &mut [u8], at: usize, stamp: Stamp, f: Frame) -> usize
+    requires { at + name_len stamp.ms stamp.counter f ≤ length out.old }
+    ensures { Writes out.old at (name_with stamp f) result out.new }
 {
-    let a = put_head(out, at, ms, counter, direction);
+    let a = put_head(out, at, stamp);
     let b = put_type(out, a, f.kind);
     let c = put_seq(out, b, f.seq);
     let d = put_command(out, c, f);
@@ -167,31 +169,25 @@ pub fn put_frame_name(
 }
 
 // How long a frame's name is.
-pub fn frame_name_len(ms: u64, counter: u32, f: Frame) -> usize
-    ensures { NameLen ms counter f result }
+pub fn frame_name_len(stamp: Stamp, f: Frame) -> usize
+    ensures { NameLen stamp.ms stamp.counter f result }
 {
     let i = data_type_name(DataType::from(f.kind));
     let j = command_name(f);
-    let k = decimal_len(counter as u64);
-    43 + decimal_len(ms) + 6usize.saturating_sub(k) + k + name_len(i) + name_len(j)
+    let k = decimal_len(stamp.counter as u64);
+    43 + decimal_len(stamp.ms) + 6usize.saturating_sub(k) + k + name_len(i) + name_len(j)
 }
 
 // ---- naming
 
-fn name_frame(
-    ms: u64,
-    counter: u32,
-    direction: Direction,
-    f: Frame,
-    out: &mut [u8],
-) -> Result<usize, UnpackError>
-    ensures { Meets (given (frame_name ms counter (rx_of direction) f)) out.old (told_named result) out.new }
+fn name_frame(stamp: Stamp, f: Frame, out: &mut [u8]) -> Result<usize, UnpackError>
+    ensures { Meets (given (name_with stamp f)) out.old (told_named result) out.new }
 {
-    let needed = frame_name_len(ms, counter, f);
+    let needed = frame_name_len(stamp, f);
     if out.len() < needed {
         return Err(UnpackError::OutShort(needed));
     }
-    put_frame_name(out, 0, ms, counter, direction, f);
+    put_frame_name(out, 0, stamp, f);
     Ok(needed)
 }
 
@@ -213,5 +209,10 @@ pub fn fixture_name(
     ensures { Meets (fixture_name ms counter (rx_of direction) wire.now) out.old (told_named result) out.new }
 {
     let f = unpacking::inspect(wire)?;
-    name_frame(ms, counter, direction, f, out)
+    let stamp = Stamp {
+        ms,
+        counter,
+        direction,
+    };
+    name_frame(stamp, f, out)
 }

@@ -10,6 +10,7 @@ use native.Mathlib.Omega.{arith}
 use native.Mathlib.Numerals.{add-one}
 use lib.ListN.{length, get_or, take, drop, length-drop}
 use lib.Seq.{length-take-le}
+use denote.Ref.{Bor}
 use borrow.Author.Tests.{le-leb, lt-leb, eqb-true}
 use lib.Dec.{eqb}
 use Rattle.laws.proofs.Choice.{split≤, split_b}
@@ -29,54 +30,52 @@ use Rattle.pcap.specs.Packets as pcap_packets
 use Rattle.pcap.specs.declared.Encoding.{Encoding}
 use Rattle.trace.specs.Formats.{file_head, record_head, size_by, time_by, packet_by, records_from}
 use Rattle.trace.proofs.Formats.{head_least, head_most, file_head_least, size_least, packet_room, packet_none, time_part}
-use Rattle.trace.specs.Walk.{RecordAt, RecordPre, is_empty}
+use Rattle.trace.specs.Walk.{RecordAt, is_empty}
+use Rattle.trace.specs.Finding.{bytes_of, FoundHere, Found}
+use Rattle.trace.proofs.Finding.{bytes_length, found_here, found_told, found_none}
 use Rattle.trace.proofs.Walk.{flat_step}
-use Rattle.trace.specs.Reader.{step_of}
-use Rattle.trace.proofs.ReaderLaws.{record_told, all_met, empty_told}
+use Rattle.trace.proofs.ReaderLaws.{empty_told}
 use Rattle.trace.specs.declared.Format.{Format}
 use Rattle.trace.specs.declared.Format.TheVariants.{Btsnoop as ByDatalink, Pcap as ByEncoding}
-use Rattle.trace.specs.declared.Step.{Step}
-use Rattle.trace.specs.declared.Step.TheVariants.{Record}
+use Rattle.trace.specs.declared.record.Record.{Record}
 use Rattle.packets.specs.PacketTable.{packet_at, packets_from, data_of}
 use Rattle.packets.proofs.PacketFrames.{packets_front, packets_snoc, data_front}
 use Rattle.packets.specs.Adding.{RecordIs, AddPre, Added, Passed, ReadPre, ReadTo, Walking, put_packet, row_of}
 
 -- ---- the packet and the time of a record, by the case that the format is
 
-module _ (g : Format) (f : List ℕ) (at end : ℕ) where
-  module _ (d : ℕ) (q : g ≡ ByDatalink d) where
-    pub btsnoop_pre : RecordPre g f at end → btsnoop_reading.RecordPre f at end
+module _ (r : Record) where
+  module _ (d : ℕ) (q : r.format ≡ ByDatalink d) where
+    pub btsnoop_pre : btsnoop_reading.RecordPre r.file.now r.at r.end
     unfolding record_head
-    btsnoop_pre p = let h : at + 24 ≤ end = rw q at p.least in record { least = h; most = p.most; small = p.small }
+    btsnoop_pre = let h : r.at + 24 ≤ r.end = rw q at r.whole.least in record { least = h; most = r.whole.most; small = r.whole.small }
 
-    pub btsnoop_packet : (r : Option Fragment) → btsnoop_reading.RecordIs f at end d r → RecordIs g f at end r
+    pub btsnoop_packet : (x : Option Fragment) → btsnoop_reading.RecordIs r.file.now r.at r.end d x → RecordIs r x
     unfolding packet_by time_by
-    btsnoop_packet r m = record { shows = rw q m.shows; held = m.held }
+    btsnoop_packet x m = record { shows = rw q m.shows; held = m.held }
 
-    pub btsnoop_room : at + record_head g ≤ length f → at + 24 ≤ length f
-    unfolding record_head
-    btsnoop_room h = rw q at h
+    pub btsnoop_room : r.at + 24 ≤ length r.file.now
+    btsnoop_room = omega (arith, btsnoop_pre.least, btsnoop_pre.most)
 
-    pub btsnoop_time : (t : ℕ) → t ≡ btsnoop_packets.milliseconds (drop at f) → t ≡ time_by g (drop at f)
+    pub btsnoop_time : (t : ℕ) → t ≡ btsnoop_packets.milliseconds (drop r.at r.file.now) → t ≡ time_by r.format (drop r.at r.file.now)
     unfolding time_by
     btsnoop_time t e = rw q e
 
-  module _ (x : Encoding) (q : g ≡ ByEncoding x) where
-    pub pcap_pre : RecordPre g f at end → pcap_reading.RecordPre f at end
+  module _ (e : Encoding) (q : r.format ≡ ByEncoding e) where
+    pub pcap_pre : pcap_reading.RecordPre r.file.now r.at r.end
     unfolding record_head
-    pcap_pre p = let h : at + 16 ≤ end = rw q at p.least in record { least = h; most = p.most; small = p.small }
+    pcap_pre = let h : r.at + 16 ≤ r.end = rw q at r.whole.least in record { least = h; most = r.whole.most; small = r.whole.small }
 
-    pub pcap_packet : (r : Option Fragment) → pcap_reading.RecordIs f at end r → RecordIs g f at end r
+    pub pcap_packet : (x : Option Fragment) → pcap_reading.RecordIs r.file.now r.at r.end x → RecordIs r x
     unfolding packet_by time_by pcap_packets.packet_of
-    pcap_packet r m = record { shows = rw q (m.shows (pcap_packets.milliseconds x.big x.nano (between f at end))); held = m.held }
+    pcap_packet x m = record { shows = rw q (m.shows (pcap_packets.milliseconds e.big e.nano (bytes_of r))); held = m.held }
 
-    pub pcap_room : at + record_head g ≤ length f → at + 8 ≤ length f
-    unfolding record_head
-    pcap_room h = let l : at + 16 ≤ length f = rw q at h in omega arith
+    pub pcap_room : r.at + 8 ≤ length r.file.now
+    pcap_room = omega (arith, pcap_pre.least, pcap_pre.most)
 
-    pub pcap_time : (t : ℕ) → t ≡ pcap_packets.milliseconds x.big x.nano (drop at f) → t ≡ time_by g (drop at f)
+    pub pcap_time : (t : ℕ) → t ≡ pcap_packets.milliseconds e.big e.nano (drop r.at r.file.now) → t ≡ time_by r.format (drop r.at r.file.now)
     unfolding time_by
-    pcap_time t e = rw q e
+    pcap_time t n = rw q n
 
 -- ---- a row
 
@@ -104,11 +103,17 @@ put_all w i x t a b c d u y p o q r s e = e ∙ rw (s, r, q, p, o, bool_word x.s
 
 -- ---- one packet more
 
-module _ (g : Format) (f w : List ℕ) (at end count : ℕ) (pre : AddPre g f w at end count) (x : Option Fragment) (is : RecordIs g f at end x) where
-  pub add_none : x ≡ None → Added g f w at end count w count
+module _ (r : Record) (w : List ℕ) (count : ℕ) (pre : AddPre r w count) (x : Option Fragment) (is : RecordIs r x) where
+  abbrev g : Format
+  g = r.format
+
+  abbrev f : List ℕ
+  f = r.file.now
+
+  pub add_none : x ≡ None → Added r w count w count
   unfolding shown
   add_none e =
-      let q : packet_by g (between f at end) ≡ none = is.shows ∙ rw e in
+      let q : packet_by g (bytes_of r) ≡ none = is.shows ∙ rw e in
       record {
         list = rw (q, append-nil);
         fits = pre.fits;
@@ -117,11 +122,8 @@ module _ (g : Format) (f w : List ℕ) (at end count : ℕ) (pre : AddPre g f w 
         size = refl;
       }
 
-  pub add_time : at + record_head g ≤ length f
-  add_time = omega (arith, pre.here.least, pre.here.most)
-
-  module _ (y : Fragment) (e : x ≡ Some y) (ms : ℕ) (em : ms ≡ time_by g (drop at f)) (u : List ℕ) (eu : u ≡ put_packet w count y ms) where
-    held : y.place + y.len ≤ end
+  module _ (y : Fragment) (e : x ≡ Some y) (ms : ℕ) (em : ms ≡ time_by g (drop r.at f)) (u : List ℕ) (eu : u ≡ put_packet w count y ms) where
+    held : y.place + y.len ≤ r.end
     held = rw e at is.held
 
     front : Front (24 * count) u w
@@ -139,20 +141,19 @@ module _ (g : Format) (f w : List ℕ) (at end count : ℕ) (pre : AddPre g f w 
         let t : long u (6 * count + 4) ≡ ms = rw eu (long_puts (row_of y ms) w (6 * count) 4 ms (omega (arith, pre.room)) (omega arith) refl refl) in
         rw (a, row 1 (omega arith), row 2 (omega arith), row 3 (omega arith), t, start_back y.start)
 
-    shows_it : packet_by g (between f at end) ≡ some (packet_from f ms y)
+    shows_it : packet_by g (bytes_of r) ≡ some (packet_from f ms y)
     unfolding shown
-    shows_it = is.shows ∙ rw (e, time_part g f at end pre.here.least pre.here.most, ← em)
+    shows_it = is.shows ∙ rw (e, time_part g f r.at r.end r.whole.least r.whole.most, ← em)
 
     -- a record has 25 bytes besides the packet's
-    spent : 25 + y.len ≤ end - at
+    spent : 25 + y.len ≤ r.end - r.at
     unfolding packet_from
     spent =
-        let l : length (take y.len (drop y.place f)) ≡ y.len = length-take-le y.len (drop y.place f) (simp length-drop (omega (arith, held, pre.here.most))) in
-        let m : length (between f at end) ≡ end - at = length-take-le (end - at) (drop at f) (simp length-drop (omega (arith, pre.here.most))) in
-        let r : 25 + length (take y.len (drop y.place f)) ≤ length (between f at end) = packet_room g (between f at end) (packet_from f ms y) shows_it in
-        omega arith
+        let l : length (take y.len (drop y.place f)) ≡ y.len = length-take-le y.len (drop y.place f) (simp length-drop (omega (arith, held, r.whole.most))) in
+        let k : 25 + length (take y.len (drop y.place f)) ≤ length (bytes_of r) = packet_room g (bytes_of r) (packet_from f ms y) shows_it in
+        omega (arith, bytes_length r)
 
-    pub add_one_packet : Added g f w at end count u (count + 1)
+    pub add_one_packet : Added r w count u (count + 1)
     unfolding data_of row_of put_packet
     add_one_packet =
         let z : 0 + count ≡ count = omega arith in
@@ -162,7 +163,7 @@ module _ (g : Format) (f w : List ℕ) (at end count : ℕ) (pre : AddPre g f w 
           fits = record {
             fits = λ i h. split≤ (suc i) count
                 (λ l. rw (front_word (24 * count) u w (6 * i + 2) (omega arith) front, front_word (24 * count) u w (6 * i + 3) (omega arith) front) (pre.fits.fits i l))
-                (λ l. let v : i ≡ count = omega arith in rw (v, row 2 (omega arith), row 3 (omega arith)) (omega (arith, held, pre.here.most)));
+                (λ l. let v : i ≡ count = omega arith in rw (v, row 2 (omega arith), row 3 (omega arith)) (omega (arith, held, r.whole.most)));
           };
           total = rw add-one (omega (arith, d, spent));
           more = omega arith;
@@ -233,47 +234,48 @@ module _ (g : Format) (f : List ℕ) (head : ℕ) (eh : head ≡ record_head g) 
 
 -- ---- all records
 
-module _ (g : Format) (f w₀ : List ℕ) (p : ReadPre g f w₀) (w : List ℕ) (at count : ℕ) (v : Walking g f w₀ w at count) (x : Step) (n : x ≡ step_of g f at) where
-  module _ (e : ℕ) (q : x ≡ Record e) where
-    here : RecordAt g f at e
-    here = record_told g f at e (sym q ∙ n)
+module _ (g : Format) (b : Bor (List ℕ)) (w₀ : List ℕ) (p : ReadPre g b.now w₀) (w : List ℕ) (at count : ℕ) (v : Walking g b.now w₀ w at count) (x : Option Record) (n : Found g b at x) where
+  module _ (r : Record) (q : x ≡ Some r) where
+    found : FoundHere g b at r
+    found = found_here g b at x n r q
 
-    pub walk_in : e ≤ length f
+    here : RecordAt g b.now at r.end
+    here = found_told g b at x n r q
+
+    pub walk_in : r.end ≤ length b.now
     walk_in = here.most
 
-    pub walk_pre : AddPre g f w at e count
+    pub walk_pre : AddPre r w count
     walk_pre = record {
-      here = record { least = here.least; most = here.most; small = p.small };
-      fits = v.fits;
+      fits = rw found.same_file v.fits;
       room = omega (arith, v.total, v.size, p.room, here.least, here.most);
     }
 
-    pub walk_less : length f - e < length f - at
-    walk_less = omega (arith, head_least g, here.least, here.most)
-
-    pub walk_turn : (u : List ℕ) (r : ℕ) → Added g f w at e count u r → Walking g f w₀ u e r
+    pub walk_turn : (u : List ℕ) (c : ℕ) → Added r w count u c → Walking g b.now w₀ u r.end c
     unfolding packets
-    walk_turn u r a = record {
-      least = omega (arith, v.least, here.least);
-      within = here.most;
-      size = a.size ∙ v.size;
-      fits = a.fits;
-      total = omega (arith, a.total, v.total, here.least);
-      same = rw (
-        a.list,
-        append_assoc,
-        or_none_append (packet_by g (between f at e)) (packets (packet_by g) (records_from g f e)),
-      ) (rw here.list at v.same);
-      tail = sym (flat_step g f at e here) ∙ v.tail;
-    }
+    walk_turn u c a =
+        let l : packets_from b.now u 0 c ≡ packets_from b.now w 0 count ++ or_none (packet_by g (between b.now at r.end)) [] = rw (found.same_format, found.starts, found.same_file) at a.list in
+        record {
+          least = omega (arith, v.least, here.least);
+          within = here.most;
+          size = a.size ∙ v.size;
+          fits = rw found.same_file at a.fits;
+          total = omega (arith, a.total, v.total, here.least, found.starts);
+          same = rw (
+            l,
+            append_assoc,
+            or_none_append (packet_by g (between b.now at r.end)) (packets (packet_by g) (records_from g b.now r.end)),
+          ) (rw here.list at v.same);
+          tail = sym (flat_step g b.now at r.end here) ∙ v.tail;
+        }
 
-    module _ (head : ℕ) (eh : head ≡ record_head g) (h : e ≡ at + head) (to : ℕ) (z : Passed g f e to) where
-      pub walk_pass_less : length f - to < length f - at
+    module _ (head : ℕ) (eh : head ≡ record_head g) (h : r.end ≡ at + head) (to : ℕ) (z : Passed g b.now r.end to) where
+      pub walk_pass_less : length b.now - to < length b.now - at
       walk_pass_less = omega (arith, head_least g, here.least, here.most, z.least)
 
-      pub walk_pass : Walking g f w₀ w to count
+      pub walk_pass : Walking g b.now w₀ w to count
       walk_pass =
-          let y : Passed g f at to = pass_then g f at e to (pass_one g f at e here (h ∙ rw eh)) z in
+          let y : Passed g b.now at to = pass_then g b.now at r.end to (pass_one g b.now at r.end here (h ∙ rw eh)) z in
           record {
             least = omega (arith, v.least, y.least);
             within = y.most;
@@ -284,14 +286,14 @@ module _ (g : Format) (f w₀ : List ℕ) (p : ReadPre g f w₀) (w : List ℕ) 
             tail = sym y.tail ∙ v.tail;
           }
 
-  pub ended : ((e : ℕ) → x ≡ Record e → ⊥) → ReadTo g f w (record { count = count; tail = at })
+  pub ended : x ≡ None → ReadTo g b.now w (record { count = count; tail = at })
   unfolding packets
   ended m =
-      let s : records_from g f at ≡ [] = all_met g f at x n m in
+      let s : records_from g b.now at ≡ [] = found_none g b at x n m in
       record {
         read = record {
           tabled = record { fits = v.fits; total = omega (arith, v.total, v.within); small = p.small; room = rw v.size p.room };
-          list = sym (append-nil (packets_from f w 0 count)) ∙ (rw s at v.same);
+          list = sym (append-nil (packets_from b.now w 0 count)) ∙ (rw s at v.same);
         };
         tail = (let z : at + 0 ≡ at = omega arith in sym z) ∙ (rw s at v.tail);
       }

@@ -3,19 +3,20 @@ use Rattle.std.specs.Prelude.{ℕ, Option, cond, ◌+◌, ◌-◌, ◌*◌, ◌/
 use Rattle.laws.specs.Lists.{flat}
 use Rattle.words.specs.Rows.{put_words}
 use Rattle.container.specs.Packets.{or_none, packets}
-use Rattle.acl.specs.Reading.{between, shown, Held}
+use Rattle.acl.specs.Reading.{shown, Held}
 use Rattle.acl.specs.declared.Fragment.{Fragment}
 use Rattle.trace.specs.Formats.{file_head, time_by, packet_by, records_from, packets_by, tail_by}
-use Rattle.trace.specs.Walk.{RecordPre}
+use Rattle.trace.specs.Finding.{bytes_of}
 use Rattle.trace.specs.declared.Format.{Format}
+use Rattle.trace.specs.declared.record.Record.{Record}
 use Rattle.packets.specs.PacketTable.{packets_from, data_of, Fits, Read}
 use Rattle.packets.specs.declared.Packets.{Packets}
 
 -- ---- the packet of a record
 
-pub record RecordIs (g : Format) (f : List ℕ) (at end : ℕ) (r : Option Fragment) : Type 0 where
-  pub shows : packet_by g (between f at end) ≡ shown f (time_by g (between f at end)) r
-  pub held : Held end r
+pub record RecordIs (r : Record) (x : Option Fragment) : Type 0 where
+  pub shows : packet_by r.format (bytes_of r) ≡ shown r.file.now (time_by r.format (bytes_of r)) x
+  pub held : Held r.end x
 
 -- ---- a packet as a row of words
 
@@ -27,16 +28,15 @@ put_packet w i x t = put_words w (6 * i) (row_of x t)
 
 -- ---- one packet more
 
-pub record AddPre (g : Format) (f w : List ℕ) (at end count : ℕ) : Type 0 where
-  pub here : RecordPre g f at end
-  pub fits : Fits f w count
+pub record AddPre (r : Record) (w : List ℕ) (count : ℕ) : Type 0 where
+  pub fits : Fits r.file.now w count
   pub room : 24 * count + 24 ≤ length w
 
-pub record Added (g : Format) (f w : List ℕ) (at end count : ℕ) (u : List ℕ) (r : ℕ) : Type 0 where
-  pub list : packets_from f u 0 r ≡ packets_from f w 0 count ++ or_none (packet_by g (between f at end)) []
-  pub fits : Fits f u r
-  pub total : 25 * r + data_of u r ≤ 25 * count + data_of w count + (end - at)
-  pub more : r ≤ count + 1
+pub record Added (r : Record) (w : List ℕ) (count : ℕ) (u : List ℕ) (n : ℕ) : Type 0 where
+  pub list : packets_from r.file.now u 0 n ≡ packets_from r.file.now w 0 count ++ or_none (packet_by r.format (bytes_of r)) []
+  pub fits : Fits r.file.now u n
+  pub total : 25 * n + data_of u n ≤ 25 * count + data_of w count + (r.end - r.at)
+  pub more : n ≤ count + 1
   pub size : length u ≡ length w
 
 -- ---- records without a packet

@@ -2,33 +2,31 @@
 #![tactic(auto)]
 
 ghost use Rattle.std.specs.Prelude.{◌≡◌, ◌+◌, ◌*◌, ◌≤◌, length, drop};
-ghost use Rattle.trace.specs.Formats.{record_head, time_by};
-ghost use Rattle.trace.specs.Walk.{RecordPre, is_empty};
+ghost use Rattle.trace.specs.Formats.{time_by};
+ghost use Rattle.trace.specs.Walk.{is_empty};
 ghost use Rattle.packets.specs.Adding.{RecordIs, put_packet, AddPre, Added, Passed, ReadPre, ReadTo};
 
 use acl::Fragment;
-use trace::{Format, Step, file_head, read_at, record_head, size_at};
+use trace::{Format, Record, file_head, record_at, record_head, size_at};
 use words::{put32, put64};
 
-// The packet of the record from one place up to another.
-fn read_packet(file: &[u8], at: usize, end: usize, format: Format) -> Option<Fragment>
-    requires { RecordPre format file.now at end }
-    ensures { RecordIs format file.now at end result }
+// The packet of a record.
+fn read_packet(r: Record) -> Option<Fragment>
+    ensures { RecordIs r.entry result }
 {
-    match format {
-        Format::Btsnoop(datalink) => btsnoop::read_packet(file, at, end, datalink),
-        Format::Pcap(_) => pcap::read_packet(file, at, end),
+    match r.format {
+        Format::Btsnoop(datalink) => btsnoop::read_packet(r.file, r.at, r.end, datalink),
+        Format::Pcap(_) => pcap::read_packet(r.file, r.at, r.end),
     }
 }
 
-// The milliseconds of the record at a place.
-fn time_at(file: &[u8], at: usize, format: Format) -> u64
-    requires { at + record_head format ≤ length file.now }
-    ensures { result ≡ time_by format (drop at file.now) }
+// The milliseconds of a record.
+fn time_of(r: Record) -> u64
+    ensures { result ≡ time_by r.entry.format (drop r.entry.at r.entry.file.now) }
 {
-    match format {
-        Format::Btsnoop(_) => btsnoop::time_at(file, at),
-        Format::Pcap(e) => pcap::time_at(file, at, e),
+    match r.format {
+        Format::Btsnoop(_) => btsnoop::time_at(r.file, r.at),
+        Format::Pcap(e) => pcap::time_at(r.file, r.at, e),
     }
 }
 
@@ -46,21 +44,14 @@ fn put_packet(w: &mut [u8], i: usize, g: Fragment, ms: u64)
 }
 
 // Adds the packet of a record to the table, if there is one, and returns the count of packets.
-fn add_packet(
-    file: &[u8],
-    w: &mut [u8],
-    at: usize,
-    end: usize,
-    format: Format,
-    count: usize,
-) -> usize
-    requires { AddPre format file.now w.old at end count }
-    ensures { Added format file.now w.old at end count w.new result }
+fn add_packet(r: Record, w: &mut [u8], count: usize) -> usize
+    requires { AddPre r w.old count }
+    ensures { Added r.entry w.old count w.new result }
 {
-    let Some(g) = read_packet(file, at, end, format) else {
+    let Some(g) = read_packet(r) else {
         return count;
     };
-    let ms = time_at(file, at, format);
+    let ms = time_of(r);
     put_packet(w, count, g, ms);
     count + 1
 }
@@ -107,12 +98,12 @@ pub fn read_packets(file: &[u8], w: &mut [u8], format: Format) -> Packets
     let head = record_head(format);
     let mut at = file_head(format);
     let mut count = 0;
-    while let Step::Record(end) = read_at(file, at, format) {
-        if end == at + head {
-            at = pass_empty(file, end, format);
+    while let Some(r) = record_at(file, at, format) {
+        if r.end == at + head {
+            at = pass_empty(file, r.end, format);
         } else {
-            count = add_packet(file, w, at, end, format, count);
-            at = end;
+            count = add_packet(r, w, count);
+            at = r.end;
         }
     }
     Packets { count, tail: at }

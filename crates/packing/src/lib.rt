@@ -21,7 +21,7 @@ fn put(out: &mut [u8], at: usize, b: u8) -> usize
     requires { at + length (escape_byte b) ≤ length out.old }
     ensures { Writes out.old at (escape_byte b) result out.new }
 {
-    if is_within(b, 0x3C, 0x3E) {
+    if is_within::<0x3C, 0x3E>(b) {
         out[at] = 0x3D;
         out[at + 1] = b - 16;
         return at + 2;
@@ -96,7 +96,7 @@ fn escape_run(src: &[u8], out: &mut [u8], from: usize) -> Ran
     for k in 0..blocks {
         let i = 16 * k;
         let part = &src[i..i + 16];
-        if !is_full(part, 0x3C, 0x3E) {
+        if !is_full::<0x3C, 0x3E>(part) {
             return Ran { used: i, at };
         }
         at = pair_block(part, out, at);
@@ -136,7 +136,7 @@ fn escape_at(src: &[u8], out: &mut [u8], from: usize) -> usize
     let mut i: usize = 0;
     while 16 <= n - i {
         let j = i + 16;
-        if is_bare(&src[i..j], 0x3C, 0x3E) {
+        if is_bare::<0x3C, 0x3E>(&src[i..j]) {
             at = copy_block(&src[i..j], out, at);
             i = j;
         } else {
@@ -211,10 +211,10 @@ pub fn pack(kind: u8, seq: u8, payload: &[u8], out: &mut [u8]) -> Result<usize, 
         return Err(PackError::TooLong);
     }
     let head = head_of(kind, seq, n);
-    let h = tally_few(&head, 0x3C, 0x3E);
-    let t = tally(payload, 0x3C, 0x3E);
+    let h = tally_few::<0x3C, 0x3E>(&head);
+    let t = tally::<0x3C, 0x3E>(payload);
     let sum = h.sum.wrapping_add(t.sum);
-    let more = usize::from(is_within(sum, 0x3C, 0x3E));
+    let more = usize::from(is_within::<0x3C, 0x3E>(sum));
     let needed = 9 + n + h.hits + t.hits + more;
     if out.len() < needed {
         return Err(PackError::OutShort(needed));

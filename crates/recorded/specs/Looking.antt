@@ -1,9 +1,8 @@
 -- What the pass over the records holds and promises.
 use Rattle.std.specs.Prelude.{ℕ, ◌+◌, ◌-◌, ◌*◌, ◌<◌, ◌≤◌, ◌≡◌, Bool, cond, List, [], ◌∷◌, ◌++◌, length, ltb}
-use Rattle.acl.specs.Reading.{between}
-use Rattle.trace.specs.Formats.{record_head}
-use Rattle.trace.specs.Walk.{RecordPre}
+use Rattle.trace.specs.Finding.{bytes_of}
 use Rattle.trace.specs.declared.Format.{Format}
+use Rattle.trace.specs.declared.record.Record.{Record}
 use Rattle.signs.specs.Places.{Placed}
 use Rattle.signs.specs.Recorded.{is_short, is_zeros, is_skipped, drops}
 use Rattle.signs.specs.Counting.{gap_of, noted}
@@ -20,14 +19,6 @@ pub record Readable (f : List ℕ) : Type 0 where
   pub small : length f ≤ 1048576
 
 -- ---- one record
-
--- whether it is stored short, wherever it ends
-pub record ShortIs (g : Format) (f : List ℕ) (at : ℕ) (r : Bool) : Type 0 where
-  pub is : (end : ℕ) → at + record_head g ≤ end → r ≡ is_short g (between f at end)
-
--- the recorder's count in it, wherever it ends
-pub record DropsIs (g : Format) (f : List ℕ) (at r : ℕ) : Type 0 where
-  pub is : (end : ℕ) → at + record_head g ≤ end → r ≡ drops g (between f at end)
 
 -- one more if the sign shows
 unfoldable pub noted_if : Bool → Gap → ℕ → Gap
@@ -79,10 +70,6 @@ pub record Bounded (s : Seen) (at : ℕ) : Type 0 where
   pub skipped : 16 * s.signs.skipped.many ≤ at
   pub zeros : 16 * s.signs.zeros.many ≤ at
 
-pub record LookPre (g : Format) (f : List ℕ) (at end : ℕ) (s : Seen) : Type 0 where
-  pub here : RecordPre g f at end
-  pub bounded : Bounded s at
-
-pub record Looks (g : Format) (f : List ℕ) (at end : ℕ) (s r : Seen) : Type 0 where
-  pub is : r ≡ looked g s at (between f at end)
-  pub bounded : Bounded r end
+pub record Looks (r : Record) (s t : Seen) : Type 0 where
+  pub is : t ≡ looked r.format s r.at (bytes_of r)
+  pub bounded : Bounded t r.end

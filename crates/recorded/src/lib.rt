@@ -1,17 +1,15 @@
 // What the whole records of a trace show of what is not in it, in one pass.
 #![tactic(auto)]
 
-ghost use Rattle.std.specs.Prelude.{◌≡◌, ◌+◌, ◌≤◌, length};
-ghost use Rattle.acl.specs.Reading.{between};
-ghost use Rattle.trace.specs.Formats.{record_head};
-ghost use Rattle.trace.specs.Walk.{RecordPre};
-ghost use Rattle.signs.specs.Recorded.{is_skipped, is_zeros};
+ghost use Rattle.std.specs.Prelude.{◌≡◌};
+ghost use Rattle.trace.specs.Finding.{bytes_of};
+ghost use Rattle.signs.specs.Recorded.{is_short, is_skipped, is_zeros, drops};
 ghost use Rattle.signs.specs.Gaps.{record_gaps};
-ghost use Rattle.recorded.specs.Looking.{recorded_of, Readable, ShortIs, DropsIs, noted_if, GapPre, Risen, LookPre, Looks};
+ghost use Rattle.recorded.specs.Looking.{recorded_of, Readable, noted_if, GapPre, Risen, Bounded, Looks};
 
 use pcap::get_number;
 use signs::{Gap, is_acl, lacks_packet, note};
-use trace::{Format, Step, file_head, read_at};
+use trace::{Format, Record, file_head, record_at};
 use words::get_be32;
 
 // The signs: records stored short, the recorder's drops, ACL packets skipped because data is not there, records of zeros.
@@ -30,42 +28,39 @@ struct Seen {
     last: u32,
 }
 
-// Whether the record at a place is stored short.
-fn is_short(file: &[u8], at: usize, format: Format) -> bool
-    requires { at + record_head format ≤ length file.now }
-    ensures { ShortIs format file.now at result }
+// Whether a record is stored short.
+fn is_short(r: Record) -> bool
+    ensures { result ≡ is_short r.entry.format (bytes_of r.entry) }
 {
-    match format {
-        Format::Btsnoop(_) => get_be32(file, at + 4) < get_be32(file, at),
-        Format::Pcap(e) => get_number(file, at + 8, e.big) < get_number(file, at + 12, e.big),
+    let bytes = r.bytes();
+    match r.format {
+        Format::Btsnoop(_) => get_be32(bytes, 4) < get_be32(bytes, 0),
+        Format::Pcap(e) => get_number(bytes, 8, e.big) < get_number(bytes, 12, e.big),
     }
 }
 
-// The packets that the recorder dropped up to the record at a place. A pcap file does not say.
-fn drops_of(file: &[u8], at: usize, format: Format) -> u32
-    requires { at + record_head format ≤ length file.now }
-    ensures { DropsIs format file.now at result }
+// The packets that the recorder dropped up to a record. A pcap file does not say.
+fn drops_of(r: Record) -> u32
+    ensures { result ≡ drops r.entry.format (bytes_of r.entry) }
 {
-    match format {
-        Format::Btsnoop(_) => get_be32(file, at + 12),
+    match r.format {
+        Format::Btsnoop(_) => get_be32(r.bytes(), 12),
         Format::Pcap(_) => 0,
     }
 }
 
 // Whether it is ACL data and holds no packet that import takes.
-fn is_skipped(file: &[u8], at: usize, end: usize, format: Format) -> bool
-    requires { RecordPre format file.now at end }
-    ensures { result ≡ is_skipped format (between file.now at end) }
+fn is_skipped(r: Record) -> bool
+    ensures { result ≡ is_skipped r.entry.format (bytes_of r.entry) }
 {
-    is_acl(file, at, end, format) && lacks_packet(file, at, end, format)
+    is_acl(r) && lacks_packet(r)
 }
 
 // Whether it is zeros only.
-fn is_zeros(file: &[u8], at: usize, end: usize) -> bool
-    requires { (at ≤ end) × (end ≤ length file.now) }
-    ensures { result ≡ is_zeros (between file.now at end) }
+fn is_zeros(bytes: &[u8]) -> bool
+    ensures { result ≡ is_zeros bytes.now }
 {
-    file[at..end].iter().all(|&b| b == 0)
+    bytes.iter().all(|&b| b == 0)
 }
 
 // A sign that comes once more, at a place, if the record there shows it.
@@ -91,17 +86,17 @@ fn note_rise(before: u32, here: u32, g: Gap, at: usize) -> Gap
     g
 }
 
-// The signs with those of the record from one place up to another.
-fn look_at(file: &[u8], at: usize, end: usize, format: Format, s: Seen) -> Seen
-    requires { LookPre format file.now at end s }
-    ensures { Looks format file.now at end s result }
+// The signs with those of a record.
+fn look_at(r: Record, s: Seen) -> Seen
+    requires { Bounded s r.at }
+    ensures { Looks r.entry s result }
 {
-    let here = drops_of(file, at, format);
+    let here = drops_of(r);
     let signs = Recorded {
-        short: note_if(is_short(file, at, format), s.signs.short, at),
-        dropped: note_rise(s.last, here, s.signs.dropped, at),
-        skipped: note_if(is_skipped(file, at, end, format), s.signs.skipped, at),
-        zeros: note_if(is_zeros(file, at, end), s.signs.zeros, at),
+        short: note_if(is_short(r), s.signs.short, r.at),
+        dropped: note_rise(s.last, here, s.signs.dropped, r.at),
+        skipped: note_if(is_skipped(r), s.signs.skipped, r.at),
+        zeros: note_if(is_zeros(r.bytes()), s.signs.zeros, r.at),
     };
     Seen { signs, last: here }
 }
@@ -122,9 +117,9 @@ pub fn record_signs(file: &[u8], format: Format) -> Recorded
         last: 0,
     };
     let mut at = file_head(format);
-    while let Step::Record(end) = read_at(file, at, format) {
-        s = look_at(file, at, end, format, s);
-        at = end;
+    while let Some(r) = record_at(file, at, format) {
+        s = look_at(r, s);
+        at = r.end;
     }
     s.signs
 }

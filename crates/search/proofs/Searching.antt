@@ -250,10 +250,3 @@ module _ (s : List ℕ) (f x r : ℕ) (p : Passed s f x r) where
       let m : 32 ≤ seek x (drop r s) = seek_past x 32 (drop r s) (rw k at (w.none t)) (omega (arith, p.high, length-drop r s)) in
       let z : r + 32 ≡ length s = p.last m in
       seeking_end s f x (length s) (rw z at (seeking_part s f x r (r + 32) b passed_from (omega arith) p.high w t)) (omega arith)
-
--- two bytes before the rest
-pub soon_first : (s : List ℕ) (f x : ℕ) → f < length s → get_or s f 0 ≡ x → Sought s f x f
-soon_first s f x h e = seeking_hit s f x f (seeking_start s f x (omega arith)) h e
-
-pub soon_second : (s : List ℕ) (f x : ℕ) → f + 1 < length s → (get_or s f 0 ≡ x → ⊥) → get_or s (f + 1) 0 ≡ x → Sought s f x (f + 1)
-soon_second s f x h n e = seeking_hit s f x (f + 1) (seeking_miss s f x f (seeking_start s f x (omega arith)) (omega arith) n) h e

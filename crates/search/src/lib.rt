@@ -118,36 +118,35 @@ pub fn find_byte(s: &[u8], from: usize, x: u8) -> usize
     find_in_32(s, at, x)
 }
 
-// The same. Two bytes are looked at before the rest, for parts that may be short, and many of which follow one another.
-pub fn find_soon(s: &[u8], from: usize, x: u8) -> usize
+// The same. So many bytes are looked at one by one before the rest.
+fn find_after<const FEW: usize>(s: &[u8], from: usize, x: u8) -> usize
     requires { from ≤ length s.now }
     ensures { Sought s.now from x result }
 {
-    if 2 <= s.len() - from {
-        if s[from] == x {
-            return from;
-        }
-        let next = from + 1;
-        if s[next] == x {
-            return next;
-        }
-    }
-    find_byte(s, from, x)
-}
-
-// The same. 24 bytes are looked at one by one before the rest, for a byte that mostly stands among them.
-pub fn find_near(s: &[u8], from: usize, x: u8) -> usize
-    requires { from ≤ length s.now }
-    ensures { Sought s.now from x result }
-{
-    if s.len() - from < 24 {
+    if s.len() - from < FEW {
         return find_few(s, from, x);
     }
-    let few = from + 24;
+    let few = from + FEW;
     for i in from..few {
         if s[i] == x {
             return i;
         }
     }
     find_byte(s, few, x)
+}
+
+// The same, for parts that may be short, and many of which follow one another.
+pub fn find_soon(s: &[u8], from: usize, x: u8) -> usize
+    requires { from ≤ length s.now }
+    ensures { Sought s.now from x result }
+{
+    find_after::<2>(s, from, x)
+}
+
+// The same, for a byte that mostly stands among the first 24.
+pub fn find_near(s: &[u8], from: usize, x: u8) -> usize
+    requires { from ≤ length s.now }
+    ensures { Sought s.now from x result }
+{
+    find_after::<24>(s, from, x)
 }

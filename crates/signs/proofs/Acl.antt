@@ -5,23 +5,23 @@ use mathlib.Core.Path.{◌≡◌, refl, sym, ◌∙◌}
 use mathlib.Core.Bool.{Bool, true, false, not, ◌&&◌, ◌||◌}
 use mathlib.Core.List.{List, []}
 use native.Mathlib.Omega.{arith}
-use lib.ListN.{length, get_or, drop, length-drop, drop_of_length-le}
-use lib.Seq.{drop-drop, length-take-le}
+use lib.ListN.{length, get_or, take, drop, drop_of_length-le}
+use lib.Seq.{drop-drop}
 use lib.Dec.{leb, ltb, eqb}
 use borrow.Author.Tests.{eq-eqb, ne_eqb, le-leb, lt-leb, lt-ltb, le-ltb}
+use Rattle.std.proofs.lemmas.List.{take_rest}
 use Rattle.laws.proofs.Choice.{split_b, split≡, split≤, no_way}
 use Rattle.laws.specs.Numbers.{be32, le16}
 use Rattle.words.specs.Fields.{field_of}
 use Rattle.container.specs.Packets.{fragment, h4_packet}
-use Rattle.acl.specs.Reading.{between}
-use Rattle.acl.proofs.Parts.{byte_part, be32_part, be32_drop, drop_part}
+use Rattle.acl.proofs.Parts.{be32_drop}
 use Rattle.btsnoop.specs.Packets.{milliseconds, hci_packet, monitor_packet, packet_of}
-use Rattle.btsnoop.specs.Reading as btsnoop_reading
 use Rattle.pcap.specs.Packets as pcap_packets
-use Rattle.pcap.specs.Reading as pcap_reading
 use Rattle.pcap.specs.declared.Encoding.{Encoding}
 use Rattle.trace.specs.Formats.{record_head, packet_by}
-use Rattle.trace.specs.Walk.{RecordPre}
+use Rattle.trace.specs.Finding.{bytes_of}
+use Rattle.trace.proofs.Finding.{bytes_least}
+use Rattle.trace.specs.declared.record.Record.{Record}
 use Rattle.trace.specs.declared.Format.{Format}
 use Rattle.trace.specs.declared.Format.TheVariants.{Btsnoop as ByDatalink, Pcap as ByEncoding}
 use Rattle.signs.specs.Recorded.{is_acl, is_none}
@@ -45,87 +45,62 @@ monitor_sent flags e = rw (eq-eqb (flags % 65536) 4 e)
 pub monitor_else : (flags : ℕ) → (flags % 65536 ≡ 4 → ⊥) → eqb (flags % 65536) 5 ≡ (eqb (flags % 65536) 4 || eqb (flags % 65536) 5)
 monitor_else flags n = rw (ne_eqb (flags % 65536) 4 n)
 
-module _ (f : List ℕ) (lo end : ℕ) where
-  pub h4_some : lo < end → eqb (get_or f lo 0) 2 ≡ eqb (get_or (between f lo end) 0 0) 2
-  h4_some h = let z : lo + 0 ≡ lo = omega arith in rw (byte_part f lo (end - lo) 0 (omega arith), z)
+-- a slice up to the end
+abbrev rest : List ℕ → ℕ → List ℕ
+rest b n = take (length b - n) (drop n b)
 
-  pub h4_none : end ≤ lo → ltb lo end ≡ eqb (get_or (between f lo end) 0 0) 2
-  h4_none h = let z : end - lo ≡ 0 = omega arith in rw (le-ltb lo end h, z)
-
-module _ (f : List ℕ) (at end datalink : ℕ) (pre : btsnoop_reading.RecordPre f at end) (flags : ℕ) (e : flags ≡ be32 f (at + 8)) where
-  flags_part : be32 (between f at end) 8 ≡ flags
-  flags_part = be32_part f at (end - at) 8 (omega (arith, pre.least)) ∙ sym e
-
-  pub acl_monitor : datalink ≡ 2001 → (t : Bool) → t ≡ (eqb (flags % 65536) 4 || eqb (flags % 65536) 5) → t ≡ is_acl (ByDatalink datalink) (between f at end)
+module _ (b : List ℕ) (datalink flags : ℕ) (e : flags ≡ be32 b 8) where
+  pub acl_monitor : datalink ≡ 2001 → (t : Bool) → t ≡ (eqb (flags % 65536) 4 || eqb (flags % 65536) 5) → t ≡ is_acl (ByDatalink datalink) b
   unfolding is_acl
-  acl_monitor q t h = rw (eq-eqb datalink 2001 q, flags_part) h
+  acl_monitor q t h = rw (eq-eqb datalink 2001 q, ← e) h
 
   module _ (n : datalink ≡ 2001 → ⊥) where
-    pub acl_not : flags / 2 % 2 ≡ 1 → false ≡ is_acl (ByDatalink datalink) (between f at end)
+    pub acl_not : flags / 2 % 2 ≡ 1 → false ≡ is_acl (ByDatalink datalink) b
     unfolding is_acl
-    acl_not q = rw (ne_eqb datalink 2001 n, flags_part, eq-eqb (flags / 2 % 2) 1 q)
+    acl_not q = rw (ne_eqb datalink 2001 n, ← e, eq-eqb (flags / 2 % 2) 1 q)
 
     module _ (q : flags / 2 % 2 ≡ 1 → ⊥) where
-      pub acl_h4 : datalink ≡ 1002 → (t : Bool) → t ≡ eqb (get_or (between f (at + 24) end) 0 0) 2 → t ≡ is_acl (ByDatalink datalink) (between f at end)
+      pub acl_h4 : datalink ≡ 1002 → (t : Bool) → t ≡ eqb (get_or (rest b 24) 0 0) 2 → t ≡ is_acl (ByDatalink datalink) b
       unfolding is_acl
-      acl_h4 d t h =
-          let z : end - at - 24 ≡ end - (at + 24) = omega arith in
-          rw (ne_eqb datalink 2001 n, flags_part, ne_eqb (flags / 2 % 2) 1 q, eq-eqb datalink 1002 d, drop_part f at (end - at) 24 (omega (arith, pre.least)), z) h
+      acl_h4 d t h = rw (ne_eqb datalink 2001 n, ← e, ne_eqb (flags / 2 % 2) 1 q, eq-eqb datalink 1002 d, ← take_rest b 24) h
 
-      pub acl_plain : (datalink ≡ 1002 → ⊥) → true ≡ is_acl (ByDatalink datalink) (between f at end)
+      pub acl_plain : (datalink ≡ 1002 → ⊥) → true ≡ is_acl (ByDatalink datalink) b
       unfolding is_acl
-      acl_plain d = rw (ne_eqb datalink 2001 n, flags_part, ne_eqb (flags / 2 % 2) 1 q, ne_eqb datalink 1002 d)
+      acl_plain d = rw (ne_eqb datalink 2001 n, ← e, ne_eqb (flags / 2 % 2) 1 q, ne_eqb datalink 1002 d)
 
-module _ (f : List ℕ) (at end : ℕ) (pre : pcap_reading.RecordPre f at end) where
-  part_length : length (between f at end) ≡ end - at
-  part_length = length-take-le (end - at) (drop at f) (simp length-drop (omega (arith, pre.most)))
-
-  type_part_law : end - at - 20 ≡ end - (at + 20)
-  type_part_law = omega arith
-
-  pub directed_short : end - at < 20 → DirectedIs f at end false
+module _ (b : List ℕ) where
+  pub directed_short : length b < 20 → DirectedIs b false
   unfolding is_acl
   directed_short h = record {
     is = λ e. sym (
-        let l : length (between f at end) ≤ 20 = omega (arith, part_length) in
-        let n : drop 20 (between f at end) ≡ [] = drop_of_length-le (between f at end) l in
-        let z : eqb (get_or (drop 20 (between f at end)) 0 0) 2 ≡ false = rw n in
-        rw z (and_false (eqb (be32 (drop 16 (between f at end)) 0) 0 || eqb (be32 (drop 16 (between f at end)) 0) 1)));
+        let n : drop 20 b ≡ [] = drop_of_length-le b {i = 20} (omega arith) in
+        let z : eqb (get_or (drop 20 b) 0 0) 2 ≡ false = rw n in
+        rw z (and_false (eqb (be32 (drop 16 b) 0) 0 || eqb (be32 (drop 16 b) 0) 1)));
   }
 
-  module _ (h : 20 ≤ end - at) (way : ℕ) (w : way ≡ be32 f (at + 16)) where
-    way_part : be32 (drop 16 (between f at end)) 0 ≡ way
-    way_part = be32_drop (between f at end) 16 0 ∙ be32_part f at (end - at) (16 + 0) (omega arith) ∙ sym w
+  module _ (way : ℕ) (w : way ≡ be32 b 16) where
+    way_part : be32 (drop 16 b) 0 ≡ way
+    way_part = be32_drop b 16 0 ∙ sym w
 
-    pub directed_acl : way < 2 → (t : Bool) → t ≡ eqb (get_or (between f (at + 20) end) 0 0) 2 → DirectedIs f at end t
+    pub directed_acl : way < 2 → (t : Bool) → t ≡ eqb (get_or (rest b 20) 0 0) 2 → DirectedIs b t
     unfolding is_acl
     directed_acl g t q = record {
-      is = λ e. rw (way_part, drop_part f at (end - at) 20 (omega arith), type_part_law) (split≤ 1 way
+      is = λ e. rw (way_part, ← take_rest b 20) (split≤ 1 way
           (λ l. let z : way ≡ 1 = omega arith in rw (ne_eqb way 0 (λ y. absurd (omega arith)), eq-eqb way 1 z) q)
           (λ l. let z : way ≡ 0 = omega arith in rw (eq-eqb way 0 z) q));
     }
 
-    pub directed_other : 2 ≤ way → DirectedIs f at end (ltb way 2)
+    pub directed_other : 2 ≤ way → DirectedIs b (ltb way 2)
     unfolding is_acl
     directed_other g = record { is = λ e. rw (le-ltb way 2 g, way_part, ne_eqb way 0 (λ z. absurd (omega arith)), ne_eqb way 1 (λ z. absurd (omega arith))) }
 
 -- by the case that the format is
-module _ (g : Format) (f : List ℕ) (at end : ℕ) where
-  module _ (d : ℕ) (q : g ≡ ByDatalink d) where
-    pub flagged_pre : RecordPre g f at end → btsnoop_reading.RecordPre f at end
-    unfolding record_head
-    flagged_pre p = let h : at + 24 ≤ end = rw q at p.least in record { least = h; most = p.most; small = p.small }
+module _ (r : Record) (b : List ℕ) (s : b ≡ bytes_of r) where
+  pub acl_flagged : (d : ℕ) → r.format ≡ ByDatalink d → (t : Bool) → t ≡ is_acl (ByDatalink d) b → t ≡ is_acl r.format (bytes_of r)
+  acl_flagged d q t e = rw (q, ← s) e
 
-    pub acl_flagged : (t : Bool) → t ≡ is_acl (ByDatalink d) (between f at end) → t ≡ is_acl g (between f at end)
-    acl_flagged t e = rw q e
-
-  module _ (x : Encoding) (q : g ≡ ByEncoding x) where
-    pub directed_pre : RecordPre g f at end → pcap_reading.RecordPre f at end
-    unfolding record_head
-    directed_pre p = let h : at + 16 ≤ end = rw q at p.least in record { least = h; most = p.most; small = p.small }
-
-    pub acl_directed : (t : Bool) → DirectedIs f at end t → t ≡ is_acl g (between f at end)
-    acl_directed t e = rw q (e.is x)
+  pub acl_directed : (x : Encoding) → r.format ≡ ByEncoding x → (t : Bool) → DirectedIs b t → t ≡ is_acl r.format (bytes_of r)
+  acl_directed x q t e = rw (q, ← s) (e.is x)
 
 -- ---- its packet
 
@@ -269,21 +244,15 @@ acl_long (ByEncoding x) r h t = split≤ 21 (length r)
     let z : eqb (get_or (drop 20 r) 0 0) 2 ≡ false = rw n in
     no_way t (rw z (and_false (eqb (be32 (drop 16 r) 0) 0 || eqb (be32 (drop 16 r) 0) 1))))
 
-module _ (g : Format) (f : List ℕ) (at end : ℕ) (pre : RecordPre g f at end) (a : Bool) (h : a ≡ is_acl g (between f at end)) where
-  pub packet_lies : a ≡ true → (n : ℕ) → n ≡ before_packet g → at + n ≤ end
-  packet_lies e n q =
-      let k : length (between f at end) ≡ end - at = length-take-le (end - at) (drop at f) (simp length-drop (omega (arith, pre.most))) in
-      let l : before_packet g ≤ length (between f at end) = acl_long g (between f at end) (omega (arith, pre.least)) (sym h ∙ e) in
-      omega (arith, pre.least)
+module _ (r : Record) (a : Bool) (h : a ≡ is_acl r.format (bytes_of r)) where
+  module _ (e : a ≡ true) (n : ℕ) (q : n ≡ before_packet r.format) (b : List ℕ) (s : b ≡ bytes_of r) where
+    pub packet_lies : n ≤ length b
+    packet_lies = rw (q, s) (acl_long r.format (bytes_of r) (bytes_least r) (sym h ∙ e))
 
-  pub packet_lacks : a ≡ true → (n : ℕ) → n ≡ before_packet g → (t : Bool) → t ≡ lacks_data (between f (at + n) end) → t ≡ is_none (packet_by g (between f at end))
-  packet_lacks e n q t et =
-      let l : at + n ≤ end = packet_lies e n q in
-      let z : end - at - n ≡ end - (at + n) = omega arith in
-      et ∙ sym (acl_data g (between f at end) (sym h ∙ e) ∙ rw (← q, drop_part f at (end - at) n (omega arith), z))
+    pub packet_lacks : (t : Bool) → t ≡ lacks_data (rest b n) → t ≡ is_none (packet_by r.format (bytes_of r))
+    packet_lacks t et =
+        let z : rest b n ≡ drop n b = take_rest b n in
+        et ∙ sym (acl_data r.format (bytes_of r) (sym h ∙ e) ∙ rw (z, s, q))
 
-  pub packet_none : a ≡ false → not a ≡ is_none (packet_by g (between f at end))
-  packet_none e = rw e (sym (acl_none g (between f at end) (sym h ∙ e)))
-
-  pub packet_fits : a ≡ true → (n : ℕ) → n ≡ before_packet g → at + n < 18446744073709551616
-  packet_fits e n q = omega (arith, packet_lies e n q, pre.most, pre.small)
+  pub packet_none : a ≡ false → not a ≡ is_none (packet_by r.format (bytes_of r))
+  packet_none e = rw e (sym (acl_none r.format (bytes_of r) (sym h ∙ e)))

@@ -1,6 +1,6 @@
 -- Walking the records of a file with their places.
 use Prim.Native.Nat.{ℕ, ◌+◌, ◌-◌}
-use mathlib.Core.Path.{◌≡◌, refl, sym, ap, ◌∙◌}
+use mathlib.Core.Path.{◌≡◌, refl, ap, ◌∙◌}
 use mathlib.Core.List.{List, [], ◌∷◌, ◌++◌, map}
 use mathlib.Core.Option.{Option, none, some}
 use native.Mathlib.Omega.{arith}
@@ -11,13 +11,9 @@ use Rattle.container.specs.Packets.{Packet, or_none, packets}
 use Rattle.acl.specs.Reading.{between}
 use Rattle.trace.specs.Formats.{container_of, format_of, file_head, packet_by, records_from, records_by, packets_by}
 use Rattle.trace.proofs.Formats.{records_of, packets_of_law}
-use Rattle.trace.specs.Reader.{step_of}
 use Rattle.trace.specs.Walk.{RecordAt}
-use Rattle.trace.proofs.ReaderLaws.{record_told, all_met}
 use Rattle.trace.specs.declared.Container.{Container}
 use Rattle.trace.specs.declared.Format.{Format}
-use Rattle.trace.specs.declared.Step.{Step}
-use Rattle.trace.specs.declared.Step.TheVariants.{Record}
 use Rattle.signs.specs.Places.{Placed, placed, placed_packet, placed_packets, records_at, packets_at}
 
 module _ (g : Format) (f : List ℕ) where
@@ -55,14 +51,6 @@ module _ (g : Format) (f : List ℕ) where
     pub rest_none : records_from g f at ≡ [] → rest_at at ≡ []
     unfolding placed
     rest_none e = rw e
-
-    -- what a reader finds there
-    module _ (x : Step) (h : x ≡ step_of g f at) where
-      pub found_record : (e : ℕ) → x ≡ Record e → RecordAt g f at e
-      found_record e q = record_told g f at e (sym q ∙ h)
-
-      pub found_none : ((e : ℕ) → x ≡ Record e → ⊥) → rest_at at ≡ []
-      found_none n = rest_none (all_met g f at x h n)
 
 -- ---- without their places they are the records and packets of import
 

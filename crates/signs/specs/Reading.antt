@@ -1,15 +1,14 @@
 -- How the code sees that a record is ACL data, and that it holds no packet.
 use Rattle.std.specs.Prelude.{ℕ, ◌+◌, ◌≡◌, Bool, cond, not, List, length, leb, eqb}
 use Rattle.laws.specs.Numbers.{le16}
-use Rattle.acl.specs.Reading.{between}
 use Rattle.pcap.specs.declared.Encoding.{Encoding}
 use Rattle.trace.specs.declared.Format.{Format}
 use Rattle.trace.specs.declared.Format.TheVariants.{Btsnoop as ByDatalink, Pcap as ByEncoding}
 use Rattle.signs.specs.Recorded.{is_acl}
 
 -- ACL data in a record of pcap, however its numbers are written
-pub record DirectedIs (f : List ℕ) (at end : ℕ) (r : Bool) : Type 0 where
-  pub is : (e : Encoding) → r ≡ is_acl (ByEncoding e) (between f at end)
+pub record DirectedIs (b : List ℕ) (r : Bool) : Type 0 where
+  pub is : (e : Encoding) → r ≡ is_acl (ByEncoding e) b
 
 -- a field of the packet, or its data, is not all there
 unfoldable pub lacks_data : List ℕ → Bool

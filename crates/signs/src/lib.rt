@@ -2,18 +2,15 @@
 #![tactic(auto)]
 
 ghost use Rattle.std.specs.Prelude.{◌≡◌, ◌||◌, ◌%◌, ◌≤◌, eqb, length, get_or};
-ghost use Rattle.acl.specs.Reading.{between};
-ghost use Rattle.btsnoop.specs.Reading as btsnoop_reading;
-ghost use Rattle.pcap.specs.Reading as pcap_reading;
 ghost use Rattle.trace.specs.Formats.{packet_by};
-ghost use Rattle.trace.specs.Walk.{RecordPre};
+ghost use Rattle.trace.specs.Finding.{bytes_of};
 ghost use Rattle.trace.specs.declared.Format.TheVariants.{Btsnoop as ByDatalink};
 ghost use Rattle.signs.specs.Counting.{noted, NotePre};
 ghost use Rattle.signs.specs.Recorded.{is_acl, is_none};
 ghost use Rattle.signs.specs.Reading.{DirectedIs, lacks_data, before_packet};
 
 use btsnoop::{H4, MONITOR};
-use trace::Format;
+use trace::{Format, Record};
 use words::{field16, get_be32};
 
 // How often a sign comes, and the byte at which the record starts that shows it first; 0 if none does.
@@ -49,19 +46,18 @@ fn is_monitor_acl(flags: u32) -> bool
 }
 
 // Whether an H4 packet's first byte is there and says ACL data.
-fn is_h4_acl(file: &[u8], lo: usize, end: usize) -> bool
-    requires { end ≤ length file.now }
-    ensures { result ≡ eqb (get_or (between file.now lo end) 0 0) 2 }
+fn is_h4_acl(packet: &[u8]) -> bool
+    ensures { result ≡ eqb (get_or packet.now 0 0) 2 }
 {
-    lo < end && file[lo] == 2
+    !packet.is_empty() && packet[0] == 2
 }
 
-// Whether the record of a btsnoop file from one place up to another is ACL data by its flags.
-fn is_flagged_acl(file: &[u8], at: usize, end: usize, datalink: u32) -> bool
-    requires { btsnoop_reading.RecordPre file.now at end }
-    ensures { result ≡ is_acl (ByDatalink datalink) (between file.now at end) }
+// Whether a record of a btsnoop file is ACL data by its flags.
+fn is_flagged_acl(bytes: &[u8], datalink: u32) -> bool
+    requires { 24 ≤ length bytes.now }
+    ensures { result ≡ is_acl (ByDatalink datalink) bytes.now }
 {
-    let flags = get_be32(file, at + 8);
+    let flags = get_be32(bytes, 8);
     if datalink == MONITOR {
         return is_monitor_acl(flags);
     }
@@ -69,44 +65,41 @@ fn is_flagged_acl(file: &[u8], at: usize, end: usize, datalink: u32) -> bool
         return false;
     }
     if datalink == H4 {
-        return is_h4_acl(file, at + 24, end);
+        return is_h4_acl(&bytes[24..]);
     }
     true
 }
 
-// Whether the record of a pcap file from one place up to another is ACL data by its direction and the byte after it.
-fn is_directed_acl(file: &[u8], at: usize, end: usize) -> bool
-    requires { pcap_reading.RecordPre file.now at end }
-    ensures { DirectedIs file.now at end result }
+// Whether a record of a pcap file is ACL data by its direction and the byte after it.
+fn is_directed_acl(bytes: &[u8]) -> bool
+    ensures { DirectedIs bytes.now result }
 {
-    if end - at < 20 {
+    if bytes.len() < 20 {
         return false;
     }
-    let way = get_be32(file, at + 16);
-    way < 2 && is_h4_acl(file, at + 20, end)
+    let way = get_be32(bytes, 16);
+    way < 2 && is_h4_acl(&bytes[20..])
 }
 
-// Whether the record from one place up to another is ACL data.
-pub fn is_acl(file: &[u8], at: usize, end: usize, format: Format) -> bool
-    requires { RecordPre format file.now at end }
-    ensures { result ≡ is_acl format (between file.now at end) }
+// Whether a record is ACL data.
+pub fn is_acl(r: Record) -> bool
+    ensures { result ≡ is_acl r.entry.format (bytes_of r.entry) }
 {
-    match format {
-        Format::Btsnoop(datalink) => is_flagged_acl(file, at, end, datalink),
-        Format::Pcap(_) => is_directed_acl(file, at, end),
+    let bytes = r.bytes();
+    match r.format {
+        Format::Btsnoop(datalink) => is_flagged_acl(bytes, datalink),
+        Format::Pcap(_) => is_directed_acl(bytes),
     }
 }
 
-// Whether a field of an ACL packet, or its data, is not all there between two places.
-fn lacks_data(file: &[u8], lo: usize, end: usize) -> bool
-    requires { (lo ≤ end) × (end ≤ length file.now) }
-    ensures { result ≡ lacks_data (between file.now lo end) }
+// Whether a field of an ACL packet, or its data, is not all there.
+fn lacks_data(packet: &[u8]) -> bool
+    ensures { result ≡ lacks_data packet.now }
 {
-    let b = &file[lo..end];
-    let Some(n) = field16(b, 2) else {
+    let Some(n) = field16(packet, 2) else {
         return true;
     };
-    b.len() < 4 + usize::from(n)
+    packet.len() < 4 + usize::from(n)
 }
 
 // How many bytes of a record of ACL data stand before its packet.
@@ -120,10 +113,9 @@ fn before_packet(format: Format) -> usize
     }
 }
 
-// Whether the record from one place up to another holds no ACL packet that import takes. It does not read the packet.
-pub fn lacks_packet(file: &[u8], at: usize, end: usize, format: Format) -> bool
-    requires { RecordPre format file.now at end }
-    ensures { result ≡ is_none (packet_by format (between file.now at end)) }
+// Whether a record holds no ACL packet that import takes. It does not read the packet.
+pub fn lacks_packet(r: Record) -> bool
+    ensures { result ≡ is_none (packet_by r.entry.format (bytes_of r.entry)) }
 {
-    !is_acl(file, at, end, format) || lacks_data(file, at + before_packet(format), end)
+    !is_acl(r) || lacks_data(&r.bytes()[before_packet(r.format)..])
 }

@@ -14,7 +14,7 @@ use Rattle.laws.proofs.Choice.{split≤}
 use Rattle.words.specs.Words.{word, put_word}
 use Rattle.words.proofs.Words.{length_put, word_put_same, word_put_other}
 use Rattle.sorting.specs.Sort.{insert, isort, merge}
-use Rattle.sorting.specs.Steps.{name_at, HeadOf, first_of, le_at, words, Kept, Apart, Copies, Rotates, HeadIs, MergePre, Merges, Halves, Joins, Pairs, Sorts}
+use Rattle.sorting.specs.Steps.{name_at, HeadOf, first_of, le_at, words, Kept, Apart, Copies, Rotates, HeadIs, MergePre, Merges, HalvesIn, Joins, Pairs, Sorts}
 use Rattle.sorting.specs.declared.Head.{Head}
 use Rattle.sorting.proofs.Sorting.{isort_append, merge_met, merge_turned}
 use Rattle.sorting.proofs.Names.{name_trans, name_total}
@@ -282,7 +282,7 @@ at_total l x y = name_total (name_at l x) (name_at l y)
 
 -- ---- joining
 
-module _ (l : List ℕ) (lo h m top : ℕ) (w : List ℕ) (d : Halves lo h m top w) where
+module _ (l : List ℕ) (lo h m top : ℕ) (w : List ℕ) (d : HalvesIn lo h m top w) where
   merged_all : (p q : List ℕ) → words w lo h ≡ isort (le_at l) p → words w (lo + h) m ≡ isort (le_at l) q → merge (le_at l) (words w lo h) (words w (lo + h) m) ≡ isort (le_at l) (p ++ q)
   merged_all p q f g = rw (f, g) (sym (isort_append (le_at l) (at_trans l) (at_total l) p q))
 

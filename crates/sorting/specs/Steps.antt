@@ -70,7 +70,7 @@ pub record Merges (l : List ℕ) (lo h m top : ℕ) (w u : List ℕ) : Type 0 wh
   pub kept : Kept lo (lo + h + m) top w u
 
 -- h words from lo on and m words behind them, at least one of each, and room for h words from top on
-pub record Halves (lo h m top : ℕ) (w : List ℕ) : Type 0 where
+pub record HalvesIn (lo h m top : ℕ) (w : List ℕ) : Type 0 where
   pub left : 0 < h
   pub right : 0 < m
   pub apart : lo + h + m ≤ top

@@ -3,7 +3,7 @@
 
 ghost use Rattle.std.specs.Prelude.{◌≡◌, ◌+◌, ◌*◌, ◌/◌, ◌≤◌, length};
 ghost use Rattle.words.specs.Words.{word};
-ghost use Rattle.sorting.specs.Steps.{name_at, HeadOf, first_of, HeadIs, Apart, Copies, Rotates, MergePre, Merges, Halves, Joins, Pairs, Sorts};
+ghost use Rattle.sorting.specs.Steps.{name_at, HeadOf, first_of, HeadIs, Apart, Copies, Rotates, MergePre, Merges, HalvesIn, Joins, Pairs, Sorts};
 
 use counter::rank_of;
 use lexical::bytes_le;
@@ -87,31 +87,33 @@ fn copy_words(out: &mut [u8], lo: usize, n: usize, to: usize)
     }
 }
 
-// Changes the h words from lo on and the m words behind them round. The words from top on are free.
-fn rotate_words(out: &mut [u8], lo: usize, h: usize, m: usize, top: usize)
-    requires { (lo + h + m ≤ top) × (4 * (top + h) ≤ length out.old) }
-    ensures { Rotates lo h m top out.old out.new }
+// Two halves: the h words from lo on and the m words behind them. The words from top on are free.
+#[derive(Clone, Copy)]
+struct Halves {
+    lo: usize,
+    h: usize,
+    m: usize,
+    top: usize,
+}
+
+// Changes two halves round.
+fn rotate_words(out: &mut [u8], halves: Halves)
+    requires { (halves.lo + halves.h + halves.m ≤ halves.top) × (4 * (halves.top + halves.h) ≤ length out.old) }
+    ensures { Rotates halves.lo halves.h halves.m halves.top out.old out.new }
 {
+    let Halves { lo, h, m, top } = halves;
     copy_words(out, lo, h, top);
     copy_words(out, lo + h, m, lo);
     copy_words(out, top, h, lo + m);
 }
 
-// Merges the h words from top on and the m words behind h from lo on, to the words from lo on. The first names of both are
+// Merges two halves, of which the first was copied to the free words, to the words from lo on. The first names of both are
 // given; a name is read when its turn comes, and stays read until it is written.
-fn merge_words(
-    names: &[u8],
-    out: &mut [u8],
-    lo: usize,
-    h: usize,
-    m: usize,
-    top: usize,
-    first: Head,
-    second: Head,
-)
-    requires { MergePre names.now lo h m top out.old first second }
-    ensures { Merges names.now lo h m top out.old out.new }
+fn merge_words(names: &[u8], out: &mut [u8], halves: Halves, first: Head, second: Head)
+    requires { MergePre names.now halves.lo halves.h halves.m halves.top out.old first second }
+    ensures { Merges names.now halves.lo halves.h halves.m halves.top out.old out.new }
 {
+    let Halves { lo, h, m, top } = halves;
     let mut i = 0;
     let mut j = 0;
     let mut a = first;
@@ -129,12 +131,13 @@ fn merge_words(
     }
 }
 
-// Joins two sorted halves, the h words from lo on and the m words behind them. The words from top on are free. Halves that
-// meet in order stay as they are, and halves that are wholly the wrong way round change places.
-fn join_halves(names: &[u8], out: &mut [u8], lo: usize, h: usize, m: usize, top: usize)
-    requires { Halves lo h m top out.old }
-    ensures { Joins names.now lo h m top out.old out.new }
+// Joins two sorted halves. Halves that meet in order stay as they are, and halves that are wholly the wrong way round change
+// places.
+fn join_halves(names: &[u8], out: &mut [u8], halves: Halves)
+    requires { HalvesIn halves.lo halves.h halves.m halves.top out.old }
+    ensures { Joins names.now halves.lo halves.h halves.m halves.top out.old out.new }
 {
+    let Halves { lo, h, m, top } = halves;
     let a = head_at(names, out, lo + h - 1);
     let b = head_at(names, out, lo + h);
     if is_first(names, a, b) {
@@ -144,10 +147,10 @@ fn join_halves(names: &[u8], out: &mut [u8], lo: usize, h: usize, m: usize, top:
     let y = head_at(names, out, lo + h + m - 1);
     if is_first(names, x, y) {
         copy_words(out, lo, h, top);
-        merge_words(names, out, lo, h, m, top, x, b);
+        merge_words(names, out, halves, x, b);
         return;
     }
-    rotate_words(out, lo, h, m, top);
+    rotate_words(out, halves);
 }
 
 // Sorts two words.
@@ -180,5 +183,5 @@ pub fn sort(names: &[u8], out: &mut [u8], lo: usize, n: usize, top: usize)
     let m = n - h;
     sort(names, out, lo, h, top);
     sort(names, out, lo + h, m, top);
-    join_halves(names, out, lo, h, m, top);
+    join_halves(names, out, Halves { lo, h, m, top });
 }

@@ -100,6 +100,7 @@ fn add_span(t: Tally, wire: &[u8]) -> Tally
 }
 
 // Counts the spans of a buffer.
+// Stays: this walk and write_part share next_span; one walk for both takes a law of what is done with a span, and is longer.
 pub fn count_part(buffer: &[u8], t: Tally) -> Counted
     requires { Room t (length buffer.now) }
     ensures { CountedIs buffer.now t result }

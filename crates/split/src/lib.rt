@@ -31,6 +31,7 @@ pub struct Plan {
 // ---- the table of pieces
 
 // The length of a piece.
+// Stays: counting writes w between two reads, so a struct of file, w and p is made anew for each, and contracts name all three.
 pub fn length_of(w: &[u8], p: Plan, i: usize) -> usize
     requires { Row w.now p i }
     ensures { result ≡ len_at w.now p i }
@@ -55,7 +56,7 @@ fn is_joined(w: &[u8], p: Plan, i: usize) -> bool
 }
 
 // The piece of its key before piece i, if there is one. The word has one more than its number.
-fn earlier(w: &[u8], p: Plan, i: usize) -> Option<usize>
+pub fn earlier(w: &[u8], p: Plan, i: usize) -> Option<usize>
     requires { Chain w.now p i }
     ensures { Earlier w.now p i (one_more result) }
 {

@@ -35,6 +35,7 @@ fn on_channel(channel: Option<u8>, dlci: u32) -> bool
 }
 
 // Where the tables lie in work, for a file of 4 * q bytes or a little more.
+#[tactic(auto, unfolding(crate::specs::Streams::plan_of))]
 pub fn plan(q: usize, n: usize, dlci: u32) -> Plan
     requires { (q ≤ 1048576) × (n ≤ 1048576) }
     ensures { result ≡ plan_of q n dlci }
@@ -52,6 +53,7 @@ pub fn plan(q: usize, n: usize, dlci: u32) -> Plan
 
 // A DLCI with what is counted of it. In spans is what their list has beside the 14 bytes before each wire; dropped is what of the
 // bytes taken in is in no span, was not cleared and is not left.
+#[tactic(auto, unfolding(crate::specs::Streams::stream_summed))]
 fn stream_of(dlci: u32, s: Sums) -> Stream
     requires { Accountable dlci s }
     ensures { result ≡ stream_summed dlci s }

@@ -1,4 +1,5 @@
 -- The walk from the last piece to the first, by which every piece is told what its key holds at the end.
+use Rattle.std.specs.Prelude.{Option, None, Some}
 use Prim.Native.Nat.{ℕ, zero, suc, ◌+◌, ◌-◌, ◌*◌, ◌<◌, ◌≤◌}
 use mathlib.Core.Path.{◌≡◌, refl, sym, ◌∙◌}
 use mathlib.Core.List.{List}
@@ -12,26 +13,39 @@ use Rattle.words.proofs.Words.{word_put_same, word_put_other}
 use Rattle.words.specs.Front.{Front}
 use Rattle.words.proofs.Front.{front_refl, front_then, front_put, front_word}
 use Rattle.split.specs.Rows.{key_at, tail_at, held_in, newest_of, Linked}
-use Rattle.split.specs.Walks.{Chain}
-use Rattle.split.proofs.Tables.{newest_less, newest_mine, earlier_is}
+use Rattle.split.specs.Walks.{Chain, Earlier, one_more}
+use Rattle.split.proofs.Tables.{newest_less, newest_mine, before_less}
 use Rattle.split.specs.declared.Plan.{Plan}
 use Rattle.stretches.specs.Listing.{ListRoom, Handed, SpreadPre, Spread}
 
 -- ---- one piece
 
-module _ (w : List ℕ) (p : Plan) (i : ℕ) (c : Chain w p i) (j : ℕ) (ej : j ≡ word w (p.chain + i)) where
-  back_less : j ≤ i
-  back_less = (earlier_is w p i c j ej).less
+module _ (w : List ℕ) (p : Plan) (i : ℕ) (c : Chain w p i) (o : Option ℕ) (b : Earlier w p i (one_more o)) where
+  chain_word : one_more o ≡ word w (p.chain + i)
+  chain_word = b.newest ∙ sym (c.linked.before i c.row.row)
 
-  pub back_room : 0 < j → 4 * (p.held + (j - 1)) + 4 ≤ length w
-  back_room h = omega (arith, back_less, c.row.row, c.row.ends, c.row.words)
+  pub handed_none : o ≡ None → Handed w p i w
+  unfolding one_more
+  handed_none z =
+      let n : 0 ≡ word w (p.chain + i) = rw z at chain_word in
+      record { front = front_refl (4 * p.held) w; told = λ h. absurd (omega (arith, n)); kept = λ j h. refl }
 
-  pub handed : 0 < j → (h : ℕ) → h ≡ word w (p.held + i) → (u : List ℕ) → u ≡ put_word w (p.held + (j - 1)) h → Handed w p i u
-  handed o h eh u eu = record {
-    front = rw eu (front_put (4 * p.held) w (p.held + (j - 1)) h (omega arith));
-    told = λ z. rw (← ej, eu) (word_put_same w (p.held + (j - 1)) h (back_room o) ∙ eh);
-    kept = λ k n. rw eu (word_put_other w (p.held + (j - 1)) h (p.held + k) (λ e. n (sym ej ∙ omega arith)));
-  }
+  module _ (j : ℕ) (z : o ≡ Some j) where
+    next : suc j ≡ word w (p.chain + i)
+    unfolding one_more
+    next = rw z at chain_word
+
+    pub back_room : 4 * (p.held + j) + 4 ≤ length w
+    back_room = omega (arith, before_less w p i o b j z, c.row.row, c.row.ends, c.row.words)
+
+    pub handed : (h : ℕ) → h ≡ word w (p.held + i) → (u : List ℕ) → u ≡ put_word w (p.held + j) h → Handed w p i u
+    handed h eh u eu =
+        let k : word w (p.chain + i) - 1 ≡ j = omega (arith, next) in
+        record {
+          front = rw eu (front_put (4 * p.held) w (p.held + j) h (omega arith));
+          told = λ l. rw (k, eu) (word_put_same w (p.held + j) h back_room ∙ eh);
+          kept = λ m n. rw eu (word_put_other w (p.held + j) h (p.held + m) (λ e. n (omega (arith, next, e))));
+        }
 
 -- ---- what a key holds stands at its newest piece
 

@@ -7,7 +7,7 @@ ghost use Rattle.split.specs.Walks.{Chain};
 ghost use Rattle.stretches.specs.Filled.{stretch_at, filled};
 ghost use Rattle.stretches.specs.Listing.{ListRoom, RowIn, Handed, SpreadPre, Spread, is_open, row_stretch, words_of, AddPre, Added, SpreadListed, OpenListed};
 
-use split::Plan;
+use split::{Plan, earlier};
 use words::{get32, put32};
 
 // A stretch and direction with bytes held: 2 * link + direction, where a link is 4096 times the adapter's index plus the handle;
@@ -65,10 +65,9 @@ fn hand_back(w: &mut [u8], p: Plan, i: usize)
     requires { Chain w.old p i }
     ensures { Handed w.old p i w.new }
 {
-    let j = get32(w, p.chain + i) as usize;
-    if 0 < j {
+    if let Some(j) = earlier(w, p, i) {
         let h = get32(w, p.held + i);
-        put32(w, p.held + (j - 1), h);
+        put32(w, p.held + j, h);
     }
 }
 
@@ -85,6 +84,7 @@ fn spread_back(w: &mut [u8], p: Plan)
 // ---- the stretches that are open at the end, listed in work
 
 // Whether piece i is the first of its key, of the DLCI, and something is held.
+// Stays: whether a piece came before is read off the word; `earlier` asks that the words link the pieces, which no one asks here.
 fn is_open(w: &[u8], p: Plan, i: usize) -> bool
     requires { RowIn w.now p i }
     ensures { result ≡ is_open w.now p i }

@@ -3,3 +3,4 @@ pub mod Headers
 pub mod Walk
 pub mod ReaderLaws
 pub mod Listings
+pub mod Finding

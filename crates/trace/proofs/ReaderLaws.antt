@@ -14,7 +14,7 @@ use Rattle.laws.specs.Lists.{flat}
 use Rattle.container.specs.Container.{is_whole, records_in}
 use Rattle.acl.specs.Reading.{between}
 use Rattle.trace.specs.Formats.{file_head, record_head, size_by, records_from, tail_by}
-use Rattle.trace.specs.Walk.{RecordAt, is_empty}
+use Rattle.trace.specs.Walk.{RecordAt, RecordPre, is_empty}
 use Rattle.trace.proofs.Formats.{head_least, size_least}
 use Rattle.trace.proofs.Walk.{records_eq, flat_step}
 use Rattle.trace.specs.declared.Format.{Format}
@@ -82,6 +82,9 @@ module _ (g : Format) (f : List ℕ) (at : ℕ) where
         list = whole_list w ∙ rw (drop-drop (size_by g (drop at f)) at f, ← s, m);
       })
       (λ w. let z : Record e ≡ Cut at = q ∙ rw (lt-ltb at (length f) h, w) in no_way refl (ap is_record z)))
+
+  pub whole_told : length f ≤ 1048576 → (x : Step) → x ≡ step_of g f at → (e : ℕ) → x ≡ Record e → RecordPre g f at e
+  whole_told s x h e q = let r : RecordAt g f at e = record_told e (sym q ∙ h) in record { least = r.least; most = r.most; small = s }
 
   pub none_told : is_record (step_of g f at) ≡ false → records_from g f at ≡ []
   unfolding step_of

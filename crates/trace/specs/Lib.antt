@@ -4,3 +4,4 @@ pub mod Walk
 pub mod Reader
 pub mod Listing
 pub mod Listings
+pub mod Finding

@@ -7,8 +7,12 @@ ghost use Rattle.trace.specs.Headers.{btsnoop_refusal, pcap_refusal, HeaderIs};
 ghost use Rattle.trace.specs.Reader.{step_of, Starts, Moves};
 ghost use Rattle.trace.specs.Listing.{Lists};
 ghost use Rattle.trace.specs.Listings.{WalkedTo};
+ghost use Rattle.trace.specs.Finding.{Found};
+
+mod record;
 
 use pcap::Encoding;
+pub use record::Record;
 
 // The container of a trace's file. The caller says which; nothing is guessed.
 #[derive(Clone, Copy)]
@@ -168,6 +172,22 @@ pub fn read_at(file: &[u8], at: usize, format: Format) -> Step
     ensures { result ≡ step_of format file.now at }
 {
     next_step(Reader { file, at }, format)
+}
+
+// The whole record at an offset, if there is one.
+pub fn record_at<'a>(file: &'a [u8], at: usize, format: Format) -> Option<Record<'a>>
+    requires { length file.now ≤ 1048576 }
+    ensures { Found format file.entry at result }
+{
+    let Step::Record(end) = read_at(file, at, format) else {
+        return None;
+    };
+    Some(Record {
+        file,
+        format,
+        at,
+        end,
+    })
 }
 
 // What walking the records finds: how many there are, and the tail offset.

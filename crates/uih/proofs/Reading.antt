@@ -110,10 +110,13 @@ module _ (fcs : Bool) (b : List ℕ) (pre : UihPre b) where
       uih_unchecked z = split_b (is_right b) (λ e. as_uih (frame_is true e)) (λ e. record { shows = rw (frame_is false e, z, shown); lies = lies })
 
       -- the byte after the information, and the check
-      module _ (x y : ℕ) (ex : x ≡ get_or b (2 + l.width + c + l.value) 0) (ey : y ≡ fcs_of (get_or b 0 0 ∷ get_or b 1 0 ∷ [])) where
+      module _ (y : ℕ) (ey : y ≡ fcs_of (get_or b 0 0 ∷ get_or b 1 0 ∷ [])) where
+        abbrev x : ℕ
+        x = get_or b (2 + l.width + c + l.value) 0
+
         right_is : is_right b ≡ eqb x y
         unfolding is_right
-        right_is = rw (ex, ey, start_is, is.value)
+        right_is = rw (ey, start_is, is.value)
 
         pub uih_right : x ≡ y → FrameIs fcs b (Found (record { dlci = d; start = 2 + l.width + c; len = l.value }))
         uih_right e = as_uih (frame_is true (right_is ∙ eq-eqb x y e))

@@ -6,8 +6,6 @@ ghost use Rattle.uih.specs.Fcs.{fcs_of};
 ghost use Rattle.uih.specs.Frames.{is_sabm, is_uih};
 ghost use Rattle.uih.specs.Reading.{UihPre, FrameIs, LengthIs};
 
-use words::wide;
-
 // A UIH frame in a payload: its DLCI, where its information starts, and its length.
 #[derive(Clone, Copy)]
 pub struct Uih {
@@ -52,7 +50,7 @@ fn read_length(p: &[u8]) -> Length
     requires { 4 ≤ length p.now }
     ensures { LengthIs p.now result }
 {
-    let first = wide(p[2]);
+    let first = p[2] as usize;
     if first % 2 == 1 {
         return Length {
             width: 1,
@@ -61,7 +59,7 @@ fn read_length(p: &[u8]) -> Length
     }
     Length {
         width: 2,
-        value: first / 2 + 128 * wide(p[3]),
+        value: first / 2 + 128 * (p[3] as usize),
     }
 }
 
@@ -86,7 +84,7 @@ fn fcs_of(address: u8, control: u8) -> usize
     requires { is_uih control ≡ true }
     ensures { result ≡ fcs_of (address ∷ control ∷ []) }
 {
-    let s = 16 * wide(address);
+    let s = 16 * (address as usize);
     let t = s ^ (s / 4) ^ (s / 16);
     let over = 16 * (t % 16);
     let a = (t / 16) ^ over ^ (over / 2) ^ (over / 4);
@@ -116,7 +114,8 @@ fn read_uih(p: &[u8], fcs: bool) -> Frame
         len,
     };
     if fcs {
-        if wide(p[start + len]) != fcs_of(p[0], p[1]) {
+        let found = p[start + len] as usize;
+        if found != fcs_of(p[0], p[1]) {
             return Frame::WrongFcs(u);
         }
     }

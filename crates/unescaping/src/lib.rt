@@ -16,7 +16,7 @@ use mdr::UnpackError;
 fn breaks(b: u8, e: u8) -> bool
     ensures { result ≡ is_breach b e }
 {
-    b == 0x3D && !is_within(e, 0x2C, 0x2E)
+    b == 0x3D && !is_within::<0x2C, 0x2E>(e)
 }
 
 // How many 3D before the last byte are not followed by 2C, 2D or 2E. There is no early way out, so that the loop runs
@@ -47,7 +47,7 @@ pub fn first_flaw(s: &[u8], from: usize) -> Result<(), UnpackError>
                 return Err(UnpackError::TrailingSentry);
             }
             let e = s[i];
-            if !is_within(e, 0x2C, 0x2E) {
+            if !is_within::<0x2C, 0x2E>(e) {
                 return Err(UnpackError::BadEscapee(e));
             }
             i += 1;
@@ -108,7 +108,7 @@ pub fn scan(s: &[u8]) -> Scanned
     while 192 < n - i {
         let j = i + 192;
         let k = j + 1;
-        let t = tally_few(&s[i..j], 0x3D, 0x3D);
+        let t = tally_few::<0x3D, 0x3D>(&s[i..j]);
         if is_kept(&s[i..k], t.hits) {
             sum = sum.wrapping_add(t.sum);
             hits += t.hits;
@@ -117,7 +117,7 @@ pub fn scan(s: &[u8]) -> Scanned
             return Scanned { sum, hits, at: i };
         }
     }
-    let t = tally_few(&s[i..n], 0x3D, 0x3D);
+    let t = tally_few::<0x3D, 0x3D>(&s[i..n]);
     sum = sum.wrapping_add(t.sum);
     hits += t.hits;
     if is_sound(&s[i..n], t.hits) {
@@ -244,7 +244,7 @@ fn fill_block(s: &[u8], from: usize, out: &mut [u8], at: usize, dense: bool) -> 
         return end;
     }
     let to = from + 16;
-    if is_bare(&s[from..to], 0x3D, 0x3D) {
+    if is_bare::<0x3D, 0x3D>(&s[from..to]) {
         copy_block(&s[from..to], out, at);
         return to;
     }

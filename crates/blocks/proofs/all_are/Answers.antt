@@ -2,10 +2,10 @@ use Rattle.blocks.proofs.Counting.{asking_start, asking_turn, asking_end}
 use Rattle.blocks.proofs.all_are.Goals as goal
 
 pub loop-b-init : goal.loop-b-init
-loop-b-init c = search asking_start
+loop-b-init g c = search asking_start
 
 pub loop-b-preserved : goal.loop-b-preserved
-loop-b-preserved c = search asking_turn
+loop-b-preserved g c = search asking_turn
 
 pub returns : goal.returns
-returns c = search asking_end
+returns g c = search asking_end

@@ -1,4 +1,4 @@
-use Rattle.blocks.proofs.Copying.{copied}
+use Rattle.laws.proofs.Stores.{copied}
 use Rattle.blocks.proofs.copy.Goals as goal
 
 pub returns : goal.returns

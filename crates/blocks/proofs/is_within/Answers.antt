@@ -3,10 +3,10 @@ use borrow.Author.Tests.{lt-leb}
 use Rattle.mdr.specs.Escape.{within}
 use Rattle.blocks.proofs.is_within.Goals as goal
 
-pub returns-then-lo-b : goal.returns-then-lo-b
+pub returns-then-b : goal.returns-then-b
 unfolding within
-returns-then-lo-b c = rw (le-leb _ _ c.if-lo-b.true)
+returns-then-b g c = rw (le-leb _ _ c.if-b.true)
 
-pub returns-else-lo-b : goal.returns-else-lo-b
+pub returns-else-b : goal.returns-else-b
 unfolding within
-returns-else-lo-b c = simp (lt-leb _ _ c.if-lo-b.false)
+returns-else-b g c = simp (lt-leb _ _ c.if-b.false)

@@ -3,7 +3,7 @@ use Rattle.blocks.proofs.Counting.{Tallying}
 use Rattle.blocks.proofs.tally.Given as goal
 
 abbrev pub invariant-loop-part : goal.invariant-loop-part
-invariant-loop-part l = record {
+invariant-loop-part g l = record {
   size : l.part-iterator.size ≡ 192;
-  tallies : Tallying l.s l.lo l.hi l.sum l.hits l.part-iterator.rest.now;
+  tallies : Tallying l.s g.row.LO g.row.HI l.sum l.hits l.part-iterator.rest.now;
 }

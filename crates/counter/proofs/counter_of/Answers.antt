@@ -1,17 +1,16 @@
-use Rattle.counter.proofs.Reading.{mark_short, unmarked, marked}
-use Rattle.counter.specs.Counter.{mark}
+use Rattle.counter.proofs.Reading.{unmarked, marked, mark_long}
+use Rattle.std.proofs.lemmas.List.{take_rest}
 use mathlib.Core.Path.{◌∙◌}
 use Rattle.counter.proofs.counter_of.Goals as goal
 
-pub returns-in_err-mark : goal.returns-in_err-mark
-returns-in_err-mark c = c.from_residual.ensures ∙ mark_short _ c.in_err-mark.ensures.cases
+pub slice_bounds-after_hyphen-count : goal.slice_bounds-after_hyphen-count
+slice_bounds-after_hyphen-count c = mark_long _ _ c.is_marked.ensures c.if-is_marked.true
 
-pub returns-then-same : goal.returns-then-same
-unfolding mark
-returns-then-same c =
-    c.read_signed.ensures
-    ∙ rw (c.after_hyphen.ensures, c.in_ok-mark.ensures.cases.2) (marked _ _ (rw c.in_ok-mark.ensures.cases.1 at c.same.ensures) c.if-same.true)
+pub returns-then-is_marked : goal.returns-then-is_marked
+returns-then-is_marked c = c.read_signed.ensures ∙ rw (c.after_hyphen.ensures, take_rest c.args.name.now 11) (marked _ _ c.is_marked.ensures c.if-is_marked.true)
 
 pub returns : goal.returns
-unfolding mark
-returns c = unmarked _ _ (rw c.in_ok-mark.ensures.cases.1 at c.same.ensures) c.if-same.false
+returns c = unmarked _ _ c.is_marked.ensures c.if-is_marked.false
+
+pub slice_bounds-after_hyphen-start : goal.slice_bounds-after_hyphen-start
+slice_bounds-after_hyphen-start c = mark_long _ _ c.is_marked.ensures c.if-is_marked.true

@@ -1,17 +1,18 @@
-use Rattle.leftover.proofs.Meeting.{leaving_start, leaving_pre, leaving_less, leaving_turn, leaving_end}
+use Rattle.trace.proofs.Finding.{found_less}
+use Rattle.leftover.proofs.Meeting.{leaving_start, leaving_pre, leaving_turn, leaving_end}
 use Rattle.leftover.proofs.left_open.Goals as goal
 
-pub loop-end-init : goal.loop-end-init
-loop-end-init c = search leaving_start
+pub loop-r-init : goal.loop-r-init
+loop-r-init c = search leaving_start
 
 pub meet-m-requires : goal.meet-m-requires
 meet-m-requires c = search leaving_pre
 
-pub loop-end-smaller : goal.loop-end-smaller
-loop-end-smaller c = search leaving_less
+pub loop-r-smaller : goal.loop-r-smaller
+loop-r-smaller c = search found_less
 
-pub loop-end-preserved : goal.loop-end-preserved
-loop-end-preserved c = search leaving_turn
+pub loop-r-preserved : goal.loop-r-preserved
+loop-r-preserved c = search leaving_turn
 
 pub returns : goal.returns
 returns c = search leaving_end

@@ -3,11 +3,10 @@ use lib.Dec.{eqb}
 use Rattle.std.proofs.Common.{rules, tests}
 use Rattle.std.proofs.lemmas.Iterator.{YieldsList-from_slice}
 use Rattle.std.proofs.lemmas.Iterator.Search.{all_from_yields_List}
-use Rattle.acl.specs.Reading.{between}
 use Rattle.recorded.proofs.Records.{zeros_all}
 use Rattle.recorded.proofs.is_zeros.Goals as goal
 
 pub returns : goal.returns
 returns c =
-    let b = between c.args.file.now c.args.at c.args.end in
+    let b = c.args.bytes.now in
     all_from_yields_List (λ x. eqb x 0) _ _ c.all.result c.all.ensures.ran (YieldsList-from_slice b cc) (λ x b q k. search (rules, tests)) ∙ zeros_all b

@@ -8,9 +8,6 @@ returns-in_default c = search lists_none
 pub returns-then-out-s : goal.returns-then-out-s
 returns-then-out-s c = lists_short _ _ _ _ _ _ c.choose_dlci.ensures _ _ c.in-Some.is c.if-out-s.true
 
-pub plan-p-requires : goal.plan-p-requires
-plan-p-requires c = (omega (arith, c.requires.tabled.small), omega (arith, c.requires.tabled.few, c.requires.tabled.small))
-
 pub write_spans-requires : goal.write_spans-requires
 write_spans-requires c = lists_pre _ _ _ _ _ _ c.choose_dlci.ensures c.args.out.now _ c.in-Some.is c.requires c.if-out-s.false (omega arith) _ c.plan-p.ensures
 

@@ -2,9 +2,6 @@ use Rattle.streams.proofs.Listing.{link_room, link_ready, link_lists}
 use native.Mathlib.Omega.{arith}
 use Rattle.streams.proofs.list_spans.Goals as goal
 
-pub plan-p-requires : goal.plan-p-requires
-plan-p-requires c = (omega (arith, c.requires.small), omega (arith, c.requires.few, c.requires.small))
-
 pub link_pieces-requires : goal.link_pieces-requires
 link_pieces-requires c = link_room _ _ _ c.requires _ c.plan-p.ensures
 

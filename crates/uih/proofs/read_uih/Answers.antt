@@ -7,11 +7,11 @@ returns-then-p-lt4 c = search uih_short
 pub returns-then-p-start : goal.returns-then-p-start
 returns-then-p-start c = search uih_missing
 
-pub returns-then-wide-fcs_of : goal.returns-then-wide-fcs_of
-returns-then-wide-fcs_of c = search uih_wrong
+pub returns-then-found-fcs_of : goal.returns-then-found-fcs_of
+returns-then-found-fcs_of c = search uih_wrong
 
-pub returns-else-wide-fcs_of : goal.returns-else-wide-fcs_of
-returns-else-wide-fcs_of c = search uih_right
+pub returns-else-found-fcs_of : goal.returns-else-found-fcs_of
+returns-else-found-fcs_of c = search uih_right
 
 pub returns-else-fcs : goal.returns-else-fcs
 returns-else-fcs c = search uih_unchecked

@@ -1,13 +1,9 @@
 use Rattle.writing.proofs.Writing.{writing_start, writing_pre, writing_turn, writing_skip, writing_end}
-use native.Mathlib.Omega.{arith}
 use Rattle.writing.proofs.write_spans.Goals as goal
 use Rattle.writing.proofs.write_spans.Goals.{then-get32-dlci, else-get32-dlci}
 
 pub loop-i-init : goal.loop-i-init
 loop-i-init c = search writing_start
-
-pub get32-requires : goal.get32-requires
-get32-requires c = omega (arith, c.requires.laid.rows, c.requires.laid.ends, c.requires.laid.area, c.requires.laid.room)
 
 pub write_piece-at-requires : goal.write_piece-at-requires
 write_piece-at-requires c = search writing_pre

@@ -1,5 +1,5 @@
 use Rattle.packets.proofs.Adding.{btsnoop_room, pcap_room, btsnoop_time, pcap_time}
-use Rattle.packets.proofs.time_at.Goals as goal
+use Rattle.packets.proofs.time_of.Goals as goal
 
 pub time_at-requires : goal.time_at-requires
 time_at-requires c = search btsnoop_room
