@@ -1,4 +1,4 @@
--- All names in one run of letters, each with its start and its length: those of both tables, of the types, UNKNOWN and NO_COMMAND.
+-- All names in one run of letters, each with its start: those of both tables, of the types, UNKNOWN and NO_COMMAND.
 use Rattle.std.specs.Prelude.{Option, Some, None, unwrap_or, ◌≡◌, Bool, true, false, cond, List, [], ◌∷◌, ◌++◌, map, ℕ, suc, ◌+◌, ◌<◌, ◌≤◌, leb, ltb, eqb, length, get_or, take, drop}
 use Rattle.laws.specs.Lists.{flat}
 use Rattle.mdr.specs.Types.{kinds}
@@ -32,15 +32,13 @@ all_names = commands ++ others
 unfoldable pub all_letters : List ℕ
 all_letters = flat all_names
 
+-- where each starts, and where the last ends
 abbrev pub starts_from : ℕ → List (List ℕ) → List ℕ
-starts_from at [] = []
+starts_from at [] = at ∷ []
 starts_from at (l ∷ ls) = at ∷ starts_from (at + length l) ls
 
 unfoldable pub all_starts : List ℕ
 all_starts = starts_from 0 all_names
-
-unfoldable pub all_lens : List ℕ
-all_lens = map length all_names
 
 -- the name with a number
 unfoldable pub name_at : ℕ → List ℕ
@@ -63,12 +61,6 @@ abbrev pub rising : List ℕ → Bool
 rising [] = true
 rising (x ∷ []) = true
 rising (x ∷ y ∷ l) = cond (ltb x y) (rising (y ∷ l)) false
-
--- each start and length stay within so many letters
-abbrev pub inside : ℕ → List ℕ → List ℕ → Bool
-inside n [] ls = true
-inside n (s ∷ ss) [] = false
-inside n (s ∷ ss) (l ∷ ls) = cond (leb (s + l) n) (inside n ss ls) false
 
 -- the first place of a number in a list, or the list's length
 unfoldable pub index_in : ℕ → List ℕ → ℕ

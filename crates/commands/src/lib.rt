@@ -4,7 +4,7 @@
 ghost use Rattle.std.specs.Prelude.{◌≡◌, true, ◌+◌, ◌≤◌, ◌<◌, length, take, drop};
 ghost use Rattle.laws.specs.Keys.{eq_k};
 ghost use Rattle.laws.specs.Stores.{Writes};
-ghost use Rattle.commands.specs.Run.{all_letters, all_starts, all_lens, all_codes, name_at, Spot, NameIs, rising, SpotIn, entries_of};
+ghost use Rattle.commands.specs.Run.{all_letters, all_starts, all_codes, name_at, Spot, NameIs, rising, SpotIn, entries_of};
 ghost use Rattle.commands.specs.Commands.{name_in, is_command_name};
 ghost use Rattle.commands.specs.Labels.{type_name, table_of, command_name};
 
@@ -60,7 +60,8 @@ static LETTERS: [u8; 4406] = *b"\
     DATAACKDATA_MC_NO1DATA_ICDDATA_EVDATA_MDRDATA_COMMONDATA_MDR_NO2SHOTSHOT_MC_NO1SHOT_ICDSHOT_EVSHOT_MDR\
     SHOT_COMMONSHOT_MDR_NO2UNKNOWNNO_COMMAND";
 
-static STARTS: [u16; 246] = [
+// Where each name starts, and where the last ends.
+static STARTS: [u16; 247] = [
     0, 25, 50, 77, 104, 127, 150, 178, 206, 214, 235, 256, 273, 290, 308, 324, 341, 361, 381, 397,
     413, 429, 446, 461, 476, 491, 507, 526, 545, 560, 575, 590, 606, 620, 634, 648, 663, 681, 698,
     716, 734, 748, 762, 777, 790, 803, 816, 830, 852, 874, 896, 919, 939, 959, 975, 991, 1008,
@@ -75,22 +76,8 @@ static STARTS: [u16; 246] = [
     3419, 3444, 3469, 3495, 3519, 3543, 3567, 3592, 3625, 3658, 3676, 3694, 3708, 3722, 3737, 3750,
     3763, 3776, 3790, 3810, 3830, 3846, 3862, 3878, 3895, 3910, 3925, 3940, 3956, 3980, 4001, 4022,
     4039, 4056, 4073, 4091, 4107, 4123, 4139, 4156, 4181, 4206, 4231, 4257, 4264, 4268, 4271, 4282,
-    4290, 4297, 4305, 4316, 4328, 4332, 4343, 4351, 4358, 4366, 4377, 4389, 4396,
+    4290, 4297, 4305, 4316, 4328, 4332, 4343, 4351, 4358, 4366, 4377, 4389, 4396, 4406,
 ];
-
-// Stays: apart, starts and lengths take 738 bytes; an array of structs would take 984.
-static LENS: [u8; 246] = *b"\
-    \x19\x19\x1B\x1B\x17\x17\x1C\x1C\x08\x15\x15\x11\x11\x12\x10\x11\x14\x14\x10\x10\x10\x11\x0F\x0F\
-    \x0F\x10\x13\x13\x0F\x0F\x0F\x10\x0E\x0E\x0E\x0F\x12\x11\x12\x12\x0E\x0E\x0F\x0D\x0D\x0D\x0E\x16\
-    \x16\x16\x17\x14\x14\x10\x10\x11\x0F\x0F\x0F\x10\x17\x17\x14\x14\x10\x10\x10\x11\x0F\x0F\x0F\x10\
-    \x14\x14\x10\x11\x0F\x10\x12\x12\x12\x12\x0E\x0E\x0E\x0F\x0D\x0D\x0D\x0E\x14\x14\x10\x10\x10\x11\
-    \x0F\x10\x13\x13\x0F\x0F\x0F\x10\x0E\x0E\x0E\x0F\x1C\x1C\x18\x18\x19\x17\x17\x17\x18\x0E\x0E\x1E\
-    \x1E\x1A\x1A\x1B\x19\x19\x19\x1A\x14\x14\x10\x10\x11\x0F\x0F\x0F\x10\x15\x15\x11\x11\x11\x12\x10\
-    \x10\x10\x11\x14\x14\x14\x15\x07\x1C\x1C\x14\x14\x10\x10\x10\x11\x0F\x0F\x0F\x10\x13\x13\x0F\x0F\
-    \x0F\x10\x0E\x0E\x0E\x0F\x17\x18\x1D\x1D\x19\x19\x19\x1A\x18\x18\x18\x19\x19\x1A\x18\x18\x18\x19\
-    \x21\x21\x12\x12\x0E\x0E\x0F\x0D\x0D\x0D\x0E\x14\x14\x10\x10\x10\x11\x0F\x0F\x0F\x10\x18\x15\x15\
-    \x11\x11\x11\x12\x10\x10\x10\x11\x19\x19\x19\x1A\x07\x04\x03\x0B\x08\x07\x08\x0B\x0C\x04\x0B\x08\
-    \x07\x08\x0B\x0C\x07\x0A";
 
 // The codes of table 1, then those of table 2.
 static CODES: [u8; 229] = *b"\
@@ -117,12 +104,6 @@ fn all_starts() -> &'static [u16]
     &STARTS
 }
 
-fn all_lens() -> &'static [u8]
-    ensures { result.now ≡ all_lens }
-{
-    &LENS
-}
-
 fn all_codes() -> &'static [u8]
     ensures { result.now ≡ all_codes }
 {
@@ -140,8 +121,9 @@ fn name_of(i: usize) -> &'static [u8]
     requires { i < 246 }
     ensures { NameIs i result.now }
 {
-    let start = all_starts()[i] as usize;
-    let end = start + all_lens()[i] as usize;
+    let starts = all_starts();
+    let start = starts[i] as usize;
+    let end = starts[i + 1] as usize;
     &all_letters()[start..end]
 }
 

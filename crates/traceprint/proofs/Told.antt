@@ -1,12 +1,12 @@
 -- What the answers of import and of the plan say in lines.
-use Rattle.std.proofs.Common.{ℕ, ◌≤◌, ◌≡◌, refl, sym, ap, ◌∙◌, subst, List, [], ◌∷◌, ◌++◌, append_assoc, length, take, codes, arith}
+use Rattle.std.proofs.Common.{ℕ, ◌≤◌, ◌≡◌, refl, sym, ap, ◌∙◌, subst, List, [], ◌∷◌, ◌++◌, append_assoc, length, take, codes, decimal, arith}
 use Rattle.std.proofs.Math.Option.{none}
 use Rattle.std.specs.Prelude.{Result, OnOk, Ok, Err}
 use Rattle.std.specs.declared.option.Option.{Option}
 use Rattle.std.specs.Io.KnownBytes.{Appends}
 use Rattle.std.proofs.KnownBytes.{Appends-trans}
 use Rattle.laws.specs.Lists.{All, all_nil, all_cons}
-use Rattle.laws.specs.Answers.{accepted, Outcome, gives, answer, Meets}
+use Rattle.laws.specs.Answers.{Answer, accepted, Outcome, gives, answer, Meets}
 use Rattle.items.specs.Items.{Item, item, name_item, wire_item, Listed, well_formed, ill_formed, Span, read_items, passing, spans_in, names_in}
 use Rattle.items.specs.Reading.{Fits, item_list}
 use Rattle.items.specs.Walks.{Walks, Good, items_from, check_of, held}
@@ -20,15 +20,18 @@ use Rattle.trace.specs.Headers.{told_refusal}
 use Rattle.outcome.specs.Import.{strict, by_source, imported}
 use Rattle.fixtures.specs.Plan.{Fixture, fixture_items, fixture_list, planned, plans, plan_of}
 use Rattle.fixtures.specs.Plan as plan
-use Rattle.fixtures.specs.Told.{told_planned}
+use Rattle.fixtures.specs.Told.{told_planned, told_plan_error}
 use Rattle.fixtures.specs.declared.Planned.{Planned}
 use Rattle.fixtures.specs.declared.PlanError.{PlanError}
+use Rattle.fixtures.specs.declared.PlanError.TheVariants.{SpansIll, NamesIll, OutShort as Short}
 use Rattle.capture.specs.Calls.{told_imported}
 use Rattle.capture.specs.declared.Summary.{Summary}
 use Rattle.std.specs.Prelude.{Ok, Err}
 use Rattle.capture.specs.declared.ImportError.{ImportError}
 use Rattle.capture.specs.declared.ImportError.TheVariants.{Refused, NoStream, OutShort}
-use Rattle.traceprint.specs.Lines.{lines_or, refusal_of, counts_line, any_item, name_lines, fixture_lines, fixtures_in, spans_lines, import_text, trace_lines}
+use Rattle.traceprint.specs.declared.Refused.{Refused as Line}
+use Rattle.traceprint.specs.Refusals.{values_of as values_in, told, refused_text}
+use Rattle.traceprint.specs.Lines.{spaced, lines_or, refusal_of, counts_line, any_item, name_lines, fixture_lines, fixtures_in, spans_lines, import_text, trace_lines}
 use Rattle.traceprint.proofs.Within.{accepts, not_given, plans_last, values_of, imported_written}
 
 -- what was printed is the text, and what was printed before it stands in front
@@ -116,6 +119,18 @@ module _ (l out out' : List ℕ) (n k : ℕ) (m : Meets (plan_of l []) out (acce
 pub plan_lines : (head l out out' : List ℕ) (r : Result Planned PlanError) → Meets (plan_of l []) out (told_planned r) out' → length out ≡ 65536 → lines_or (head ++ fixture_lines (fixtures_in l)) (told_planned r) ≡ spans_lines head l
 unfolding spans_lines
 plan_lines head l out out' r m e = let a : told_planned r ≡ answer (plan_of l []) 65536 = rw e at m.answers in rw (← a)
+
+told_unplanned : (text : List ℕ) (x : PlanError) → refusal_of (told_plan_error x) ≡ lines_or text (told_plan_error x)
+told_unplanned text (SpansIll n) = refl
+told_unplanned text (NamesIll n) = refl
+told_unplanned text (Short n) = refl
+
+pub plan_refused : (head l out out' : List ℕ) (x : PlanError) → Meets (plan_of l []) out (told_planned (Err x)) out' → length out ≡ 65536 → refusal_of (told_plan_error x) ≡ spans_lines head l
+plan_refused head l out out' x m e = told_unplanned (head ++ fixture_lines (fixtures_in l)) x ∙ plan_lines head l out out' (Err x) m e
+
+-- the line of a refusal, with its end
+pub line_of : (r : Line) (a : Answer) → told r ≡ a → refused_text r ++ codes "\n" ≡ refusal_of a
+line_of r a e = rw (← e) (append_assoc (codes "refused ") (decimal r.0 ++ spaced (values_in r.1)) (codes "\n") ∙ ap (λ x. codes "refused " ++ x) (append_assoc (decimal r.0) (spaced (values_in r.1)) (codes "\n")))
 
 pub wrote_lines : (head l out out' : List ℕ) (n k : ℕ) → Meets (plan_of l []) out (accepted (n ∷ k ∷ [])) out' → length out ≡ 65536 → length out' ≤ 65536
     → head ++ name_lines (items_from any_item (take k out') 0) ≡ spans_lines head l

@@ -1,2 +1,3 @@
 pub mod Lies
 pub mod Lines
+pub mod Refusals

@@ -2,7 +2,7 @@
 // import gives, then the names of the fixtures, one to a line; or the number of a refusal, with the values it carries.
 #![tactic(auto)]
 
-ghost use Rattle.std.specs.Prelude.{[], ◌∷◌, OnOk, Err};
+ghost use Rattle.std.specs.Prelude.{◌≡◌, OnOk, Some};
 ghost use Rattle.std.proofs.Math.Option.{none};
 ghost use Rattle.laws.specs.Answers.{Meets};
 ghost use Rattle.items.specs.Walks.{Walks, items_from};
@@ -11,33 +11,78 @@ ghost use Rattle.trace.specs.declared.Container.TheVariants.{Btsnoop};
 ghost use Rattle.outcome.specs.Import.{strict, by_source, imported};
 ghost use Rattle.std.specs.Io.KnownBytes.{Appends};
 ghost use Rattle.trace.specs.Headers.{told_refusal};
-ghost use Rattle.capture.specs.Calls.{told_imported};
+ghost use Rattle.capture.specs.Calls.{told_imported, told_import_error};
+ghost use Rattle.fixtures.specs.Told.{told_plan_error};
 ghost use Rattle.traceprint.specs.Lies.{Lies};
-ghost use Rattle.traceprint.specs.Lines.{any_item, counts_line, name_lines, refusal_line, refusal_of, spans_lines, trace_lines};
+ghost use Rattle.traceprint.specs.Lines.{any_item, counts_line, name_lines, spans_lines, trace_lines};
+ghost use Rattle.traceprint.specs.Refusals.{refused_text, told};
 
 use capture::{ImportError, Options, Summary, import};
 use fixtures::{PlanError, plan};
 use items::{Step, item_at};
 use opening::Tail;
 use reading::read_full;
+use std::fmt;
 use std::io;
 use std::io::Write;
 use trace::{Container, Refusal};
 
 // ---- text
 
-// A refusal that carries nothing.
-fn refuse<W: Write>(out: &mut W, number: usize) -> io::Result<()>
-    ensures { OnOk result (Appends (W.contents out.old) (W.contents out.new) (refusal_line number [])) }
-{
-    writeln!(out, "refused {number}")
+// A refusal: its number, and the value that it carries, if it carries one.
+#[derive(Clone, Copy)]
+struct Refused(usize, Option<usize>);
+
+impl fmt::Display for Refused {
+    ghost output = { λ r. Some (refused_text r) };
+
+    fn fmt<W: fmt::Write>(&self, f: &mut fmt::Formatter<W>) -> fmt::Result {
+        let Refused(number, value) = *self;
+        match value {
+            None => write!(f, "refused {number}"),
+            Some(v) => write!(f, "refused {number} {v}"),
+        }
+    }
 }
 
-// A refusal that carries a value.
-fn refuse_with<W: Write>(out: &mut W, number: usize, value: usize) -> io::Result<()>
-    ensures { OnOk result (Appends (W.contents out.old) (W.contents out.new) (refusal_line number (value ∷ []))) }
-{
-    writeln!(out, "refused {number} {value}")
+impl From<Refusal> for Refused {
+    ghost from_gives = { λ e r. told r ≡ told_refusal e };
+
+    fn from(e: Refusal) -> Refused {
+        match e {
+            Refusal::FileLong => Refused(1, None),
+            Refusal::WorkShort => Refused(2, None),
+            Refusal::NotBtsnoop => Refused(3, None),
+            Refusal::Datalink(n) => Refused(4, Some(n as usize)),
+            Refusal::NotPcap => Refused(21, None),
+            Refusal::LinkType(n) => Refused(22, Some(n as usize)),
+            Refusal::Truncated(offset) => Refused(5, Some(offset)),
+        }
+    }
+}
+
+impl From<ImportError> for Refused {
+    ghost from_gives = { λ e r. told r ≡ told_import_error e };
+
+    fn from(e: ImportError) -> Refused {
+        match e {
+            ImportError::Refused(x) => Refused::from(x),
+            ImportError::NoStream => Refused(6, None),
+            ImportError::OutShort(needed) => Refused(7, Some(needed)),
+        }
+    }
+}
+
+impl From<PlanError> for Refused {
+    ghost from_gives = { λ e r. told r ≡ told_plan_error e };
+
+    fn from(e: PlanError) -> Refused {
+        match e {
+            PlanError::SpansIll(offset) => Refused(19, Some(offset)),
+            PlanError::NamesIll(offset) => Refused(20, Some(offset)),
+            PlanError::OutShort(needed) => Refused(7, Some(needed)),
+        }
+    }
 }
 
 // The first line of a trace.
@@ -90,11 +135,7 @@ fn print_spans<W: Write>(
             print_counts(out, dlci, frames, unfinished)?;
             print_names(out, &fixtures[..p.bytes])
         }
-        Err(e) => match e {
-            PlanError::SpansIll(offset) => refuse_with(out, 19, offset),
-            PlanError::NamesIll(offset) => refuse_with(out, 20, offset),
-            PlanError::OutShort(needed) => refuse_with(out, 7, needed),
-        },
+        Err(e) => writeln!(out, "{}", Refused::from(e)),
     }
 }
 
@@ -113,32 +154,6 @@ fn import_any(file: &[u8], spans: &mut [u8]) -> Result<Summary, ImportError>
     import(file, &mut work, spans, options)
 }
 
-// Why the trace is not read.
-fn print_unread<W: Write>(out: &mut W, x: Refusal) -> io::Result<()>
-    ensures { OnOk result (Appends (W.contents out.old) (W.contents out.new) (refusal_of (told_refusal x))) }
-{
-    match x {
-        Refusal::FileLong => refuse(out, 1),
-        Refusal::WorkShort => refuse(out, 2),
-        Refusal::NotBtsnoop => refuse(out, 3),
-        Refusal::Datalink(n) => refuse_with(out, 4, n as usize),
-        Refusal::NotPcap => refuse(out, 21),
-        Refusal::LinkType(n) => refuse_with(out, 22, n as usize),
-        Refusal::Truncated(offset) => refuse_with(out, 5, offset),
-    }
-}
-
-// Why import gives no spans.
-fn print_refusal<W: Write>(out: &mut W, e: ImportError) -> io::Result<()>
-    ensures { OnOk result (Appends (W.contents out.old) (W.contents out.new) (refusal_of (told_imported (Err e)))) }
-{
-    match e {
-        ImportError::Refused(x) => print_unread(out, x),
-        ImportError::NoStream => refuse(out, 6),
-        ImportError::OutShort(needed) => refuse_with(out, 7, needed),
-    }
-}
-
 // What import gives of a trace. Its list takes less than 8 times the trace.
 fn print_trace<W: Write>(out: &mut W, file: &[u8]) -> io::Result<()>
     ensures { OnOk result (Appends (W.contents out.old) (W.contents out.new) (trace_lines file.now)) }
@@ -150,7 +165,7 @@ fn print_trace<W: Write>(out: &mut W, file: &[u8]) -> io::Result<()>
             let bytes = x.bytes;
             print_spans(out, &spans[..bytes], x.dlci as usize, x.spans, x.unfinished)
         }
-        Err(e) => print_refusal(out, e),
+        Err(e) => writeln!(out, "{}", Refused::from(e)),
     }
 }
 
