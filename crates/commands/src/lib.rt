@@ -92,6 +92,8 @@ static CODES: [u8; 229] = *b"\
     \x5A\x5B\x60\x61\x62\x63\x65\x66\x67\x68\x69\x70\x71\x72\x73\x74\x75\x76\x77\x78\x79\x7C\xF0\xF1\
     \xF2\xF3\xF4\xF5\xF6\xF7\xF8\xF9\xFA\xFB\xFC\xFD\xFF";
 
+// Stays: each of these gives a table the name that definitions have; read in place (tried in commands::name_of), a static stands in
+// each goal with all its numbers.
 fn all_letters() -> &'static [u8]
     ensures { result.now ≡ all_letters }
 {

@@ -34,7 +34,8 @@ static STARTS: [u16; 63] = [
 ];
 
 // How long each is.
-// Stays: apart, starts and lengths take 189 bytes; an array of structs would take 252.
+// Stays: parts share letters (PLAY_ lies in SAR_AUTO_PLAY_), so that the next start does not end one; apart, starts and lengths take 189
+// bytes, where an array of structs takes 252.
 static LENS: [u8; 63] = *b"\
     \x0D\x0F\x0B\x10\x00\x0E\x0E\x0A\x0A\x0A\x0B\x09\x09\x09\x0A\x0A\x0D\x0D\x0D\x0E\x12\x12\x12\x13\
     \x0C\x0C\x11\x11\x0D\x0C\x07\x04\x03\x07\x08\x04\x0C\x0C\x08\x07\x06\x05\x04\x06\x06\x06\x04\x06\
@@ -66,6 +67,8 @@ static PAIRS: [u16; 246] = [
     0x3D20, 0x3D23, 0x3D21, 0x3D22, 0x3604, 0x3E04,
 ];
 
+// Stays: each of these gives a table the name that definitions have; read in place (tried in commands::name_of), a static stands in
+// each goal with all its numbers.
 fn all_letters() -> &'static [u8]
     ensures { result.now ≡ all_letters }
 {

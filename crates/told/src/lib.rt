@@ -57,6 +57,7 @@ pub fn name_told(
 }
 
 // 1 if either table has the name, else 0.
+// Stays: a number, since C reads it as the call's answer.
 pub fn command_told(name: &[u8]) -> u32
     ensures { result ≡ bit (is_command_name name.now) }
 {
