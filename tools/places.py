@@ -17,9 +17,9 @@ ROOT = os.path.dirname(os.path.dirname(os.path.abspath(__file__)))
 class Function:
     """A function: its crate, name, the comment before it, its parameters, clauses and body."""
 
-    def __init__(self, crate, name, comment, head, clauses, body, result):
+    def __init__(self, crate, name, comment, head, clauses, body, result, whole):
         self.crate, self.name, self.comment = crate, name, comment
-        self.head, self.clauses, self.body, self.result = head, clauses, body, result
+        self.head, self.clauses, self.body, self.result, self.whole = head, clauses, body, result, whole
 
     def place(self):
         return f"{self.crate}::{self.name}"
@@ -68,7 +68,7 @@ def functions():
                 clauses = [l.strip() for l in lines[start : opens + 1] if re.match(r"\s*(requires|ensures)", l)]
                 text = " ".join(h.strip() for h in head)
                 result = re.search(r"\) -> ([^{]*?)\s*(\{.*)?$", text)
-                yield Function(crate, name, " ".join(comment), text.split(" -> ")[0], clauses, lines[opens + 1 : close], result.group(1).strip() if result else "")
+                yield Function(crate, name, " ".join(comment), text.split(" -> ")[0], clauses, lines[opens + 1 : close], result.group(1).strip() if result else "", lines[start:close])
                 comment, i = [], close
             elif line.strip().startswith("#["):
                 pass
@@ -119,6 +119,27 @@ def twins():
     for group in shapes.values():
         if len(group) > 1:
             yield " ~ ".join(f.place() for f in group)
+
+
+def pairs():
+    """Point 2: pairs of functions whose heads or bodies share five lines or more in a row, the same but for white space. Lines of punctuation
+    alone count for nothing, and neither does a run that is the same in a struct's fields only."""
+    runs = collections.defaultdict(set)
+    texts = {}
+    for f in functions():
+        lines = [re.sub(r"\s+", " ", l.strip()) for l in f.whole]
+        lines = [l for l in lines if re.search(r"\w{2}", l) and not l.startswith("//") and l not in ("else {", "return;")]
+        texts[f] = lines
+        for i in range(len(lines) - 4):
+            runs[tuple(lines[i : i + 5])].add(f)
+    found = set()
+    for fs in runs.values():
+        for f in fs:
+            for g in fs:
+                if (f.crate, f.name) < (g.crate, g.name):
+                    found.add((f.place(), g.place()))
+    for f, g in sorted(found):
+        yield f"{f} ~ {g}"
 
 
 def loops():
@@ -238,7 +259,7 @@ def answers():
         yield f"{path.split('/')[-4]}::{path.split('/')[-2]}: {n} answers"
 
 
-POINTS = {1: [enums, sentinels], 2: [twins], 3: [loops], 4: [conversions], 5: [facts, travellers], 6: [buffers], 7: [switches], 8: [answers]}
+POINTS = {1: [enums, sentinels], 2: [twins, pairs], 3: [loops], 4: [conversions], 5: [facts, travellers], 6: [buffers], 7: [switches], 8: [answers]}
 
 if __name__ == "__main__":
     if len(sys.argv) > 1:

@@ -3,9 +3,6 @@ use borrow.Author.Rules.{rules}
 use native.Mathlib.Omega.{arith}
 use Rattle.names.proofs.decimal_len.Goals as goal
 
-pub loop-rest-init : goal.loop-rest-init
-loop-rest-init c = counting_start _ (search rules)
-
 pub overflow_add-k : goal.overflow_add-k
 overflow_add-k c = omega (arith, counting_few _ _ _ c.loop-rest.invariant)
 

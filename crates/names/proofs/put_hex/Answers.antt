@@ -3,8 +3,5 @@ use lib.ListN.{length-set}
 use native.Mathlib.Omega.{arith}
 use Rattle.names.proofs.put_hex.Goals as goal
 
-pub bounds-out-at-2 : goal.bounds-out-at-2
-bounds-out-at-2 c = simp length-set (omega arith)
-
 pub returns : goal.returns
 returns c = search hex_written

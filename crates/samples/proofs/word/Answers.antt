@@ -1,9 +1,6 @@
 use Rattle.samples.proofs.Places.{has_room, word_none, word_there}
 use Rattle.samples.proofs.word.Goals as goal
 
-pub get_le32-requires : goal.get_le32-requires
-get_le32-requires c = search has_room
-
 pub returns-then-has_bytes : goal.returns-then-has_bytes
 returns-then-has_bytes c = search word_there
 
