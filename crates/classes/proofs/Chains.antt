@@ -228,9 +228,6 @@ pub earlier_kept : (i v y : ℕ) → y ≡ v → y ≤ i → v ≡ earlier_of i 
 unfolding earlier_of
 earlier_kept i v y e h = rw (le-ltb i v (omega (arith, e)))
 
-pub chain_ended : (w : List ℕ) (at i v r : ℕ) → v ≡ word w at → r ≡ earlier_of i v → (u : List ℕ) → u ≡ put_word w at r → u ≡ put_word w at (earlier_of i (word w at))
-chain_ended w at i v r ev er u eu = eu ∙ rw (er, ev)
-
 -- ---- and so all are linked
 
 module _ (w₀ : List ℕ) (x : Rows) (chain heads : ℕ) (g : LinkRoom w₀ x chain heads) (w : List ℕ) (f : Filled w₀ x.links (3 * x.n) 0 w) where
@@ -242,9 +239,6 @@ module _ (w₀ : List ℕ) (x : Rows) (chain heads : ℕ) (g : LinkRoom w₀ x c
     many = g.many;
     clear = λ j a b. (let e : x.links + (j - x.links) ≡ j = omega arith in rw e at (f.is (j - x.links) (omega arith)));
   }
-
-  pub all_room : (v : List ℕ) → Woven w x chain v → 4 * (chain + x.n) ≤ length v
-  all_room v o = omega (arith, g.low, g.tree, g.room, f.size, o.size)
 
   pub all_linked : (v : List ℕ) → Woven w x chain v → (u : List ℕ) → Ended v chain x.n u → LinkedTo w₀ x chain u
   all_linked v o u e = record {

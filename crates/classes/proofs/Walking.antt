@@ -3,7 +3,7 @@ use mathlib.Core.Path.{◌≡◌, refl, sym, ap, ◌∙◌}
 use mathlib.Core.List.{List}
 use mathlib.Core.Logic.{inl, inr, ⊎_elim}
 use mathlib.Core.Bool.{Bool, true, false, cond}
-use Prim.Native.Nat.{ℕ, zero, suc, ◌+◌, ◌-◌, ◌*◌, ◌%◌, ◌<◌, ◌≤◌}
+use Prim.Native.Nat.{ℕ, zero, suc, ◌+◌, ◌-◌, ◌*◌, ◌/◌, ◌%◌, ◌<◌, ◌≤◌}
 use native.Mathlib.Omega.{arith}
 use lib.ListN.{length}
 use lib.Dec.{eqb}
@@ -18,8 +18,8 @@ use Rattle.tree.specs.Paths.{next_of, node_at, Keeps}
 use Rattle.tree.proofs.Paths.{node_step, node_past, node_below, node_kept, Grew, grew_keeps, grew_slots, slots_agree}
 use Rattle.classes.specs.First.{class_of}
 use Rattle.classes.proofs.First.{class_key, class_most, class_new}
-use Rattle.classes.specs.Bits.{first_of, roots_of, turn_of, bits_of, Roots}
-use Rattle.classes.specs.Classes.{key_at, links_in, root_in, path_of, TwoRows, RowPre, MetAt, FreeAt, SpotIs, NotePre, Repeats, Classes, Known, Noted}
+use Rattle.classes.specs.Bits.{first_of, roots_of, turn_of, bits_of, Roots, TreeIs}
+use Rattle.classes.specs.Classes.{key_at, links_in, root_in, path_of, RowPre, MetAt, FreeAt, SpotIs, NotePre, Classes, Known, Noted}
 use Rattle.classes.specs.declared.Rows.{Rows}
 use Rattle.tree.specs.declared.Spot.{Spot}
 use Rattle.tree.specs.declared.Spot.TheVariants.{Taken, Free}
@@ -44,14 +44,14 @@ module _ (w : List ℕ) (x : Rows) (i : ℕ) where
     pub others : (e r : ℕ) → e < depth → path_of w x (key_at w x i) e ≡ suc r → key_at w x r ≡ key_at w x i → ⊥
 
   module _ (p : RowPre w x i) where
-    pub seeking_start : (at bits : ℕ) → at ≡ root_in x (key_at w x i) → bits ≡ bits_of (roots_of x.n) (key_at w x i) 0 → Seeking at bits
-    unfolding node_at
-    seeking_start at bits e f = record {
-      low = omega (arith, e);
-      high = omega (arith, e, root_few x.n (first_of (key_at w x i)));
+    pub seeking_start : (k : Key) → k ≡ key_at w x i → (first m t bits : ℕ) → first ≡ first_of k → Roots x.n m → TreeIs first m t → bits ≡ first / m → Seeking (x.links + t) bits
+    unfolding node_at bits_of
+    seeking_start k ek first m t bits ef o h eb = record {
+      low = omega arith;
+      high = omega (arith, o.is, h.few);
       depth = 0;
-      reads = λ u k. ap (word u) (sym e);
-      now = f;
+      reads = λ u g. ap (word u) (rw (h.is, o.is, ef, ek));
+      now = eb ∙ rw (o.is, ef, ek);
       others = λ e r l. absurd (omega arith);
     }
 
@@ -83,13 +83,10 @@ module _ (w : List ℕ) (x : Rows) (i : ℕ) where
         row : suc (v - 1) ≡ v
         row = omega (arith, some)
 
-        pub seeking_two : TwoRows w x (v - 1) i
-        seeking_two = record { rows = p.rows; room = omega (arith, p.room); first = omega (arith, seeking_row, some, p.row); second = p.row }
-
-        module _ (t : Bool) (et : t ≡ eq_k (key_at w x (v - 1)) (key_at w x i)) where
+        module _ (k : Key) (ek : k ≡ key_at w x i) (t : Bool) (et : t ≡ eq_k (key_at w x (v - 1)) k) where
           pub seeking_hit : t ≡ true → SpotIs w x i (Taken (v - 1))
           seeking_hit h = record {
-            met = λ k e. let y : v - 1 ≡ k = cc in rw (← y) (record { depth = q.depth; path = here ∙ sym row; few = omega (arith, seeking_row, some); same = eq_k_true _ _ (sym et ∙ h) });
+            met = λ n e. let y : v - 1 ≡ n = cc in rw (← y) (record { depth = q.depth; path = here ∙ sym row; few = omega (arith, seeking_row, some); same = eq_k_true _ _ (sym et ∙ h) ∙ ek });
             free = λ a e. let y : ◌≡◌ {A = ℕ} 0 1 = cc in absurd (omega arith);
           }
 
@@ -97,29 +94,23 @@ module _ (w : List ℕ) (x : Rows) (i : ℕ) where
             el : l ≡ roots_of x.n
             el = o.is
 
-            after : at < x.links + l + 2 * (v - 1)
-            after = rw el (rw (← (ev ∙ ec)) at (p.slots.later at q.low q.high) some)
-
-            pub seeking_less : x.links + l + 2 * i - (x.links + l + 2 * (v - 1) + bit) < x.links + l + 2 * i - at
-            seeking_less = omega (arith, after, seeking_row, some)
-
-            pub seeking_turn : (b : ℕ) → b ≡ turn_of (key_at w x i) bits → Seeking (x.links + l + 2 * (v - 1) + bit) b
+            pub seeking_turn : (b : ℕ) → b ≡ turn_of k bits → Seeking (x.links + l + 2 * (v - 1) + bit) b
             unfolding bits_of
             seeking_turn b e = record {
               low = omega arith;
               high = omega (arith, el, eb, seeking_row, some);
               depth = suc q.depth;
-              reads = λ u k. node_step u (links_in x) (root_in x (key_at w x i)) (bits_of (roots_of x.n) (key_at w x i)) q.depth (v - 1) (leads u k) ∙ rw (el, eb, q.now);
-              now = e ∙ rw q.now;
+              reads = λ u g. node_step u (links_in x) (root_in x (key_at w x i)) (bits_of (roots_of x.n) (key_at w x i)) q.depth (v - 1) (leads u g) ∙ rw (el, eb, q.now);
+              now = e ∙ rw (ek, q.now);
               others = passed;
             } where
               leads : (u : List ℕ) → Keeps w x.links (links_in x) i u → path_of u x (key_at w x i) q.depth ≡ suc (v - 1)
-              leads u k = q.reads u k ∙ k.same at q.low q.high (omega (arith, ec, ev, some)) ∙ sym (ev ∙ ec) ∙ sym row
+              leads u g = q.reads u g ∙ g.same at q.low q.high (omega (arith, ec, ev, some)) ∙ sym (ev ∙ ec) ∙ sym row
 
               passed : (e r : ℕ) → e < suc q.depth → path_of w x (key_at w x i) e ≡ suc r → key_at w x r ≡ key_at w x i → ⊥
               passed e r m h y =
                   split≡ e q.depth
-                  (λ o. let g : suc r ≡ v = sym h ∙ rw o here in let f : r ≡ v - 1 = omega (arith, g) in no_way (eq_eq_k _ _ (rw f at y)) (sym et ∙ d))
+                  (λ o. let g : suc r ≡ v = sym h ∙ rw o here in let f : r ≡ v - 1 = omega (arith, g) in no_way (eq_eq_k _ _ (rw f at y ∙ sym ek)) (sym et ∙ d))
                   (λ o. q.others e r (earlier e q.depth (omega arith) o) h y)
 
 -- ---- one row more
@@ -174,9 +165,6 @@ module _ (w : List ℕ) (x : Rows) (i last : ℕ) (m : NotePre w x i last) where
   p : RowPre w x i
   p = m.pre
 
-  pub note_two : TwoRows w x last i
-  note_two = record { rows = p.rows; room = omega (arith, p.room); first = omega (arith, p.row, m.before); second = p.row }
-
   grew_same : Grew w x.links (links_in x) i w
   grew_same = record { ends = m.ends; slots = λ at a b. inl refl }
 
@@ -197,16 +185,16 @@ module _ (w : List ℕ) (x : Rows) (i last : ℕ) (m : NotePre w x i last) where
   }
 
   -- the class of the row before
-  pub note_same : (t : Bool) → Repeats w x i last t → t ≡ true → Noted w x i last w last
-  note_same t o h = note_old last (omega (arith, m.before)) found where
+  pub note_same : 0 < i → (k : Key) → k ≡ key_at w x i → (t : Bool) → t ≡ eq_k (key_at w x last) k → t ≡ true → Noted w x i last w last
+  note_same o k ek t et h = note_old last (omega (arith, m.before)) found where
     found : (κ : ℕ → Key) → Known κ w x i last → Found κ last
     found κ s = record {
-      is = sym (s.first (o.some h)) ∙ ap (class_of κ x.n) same;
+      is = sym (s.first o) ∙ ap (class_of κ x.n) same;
       depth = s.trees.depth last;
-      path = ap (λ (k : Key). path_of w x k (s.trees.depth last)) (sym same) ∙ s.trees.path last (omega (arith, m.before, o.some h)) ∙ ap suc (s.first (o.some h));
+      path = ap (λ (k : Key). path_of w x k (s.trees.depth last)) (sym same) ∙ s.trees.path last (omega (arith, m.before, o)) ∙ ap suc (s.first o);
     } where
       same : κ last ≡ κ i
-      same = s.keys last (omega (arith, p.row, m.before)) ∙ o.same h ∙ sym (s.keys i p.row)
+      same = s.keys last (omega (arith, p.row, m.before)) ∙ eq_k_true _ _ (sym et ∙ h) ∙ ek ∙ sym (s.keys i p.row)
 
   module _ (o : Spot) (s : SpotIs w x i o) where
     pub note_met : (j : ℕ) → o ≡ Taken j → Noted w x i last w j

@@ -1,26 +1,25 @@
 -- Laws of comparing byte strings.
 use Rattle.std.specs.Ordering.{is_le, nat_cmp}
 use Rattle.std.specs.Cmp.Lexicographic.{slice_cmp}
-use Rattle.std.proofs.lemmas.List.{take_rest, take-append-drop}
-use mathlib.Core.Path.{◌≡◌, refl, sym, ◌∙◌}
+use Rattle.std.proofs.lemmas.List.{take_rest}
+use mathlib.Core.Path.{◌≡◌, refl, ◌∙◌}
 use mathlib.Core.Logic.{◌≢◌}
-use mathlib.Core.List.{List, [], ◌∷◌, ◌++◌}
+use mathlib.Core.List.{List, [], ◌∷◌}
 use Prim.Native.Nat.{ℕ, ◌+◌, ◌-◌, ◌<◌, ◌≤◌}
 use native.Mathlib.Omega.{arith}
-use lib.Dec.{ltb, eqb}
+use mathlib.Core.Bool.{Bool}
+use lib.Dec.{ltb}
 use lib.ListN.{length, get_or, take, drop}
-use lib.Seq.{drop-drop}
-use borrow.Author.Tests.{eq-eqb, ne_eqb, eqb-true, lt-ltb, le-ltb}
+use borrow.Author.Tests.{eq-eqb, ne_eqb, lt-ltb, le-ltb}
 use Rattle.laws.proofs.Choice.{split≡, split≤}
-use Rattle.laws.proofs.Lists.{drop_step, drop_end}
+use Rattle.laws.proofs.Lists.{drop_step}
 use Rattle.laws.specs.Numbers.{be32, be64}
 use Rattle.lexical.specs.Bytes.{le_bytes}
-use Rattle.lexical.specs.Steps.{OneUnless, Agree, Comparing}
 
 -- ---- byte by byte
 
 -- the order of slices
-le_is : (a b : List ℕ) → is_le (slice_cmp nat_cmp a b) ≡ le_bytes a b
+pub le_is : (a b : List ℕ) → is_le (slice_cmp nat_cmp a b) ≡ le_bytes a b
 unfolding le_bytes
 le_is [] [] = refl
 le_is [] (y ∷ b) = refl
@@ -32,8 +31,11 @@ le_is (x ∷ a) (y ∷ b) =
     (λ h. rw (ne_eqb x y n, le-ltb x y h))
     (λ h. rw (ne_eqb x y n, lt-ltb x y h)))
 
-pub compare_start : (a b : List ℕ) → Comparing a b 0
-compare_start a b = record { left = omega arith; right = omega arith; same = refl }
+-- the first i bytes of two lists decide nothing
+pub record Comparing (a b : List ℕ) (i : ℕ) : Type 0 where
+  pub left : i ≤ length a
+  pub right : i ≤ length b
+  pub same : le_bytes (drop i a) (drop i b) ≡ le_bytes a b
 
 module _ (a b : List ℕ) (i : ℕ) (c : Comparing a b i) where
   compare_turn : i < length a → i < length b → get_or a i 0 ≡ get_or b i 0 → Comparing a b (i + 1)
@@ -45,43 +47,8 @@ module _ (a b : List ℕ) (i : ℕ) (c : Comparing a b i) where
   compare_found h k n = rw (drop_step a i h, drop_step b i k, ne_eqb (get_or a i 0) (get_or b i 0) n) at c.same
 
   -- what is left decides
-  pub compare_rest : is_le (slice_cmp nat_cmp (take (length a - i) (drop i a)) (take (length b - i) (drop i b))) ≡ le_bytes a b
-  compare_rest = rw (take_rest a i, take_rest b i) (le_is (drop i a) (drop i b) ∙ c.same)
-
--- ---- blocks of bytes
-
--- where most is 0, the first i bytes are the same
-pub record Agreeing (a b : List ℕ) (most i : ℕ) : Type 0 where
-  pub same : most ≡ 0 → drop i a ≡ drop i b → a ≡ b
-
-pub agreeing_start : (a b : List ℕ) → Agreeing a b 0 0
-agreeing_start a b = record { same = λ z e. e }
-
-module _ (a b : List ℕ) (long : length a ≡ length b) (most i : ℕ) (v : Agreeing a b most i) where
-  pub agreeing_turn : (y r : ℕ) → i < length a → OneUnless (get_or a i 0) (get_or b i 0) y → most ≤ r → y ≤ r → Agreeing a b r (i + 1)
-  agreeing_turn y r h o p q = record { same = λ z e. v.same (omega arith) (rw (drop_step a i h, drop_step b i (omega arith), o.same (omega arith), e)) }
-
-  pub agreeing_end : length a ≤ i → Agree a b (eqb most 0)
-  agreeing_end h = record { same = λ t. v.same (eqb-true most 0 t) (drop_end a i h ∙ sym (drop_end b i (omega arith))) }
-
-front_same : (p x y : List ℕ) → le_bytes (p ++ x) (p ++ y) ≡ le_bytes x y
-unfolding le_bytes
-front_same [] x y = refl
-front_same (z ∷ p) x y = rw (eq-eqb z z refl) (front_same p x y)
-
-back_same : (n : ℕ) (x y : List ℕ) → take n x ≡ take n y → le_bytes (drop n x) (drop n y) ≡ le_bytes x y
-back_same n x y e =
-    let p : take n x ++ drop n x ≡ x = take-append-drop n x in
-    let q : take n x ++ drop n y ≡ y = rw e (take-append-drop n y) in
-    rw (p, q) at (sym (front_same (take n x) (drop n x) (drop n y)))
-
--- a block that is the same decides nothing
-pub compare_block : (a b : List ℕ) (i n : ℕ) → Comparing a b i → i + n ≤ length a → i + n ≤ length b → take n (drop i a) ≡ take n (drop i b) → Comparing a b (i + n)
-compare_block a b i n c h k e = record {
-  left = h;
-  right = k;
-  same = rw (← drop-drop n i a, ← drop-drop n i b) (back_same n (drop i a) (drop i b) e ∙ c.same);
-}
+  pub compare_rest : (r : Bool) → r ≡ le_bytes (take (length a - i) (drop i a)) (take (length b - i) (drop i b)) → r ≡ le_bytes a b
+  compare_rest r e = e ∙ rw (take_rest a i, take_rest b i) c.same
 
 -- ---- eight bytes at once, as numbers with the highest byte first
 

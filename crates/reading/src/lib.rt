@@ -16,6 +16,7 @@ pub fn read_full<R: Read>(input: &mut R, buf: &mut [u8]) -> io::Result<usize>
     ensures end { IfOk result (λ n. n < length buf.new → IsAtEnd (R.remaining input.new)) }
 {
     let mut done: usize = 0;
+    // Stays: of std's methods read_exact refuses an input that is shorter than buf, and read_to_end fills a Vec, on the heap.
     while done < buf.len() {
         let n = input.read(&mut buf[done..])?;
         if n == 0 {

@@ -118,6 +118,7 @@ fn merge_words(names: &[u8], out: &mut [u8], halves: Halves, first: Head, second
     let mut j = 0;
     let mut a = first;
     let mut b = second;
+    // Stays: a turn moves one of two indices, by which name comes first, so that no range and no iterator is gone through.
     while i < h {
         if is_first(names, a, b) {
             put32(out, lo + i + j, a.place);

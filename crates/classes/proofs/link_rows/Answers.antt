@@ -1,4 +1,4 @@
-use Rattle.classes.proofs.Chains.{linking_start, linking_row, linking_pre, linking_turn, linking_end}
+use Rattle.classes.proofs.Chains.{linking_start, linking_row, linking_turn}
 use Rattle.classes.proofs.link_rows.Goals as goal
 
 pub loop-i-init : goal.loop-i-init
@@ -7,11 +7,5 @@ loop-i-init c = search linking_start
 pub note_row-last-requires : goal.note_row-last-requires
 note_row-last-requires c = search linking_row
 
-pub link-requires : goal.link-requires
-link-requires c = search linking_pre
-
 pub loop-i-preserved : goal.loop-i-preserved
 loop-i-preserved c = search linking_turn
-
-pub returns : goal.returns
-returns c = search linking_end

@@ -1,15 +1,13 @@
-use Rattle.lexical.specs.Steps.{EightsSay}
-use Rattle.lexical.proofs.Comparing.{compare_start}
+use Rattle.lexical.proofs.Comparing.{eight_same, eight_less}
+use mathlib.Core.Path.{◌≡◌}
+use Prim.Native.Nat.{◌+◌, ◌*◌}
 use native.Mathlib.Omega.{arith}
 use Rattle.lexical.proofs.bytes_le.Goals as goal
 
-pub by_eights-requires : goal.by_eights-requires
-by_eights-requires c = record { within = omega arith; left = omega arith; right = omega arith; comparing = compare_start _ _ }
+pub returns-then-x-y : goal.returns-then-x-y
+returns-then-x-y c = eight_less _ _ (λ k. omega (arith, c.type_inv.a k)) (λ k. omega (arith, c.type_inv.b k)) _ _ _ c.loop-i.invariant (omega arith) (omega arith) c.get_be64-x.ensures c.get_be64-y.ensures c.if-x-y.true
 
-pub returns-in-Some : goal.returns-in-Some
-unfolding EightsSay
-returns-in-Some c = c.in-Some.ensures.is
-
-pub long_le-requires : goal.long_le-requires
-unfolding EightsSay
-long_le-requires c = record { within = omega arith; left = omega arith; right = omega arith; comparing = c.in_default.ensures.is }
+pub loop-i-preserved : goal.loop-i-preserved
+loop-i-preserved c =
+    let e : 8 * c.loop-i.i + 8 ≡ 8 * (c.loop-i.i + 1) = omega arith in
+    rw e at (eight_same _ _ (λ k. omega (arith, c.type_inv.a k)) (λ k. omega (arith, c.type_inv.b k)) _ _ _ c.loop-i.invariant (omega arith) (omega arith) c.get_be64-x.ensures c.get_be64-y.ensures c.if-x-y.false)
