@@ -11,5 +11,5 @@ returns-then-is_known c = search behind_scanned
 pub count_joined-requires : goal.count_joined-requires
 count_joined-requires c = record { pre = c.requires; some = c.is_known.ensures.no c.if-is_known.false }
 
-pub piece-requires : goal.piece-requires
-piece-requires c = record { lying = laid_lying _ _ _ c.requires.laid; row = c.requires.row }
+pub invariant_of-pieces : goal.invariant_of-pieces
+invariant_of-pieces c = record { lying = laid_lying _ _ _ c.requires.laid }

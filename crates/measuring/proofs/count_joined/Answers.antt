@@ -11,5 +11,5 @@ count_part-c-requires c = search behind_room
 pub returns : goal.returns
 returns c = search behind_counted
 
-pub piece-requires : goal.piece-requires
-piece-requires c = record { lying = laid_lying _ _ _ c.requires.pre.laid; row = c.requires.pre.row }
+pub invariant_of-pieces : goal.invariant_of-pieces
+invariant_of-pieces c = record { lying = laid_lying _ _ _ c.requires.pre.laid }

@@ -1,3 +1,4 @@
+use Rattle.split.proofs.Fronts.{laid_lying}
 use Rattle.measuring.proofs.Counting.{count_held, count_add, count_stepped}
 use native.Mathlib.Omega.{arith}
 use Rattle.measuring.proofs.count_piece.Goals as goal
@@ -10,3 +11,6 @@ add_piece-requires c = count_add _ _ _ _ _ c.requires _ c.held_before-h.ensures 
 
 pub returns : goal.returns
 returns c = count_stepped _ _ _ _ _ c.requires _ c.held_before-h.ensures _ _ c.count_behind-c.ensures (omega arith) _ c.capped-r.ensures _ c.note.ensures _ c.length_of-m.ensures _ c.add_piece.ensures
+
+pub invariant_of-pieces : goal.invariant_of-pieces
+invariant_of-pieces c = record { lying = laid_lying _ _ _ c.requires.laid }
