@@ -12,7 +12,7 @@ use Rattle.rfcomm.specs.Pieces.{Piece}
 use Rattle.rfcomm.specs.PieceTable.{piece_at, pieces_from, infos_of, Within}
 use Rattle.rfcomm.proofs.PieceRows.{piece_front, pieces_front, infos_front, within_front}
 use Rattle.split.specs.Rows.{row_of, piece, dlci_at, tail_at, key_at, len_at, bytes_at, stream_of, held_in, newest_of, Linked, Laid}
-use Rattle.split.specs.Walks.{Chained, Lying}
+use Rattle.split.specs.Walks.{Lying}
 use Rattle.split.specs.declared.Plan.{Plan}
 
 module _ (f u w : List ℕ) (p : Plan) (l : Lying f w p) (s : Front (4 * p.held) u w) where

@@ -1,14 +1,13 @@
 -- The bytes of a piece, read or copied from the file or from work; and what a key holds, put together by walking the pieces back.
-use Prim.Native.Nat.{ℕ, suc, ◌+◌, ◌-◌, ◌*◌, ◌<◌, ◌≤◌, min}
+use Prim.Native.Nat.{ℕ, suc, ◌+◌, ◌-◌, ◌<◌, ◌≤◌, min}
 use mathlib.Core.Path.{◌≡◌, refl, sym, ap, ◌∙◌}
-use mathlib.Core.Bool.{Bool, true, false, cond}
+use mathlib.Core.Bool.{Bool, true, false}
 use mathlib.Core.List.{List, ◌++◌}
 use native.Mathlib.Omega.{arith}
 use lib.ListN.{length, take, drop, length-append, length-drop}
-use lib.Seq.{sets, length-sets, length-take-le, take_all}
+use lib.Seq.{sets, length-sets, take_all}
 use Rattle.std.specs.Prelude.{Option, None, Some}
 use Rattle.laws.specs.Keys.{Key}
-use Rattle.laws.specs.Stores.{Writes}
 use Rattle.split.specs.Last.{lastn}
 use Rattle.split.specs.Rows.{key_at, len_at, start_at, in_work, bytes_at, stream_of, stream_to}
 use Rattle.split.specs.Walks.{Lying, Earlier, one_more, PutPre, GatherPre}
@@ -20,16 +19,6 @@ use Rattle.split.proofs.Tables.{stream_mine, stream_back, length_bytes}
 -- ---- the bytes of a piece
 
 module _ (f w : List ℕ) (p : Plan) (j : ℕ) (t : Bool) (et : t ≡ in_work w p j) where
-  module _ (l : Lying f w p) (o : j < p.n) where
-    inside : start_at w p j + len_at w p j ≤ cond t (4 * p.held) (length f)
-    inside = rw (← et) at (l.within j o).inside
-
-    pub within_work : t ≡ true → start_at w p j + len_at w p j ≤ 4 * p.held
-    within_work e = rw e at inside
-
-    pub within_file : t ≡ false → start_at w p j + len_at w p j ≤ length f
-    within_file e = rw e at inside
-
   module _ (x : List ℕ) (s n : ℕ) (es : s ≡ start_at w p j) (en : n ≡ len_at w p j) where
     pub whole_work : t ≡ true → x ≡ take n (drop s w) → x ≡ bytes_at f w p j
     unfolding bytes_at
@@ -43,13 +32,6 @@ module _ (f w : List ℕ) (p : Plan) (j : ℕ) (t : Bool) (et : t ≡ in_work w 
 module _ (f w : List ℕ) (p : Plan) (j skip m : ℕ) (out : List ℕ) (to : ℕ) (l : Lying f w p) (q : PutPre w p j skip m out to) (x : List ℕ) (ex : x ≡ bytes_at f w p j) where
   pub put_within : skip + m ≤ length x
   put_within = omega (arith, q.part, ap length ex, length_bytes f w p l j q.row)
-
-  module _ (y : List ℕ) (ey : y ≡ take m (drop skip x)) where
-    pub put_fits : to + length y ≤ length out
-    put_fits = omega (arith, q.fits, ap length ey, length-take-le m (drop skip x) (omega (arith, length-drop skip x, put_within)))
-
-    pub put_done : (r : ℕ) (u : List ℕ) → Writes out to y r u → u ≡ sets out to (take m (drop skip (bytes_at f w p j)))
-    put_done r u k = k.writes ∙ rw (ey, ex)
 
 -- ---- the walk back: what is left of a key's bytes before piece j, and the piece of the key before it
 
@@ -99,15 +81,9 @@ pub record Gathering (f w : List ℕ) (p : Plan) (i h : ℕ) (out₀ : List ℕ)
   pub done : sets out at (lastn left (stream_of f w p j (key_at w p i))) ≡ sets out₀ at (lastn h (stream_to f w p i))
 
 module _ (f w : List ℕ) (p : Plan) (i h : ℕ) (out₀ : List ℕ) (at : ℕ) (l : Lying f w p) (q : GatherPre f w p i h out₀ at) where
-  pub gathering_start : Gathering f w p i h out₀ at out₀ i h
-  gathering_start = record { low = omega arith; most = omega arith; come = q.come; mine = refl; long = refl; done = refl }
-
   module _ (out : List ℕ) (j left : ℕ) (g : Gathering f w p i h out₀ at out j left) where
     pub gathering_end : left ≤ 0 → out ≡ sets out₀ at (lastn h (stream_to f w p i))
     gathering_end z = rw (lastn_zero left (stream_of f w p j (key_at w p i)) (omega arith)) at g.done
-
-    pub gathering_from : j < p.n
-    gathering_from = omega (arith, g.low, q.row)
 
     pub gathering_room : at + left ≤ length out
     gathering_room = omega (arith, g.most, g.long, q.fits)

@@ -21,7 +21,7 @@ use Rattle.spans.specs.Bytewise.{AllQuiet}
 use Rattle.spans.proofs.Bytewise.{quiet_scanned}
 use Rattle.spans.proofs.Scans.{rest_le}
 use Rattle.split.specs.Last.{lastn}
-use Rattle.split.specs.Rows.{piece, dlci_at, tail_at, key_at, len_at, bytes_at, stream_of, held_in, held_of, stream_to, opened, Fits, joined, capped_length, Laid}
+use Rattle.split.specs.Rows.{piece, dlci_at, tail_at, key_at, len_at, bytes_at, stream_of, held_in, held_of, stream_to, opened, Fits, joined, capped_length}
 use Rattle.split.specs.Walks.{Lying, PutPre, GatherPre, JoinPre, Joined, Kept, Moved}
 use Rattle.split.proofs.Fronts.{key_front, len_front, bytes_front, stream_front, held_front, lying_front, laid_lying}
 use Rattle.split.specs.declared.Plan.{Plan}
@@ -182,7 +182,7 @@ module _ (f w : List ℕ) (p : Plan) (i h : ℕ) (q : JoinPre f w p i h) where
 
       pub join_put : PutPre u p i 0 n b h
       join_put = record {
-          row = q.row;
+        row = q.row;
         part = omega arith;
         fits = omega (arith, ap length eb ∙ length-sets a 0 (lastn h (stream_to f u p i)), area_long, join_room, join_size, join_own);
       }
@@ -207,9 +207,6 @@ module _ (f w : List ℕ) (p : Plan) (i h : ℕ) (q : JoinPre f w p i h) where
           }
 
 module _ (f w : List ℕ) (p : Plan) (i : ℕ) (v : List ℕ) (n : ℕ) (j : Joined f w p i v n) where
-  pub joined_long : length v ≡ length w
-  joined_long = ap length j.put ∙ length-sets w p.area (joined f w p i)
-
   pub joined_front : Front p.area v w
   joined_front = rw j.put (front_sets p.area (joined f w p i) w p.area (omega arith))
 

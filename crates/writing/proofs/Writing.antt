@@ -154,7 +154,7 @@ module _ (f w : List ℕ) (p : Plan) (l : Lying f w p) (i : ℕ) (out : List ℕ
   module _ (r : Onward) (mid : List ℕ) (k : FirstWrote f w p i out at r mid) where
     pub write_rest : RestPre f w p i mid r.at r.skip
     write_rest = record {
-        row = q.row;
+      row = q.row;
       told = q.told;
       within = k.within;
       rest = k.rest;

@@ -10,6 +10,3 @@ count_part-c-requires c = search behind_room
 
 pub returns : goal.returns
 returns c = search behind_counted
-
-pub invariant_of-pieces : goal.invariant_of-pieces
-invariant_of-pieces c = record { lying = laid_lying _ _ _ c.requires.pre.laid }

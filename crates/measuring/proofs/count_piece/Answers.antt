@@ -11,6 +11,3 @@ add_piece-requires c = count_add _ _ _ _ _ c.requires _ c.held_before-h.ensures 
 
 pub returns : goal.returns
 returns c = count_stepped _ _ _ _ _ c.requires _ c.held_before-h.ensures _ _ c.count_behind-c.ensures (omega arith) _ c.capped-r.ensures _ c.note.ensures _ c.length_of-m.ensures _ c.add_piece.ensures
-
-pub invariant_of-pieces : goal.invariant_of-pieces
-invariant_of-pieces c = record { lying = laid_lying _ _ _ c.requires.laid }
