@@ -9,7 +9,7 @@ use native.Mathlib.Nat.{zero-add, add-zero}
 use lib.ListN.{length, take, drop, length-append}
 use lib.Dec.{ltb}
 use borrow.Author.Tests.{eq-eqb}
-use Rattle.laws.proofs.Choice.{split_b, split≡, no_way}
+use Rattle.laws.proofs.Choice.{split_b, split≡}
 use Rattle.laws.specs.Keyed.{step, run, after}
 use Rattle.laws.specs.Count.{nub}
 use Rattle.laws.specs.Totals.{total}
@@ -78,12 +78,6 @@ tally_frame t (s ∷ ss) =
     ∙ split_b t.frame (λ e. rw e) (λ e. rw e (split_b (unpacks_of s.wire) (λ g. rw g) (λ g. rw g)))
 
 -- ---- a piece
-
-pub known_none : (h : ℕ) (t : Tally) → h ≡ 0 → Known h t true
-known_none h t e = record { yes = λ z g. absurd (omega arith); no = λ z. no_way refl z }
-
-pub known_frame : (h : ℕ) (t : Tally) → (h ≡ 0 → ⊥) → Known h t t.frame
-known_frame h t n = record { yes = λ z g. z; no = λ z. omega arith }
 
 module _ (f w : List ℕ) (p : Plan) (i h : ℕ) (t : Tally) (q : CountHeld f w p i h t) where
   -- what is held

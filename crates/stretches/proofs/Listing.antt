@@ -29,7 +29,7 @@ use Rattle.stretches.specs.Filled.{stretch_at, stretches_to}
 use Rattle.stretches.specs.Listing.{SpreadPre, Spread, is_open, row_stretch, words_of, added, AddPre, Above, Added, open_to, SpreadListed, OpenListed}
 use Rattle.stretches.specs.declared.Stretch.{Stretch}
 use Rattle.stretches.proofs.Opening.{mem_snoc, firsts_snoc, open_append, open_none, open_one}
-use Rattle.stretches.proofs.Spreading.{linked_same, list_room, pre_chained}
+use Rattle.stretches.proofs.Spreading.{linked_same, list_room}
 use Rattle.stretches.proofs.Ends.{open_by_words}
 
 -- ---- one piece
@@ -133,9 +133,6 @@ module _ (w : List ℕ) (at k : ℕ) (s : Stretch) (o : at ≡ 6 * k) (r : 4 * a
   listed_more = rw (add-one k, old k (omega arith), at_new)
 
 module _ (w : List ℕ) (p : Plan) (i k : ℕ) (g : AddPre w p i k) where
-  pub add_chained : Chained w p
-  add_chained = pre_chained w p g.pre
-
   pub add_room : 4 * (6 * k) + 24 ≤ length w
   add_room = omega (arith, g.fewer, g.row, g.pre.room.low, g.pre.room.rows, g.pre.room.ends, g.pre.room.words)
 
@@ -195,11 +192,6 @@ module _ (w₀ : List ℕ) (p : Plan) (w : List ℕ) (i k : ℕ) (v : Listing w�
     list = rw (add-one i) (a.list ∙ rw (v.list, added_same));
     fewer = a.fewer;
   }
-
-  pub listing_end : p.n ≤ i → SpreadListed w₀ p w k
-  listing_end h =
-      let z : i ≡ p.n = omega (arith, v.within) in
-      record { list = rw z at v.list; few = omega (arith, v.fewer, v.within) }
 
 -- ---- the list is that of the definition
 

@@ -16,7 +16,7 @@ use Rattle.split.specs.Rows.{key_at, tail_at, held_in, newest_of, Linked}
 use Rattle.split.specs.Walks.{Chained, Earlier, one_more}
 use Rattle.split.proofs.Tables.{newest_less, newest_mine, before_less}
 use Rattle.split.specs.declared.Plan.{Plan}
-use Rattle.stretches.specs.Listing.{ListRoom, PieceIn, Handed, SpreadPre, Spread}
+use Rattle.stretches.specs.Listing.{ListRoom, PieceIn, Handed, SpreadPre}
 
 -- ---- one piece
 
@@ -180,6 +180,3 @@ module _ (w₀ : List ℕ) (p : Plan) (w : List ℕ) where
 
     pub spreading_turn : (u : List ℕ) → Handed w p (i - 1) u → length u ≡ length w → Spreading w₀ p u (i - 1)
     spreading_turn u t l = spreading_step (i - 1) (omega (arith, v.within)) (rw is_suc at v) u t l
-
-pub spreading_end : (w₀ : List ℕ) (p : Plan) (w : List ℕ) (i : ℕ) → Spreading w₀ p w i → i ≤ 0 → Spread w₀ p w
-spreading_end w₀ p w i v h = record { front = v.front; last = λ m g. v.late m (omega arith) g }

@@ -1,4 +1,3 @@
-use Rattle.split.proofs.Fronts.{laid_lying}
 use Rattle.measuring.proofs.Counting.{behind_scan, behind_scanned}
 use Rattle.measuring.proofs.count_behind.Goals as goal
 

@@ -1,4 +1,3 @@
-use Rattle.split.proofs.Fronts.{laid_lying}
 use Rattle.measuring.proofs.Counting.{behind_none, behind_room, behind_counted}
 use Rattle.measuring.proofs.count_joined.Goals as goal
 

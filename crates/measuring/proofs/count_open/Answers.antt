@@ -1,4 +1,4 @@
-use Rattle.measuring.proofs.Counts.{sign_from, sign_le}
+use Rattle.measuring.proofs.Counts.{sign_from}
 use native.Mathlib.Omega.{arith}
 use Rattle.measuring.proofs.count_open.Goals as goal
 

@@ -1,4 +1,3 @@
-use Rattle.split.proofs.Fronts.{laid_lying}
 use Rattle.measuring.proofs.Counting.{count_held, count_add, count_stepped}
 use native.Mathlib.Omega.{arith}
 use Rattle.measuring.proofs.count_piece.Goals as goal

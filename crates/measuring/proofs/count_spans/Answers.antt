@@ -1,4 +1,4 @@
-use Rattle.measuring.proofs.Counting.{counting_start, counting_pre, counting_turn, counting_skip, counting_end}
+use Rattle.measuring.proofs.Counting.{counting_start, counting_turn, counting_skip, counting_end}
 use Rattle.measuring.proofs.count_spans.Goals as goal
 use Rattle.measuring.proofs.count_spans.Goals.{then-get32-dlci, else-get32-dlci}
 
