@@ -14,7 +14,8 @@ use Rattle.rfcomm.specs.Pieces.{Piece}
 use Rattle.spans.specs.Scan.{rest_of}
 use Rattle.spans.specs.Spans.{scanner}
 use Rattle.spans.specs.Account.{cleared_of, weighing, taken_in}
-use Rattle.split.specs.Rows.{piece, dlci_at, len_at, opened, joined, capped_length, ahead, Laid}
+use Rattle.split.specs.Rows.{piece, dlci_at, len_at, opened, joined, capped_length, ahead}
+use Rattle.split.specs.Walks.{Lying}
 use Rattle.split.specs.declared.Plan.{Plan}
 use Rattle.split.proofs.Tables.{piece_bytes, length_bytes}
 use Rattle.split.proofs.Aheads.{ahead_own, own_joined, next_ahead}
@@ -28,7 +29,7 @@ cleared_rest b = split_b (leb (length b) 65536) (λ e. rw e (omega arith)) (λ e
 abbrev pub cleared_from : (Key → List ℕ) → List Piece → ℕ
 cleared_from m ps = total (λ n. n) (run (weighing (λ b. cleared_of (rest_of b))) m ps)
 
-module _ (f w : List ℕ) (p : Plan) (i : ℕ) (h : i < p.n) (d : dlci_at w p i ≡ p.dlci) (u : List ℕ) (l : Laid f w p) (s : Front (4 * p.held) u w) (m : opened f u p (i + 1) ≡ step scanner (opened f w p i) (piece f w p i)) where
+module _ (f w : List ℕ) (p : Plan) (i : ℕ) (h : i < p.n) (d : dlci_at w p i ≡ p.dlci) (u : List ℕ) (l : Lying f w p) (s : Front (4 * p.held) u w) (m : opened f u p (i + 1) ≡ step scanner (opened f w p i) (piece f w p i)) where
   pub next_taken : taken_in (ahead f w p i) ≡ len_at w p i + taken_in (ahead f u p (i + 1))
   unfolding taken_in total
   next_taken = rw (ahead_own f w p i h d, next_ahead f w p i h d u l s m, piece_bytes f w p i, length_bytes f w p l i h)

@@ -9,7 +9,7 @@ use native.Mathlib.Nat.{zero-add, add-zero}
 use lib.ListN.{length, take, drop, length-append}
 use lib.Dec.{ltb}
 use borrow.Author.Tests.{eq-eqb}
-use Rattle.laws.proofs.Choice.{split_b, split≡, no_way}
+use Rattle.laws.proofs.Choice.{split_b, split≡}
 use Rattle.laws.specs.Keyed.{step, run, after}
 use Rattle.laws.specs.Count.{nub}
 use Rattle.laws.specs.Totals.{total}
@@ -33,9 +33,9 @@ use Rattle.spans.specs.declared.Counted.{Counted}
 use Rattle.spans.specs.declared.Scanned.{Scanned}
 use Rattle.split.specs.Last.{lastn}
 use Rattle.split.specs.Rows.{piece, dlci_at, tail_at, len_at, bytes_at, held_in, held_of, stream_of, stream_to, opened, Fits, joined, capped_length, ahead, all, Laid}
-use Rattle.split.specs.Walks.{Joined, Kept, AllTold, Moved}
+use Rattle.split.specs.Walks.{Joined, Lying, Kept, AllTold, Moved}
 use Rattle.split.specs.declared.Plan.{Plan}
-use Rattle.split.proofs.Fronts.{dlci_front, tail_front, bytes_front, laid_front}
+use Rattle.split.proofs.Fronts.{dlci_front, tail_front, bytes_front, laid_front, laid_lying}
 use Rattle.split.proofs.Lasts.{length_lastn, capped_le}
 use Rattle.split.proofs.Tables.{length_bytes}
 use Rattle.split.proofs.Steps.{own_key, own_fits, length_joined, joined_small, joined_kept, moved_opens, moved_quiet, moved_fits, joined_front, in_area}
@@ -79,12 +79,6 @@ tally_frame t (s ∷ ss) =
 
 -- ---- a piece
 
-pub known_none : (h : ℕ) (t : Tally) → h ≡ 0 → Known h t true
-known_none h t e = record { yes = λ z g. absurd (omega arith); no = λ z. no_way refl z }
-
-pub known_frame : (h : ℕ) (t : Tally) → (h ≡ 0 → ⊥) → Known h t t.frame
-known_frame h t n = record { yes = λ z g. z; no = λ z. omega arith }
-
 module _ (f w : List ℕ) (p : Plan) (i h : ℕ) (t : Tally) (q : CountHeld f w p i h t) where
   -- what is held
   abbrev held : List ℕ
@@ -94,7 +88,7 @@ module _ (f w : List ℕ) (p : Plan) (i h : ℕ) (t : Tally) (q : CountHeld f w 
   held_long = length_lastn h (stream_to f w p i) q.come
 
   own_long : length (bytes_at f w p i) ≡ len_at w p i
-  own_long = length_bytes f w p q.laid i q.row
+  own_long = length_bytes f w p (laid_lying f w p q.laid) i q.row
 
   behind : joined f w p i ≡ held ++ bytes_at f w p i
   unfolding joined
@@ -170,11 +164,14 @@ unfolding added
 added_is s t m h n r o e = rw e
 
 module _ (f w : List ℕ) (p : Plan) (i : ℕ) (s : Sums) (q : CountPre f w p i s) (h : ℕ) (eh : h ≡ held_of w p i) where
+  lying : Lying f w p
+  lying = laid_lying f w p q.laid
+
   fits : held_of w p i ≤ length (stream_to f w p i)
   fits = own_fits f w p i q.own q.fits
 
   small : h + len_at w p i ≤ 1048576
-  small = omega (arith, length_joined f w p i q.laid q.row fits, (joined_small f w p i q.laid q.row fits).0)
+  small = omega (arith, length_joined f w p i lying q.row fits, joined_small f w p i lying q.row fits)
 
   pub count_held : CountHeld f w p i h s.tally
   unfolding opened
@@ -196,13 +193,13 @@ module _ (f w : List ℕ) (p : Plan) (i : ℕ) (s : Sums) (q : CountPre f w p i 
       moves = record {
         kept = kept;
         told = record {
-          holds = n.holds ∙ er ∙ ap capped_length b.left ∙ rw (joined_kept f u w p q.laid i q.row kept i (omega arith));
-          end = n.end ∙ b.end ∙ rw (bytes_front f u w p q.laid kept.front i q.row);
+          holds = n.holds ∙ er ∙ ap capped_length b.left ∙ rw (joined_kept f u w p lying i q.row kept i (omega arith));
+          end = n.end ∙ b.end ∙ rw (bytes_front f u w p lying kept.front i q.row);
         };
       }
 
       held_moved : (g : ℕ → ℕ) → g 0 ≡ 0 → held_to g u p (i + 1) + g h ≡ held_to g w p i + g r
-      held_moved g z = rw (eh, ← n.holds) (moved_sums f w p i q.laid q.row fits u moves q.own g z)
+      held_moved g z = rw (eh, ← n.holds) (moved_sums f w p i lying q.row fits u moves q.own g z)
 
       lives : live_to u p (i + 1) + sign h ≡ s.unfinished + sign r
       lives = rw q.sums.live (held_moved sign (sym (sign_zero 0 (omega arith))))
@@ -214,7 +211,7 @@ module _ (f w : List ℕ) (p : Plan) (i : ℕ) (s : Sums) (q : CountPre f w p i 
       part = omega (arith, er, capped_le c.rest)
 
       rest : c.rest ≤ 1048576
-      rest = omega (arith, b.left, rest_le (joined f w p i), (joined_small f w p i q.laid q.row fits).0)
+      rest = omega (arith, b.left, rest_le (joined f w p i), joined_small f w p i lying q.row fits)
 
       pub count_add : (m : ℕ) → m ≡ len_at w p i → AddPre s m h c.rest r
       count_add m em =
@@ -286,6 +283,9 @@ counting_start f w p l =
     }
 
 module _ (f w₀ : List ℕ) (p : Plan) (w : List ℕ) (i : ℕ) (s : Sums) (v : CountingTo f w₀ p w i s) where
+  here : Lying f w p
+  here = laid_lying f w p v.laid
+
   module _ (h : i < p.n) (x : ℕ) (ex : x ≡ dlci_at w p i) where
     pub counting_pre : x ≡ p.dlci → CountPre f w p i s
     counting_pre d = record { laid = v.laid; row = h; own = sym ex ∙ d; fits = v.fits; quiet = v.quiet; sums = v.sums }
@@ -297,31 +297,31 @@ module _ (f w₀ : List ℕ) (p : Plan) (w : List ℕ) (i : ℕ) (s : Sums) (v :
         let m : Moved f w p i u = t.moves in
         let F : Front (4 * p.held) u w = m.kept.front in
         let x : held_of w p i ≤ length (stream_to f w p i) = own_fits f w p i d v.fits in
-        let k : opened f u p (i + 1) ≡ step scanner (opened f w p i) (piece f w p i) = moved_opens f w p i v.laid h x u m d in
+        let k : opened f u p (i + 1) ≡ step scanner (opened f w p i) (piece f w p i) = moved_opens f w p i here h x u m d in
         let R : List Span = run scanner (opened f u p (i + 1)) (ahead f u p (i + 1)) in
         record {
           within = omega arith;
           laid = laid_front f u w p v.laid F m.kept.long;
           long = m.kept.long ∙ v.long;
           front = front_then (4 * p.held) u w w₀ F v.front;
-          fits = moved_fits f w p i v.laid h x u m d v.fits;
-          quiet = moved_quiet f w p i v.laid h x u m d v.quiet;
+          fits = moved_fits f w p i here h x u m d v.fits;
+          quiet = moved_quiet f w p i here h x u m d v.quiet;
           sums = t.sums;
-          tallied = rw (t.all, ← tally_tagged s.tally (piece f w p i).rx (piece f w p i).time (spans_of (joined f w p i)) R, ← next_run f w p i h d u v.laid F k) v.tallied;
-          takes = omega (arith, t.takes, next_taken f w p i h d u v.laid F k, v.takes);
-          clears = omega (arith, t.clears, next_cleared f w p i h d u v.laid F k, v.clears);
-          ends = sym (next_after f w p i h d u v.laid F k) ∙ v.ends;
+          tallied = rw (t.all, ← tally_tagged s.tally (piece f w p i).rx (piece f w p i).time (spans_of (joined f w p i)) R, ← next_run f w p i h d u here F k) v.tallied;
+          takes = omega (arith, t.takes, next_taken f w p i h d u here F k, v.takes);
+          clears = omega (arith, t.clears, next_cleared f w p i h d u here F k, v.clears);
+          ends = sym (next_after f w p i h d u here F k) ∙ v.ends;
           keys = rw (
             add-one i,
-            dlci_front f u w p v.laid F i h,
+            dlci_front f u w p here F i h,
             eq-eqb (dlci_at w p i) p.dlci d,
-            tail_front f u w p v.laid F i h,
-            keys_front f u w p v.laid F i (omega arith),
+            tail_front f u w p here F i h,
+            keys_front f u w p here F i (omega arith),
             append_assoc,
             ← add-one i,
-            ← next_keys f w p i h d u v.laid F k,
+            ← next_keys f w p i h d u here F k,
           ) v.keys;
-          told = all_told f u w p v.laid i h m.kept v.told m.told;
+          told = all_told f u w p here i h m.kept v.told m.told;
         }
 
     sums_next : (dlci_at w p i ≡ p.dlci → ⊥) → SumsTo w p (i + 1) s

@@ -17,7 +17,7 @@ use Rattle.words.proofs.Words.{length_put, word_put_same, word_put_other}
 use Rattle.words.specs.Front.{Front}
 use Rattle.words.proofs.Front.{front_then, front_less, front_put, front_word}
 use Rattle.split.specs.Rows.{dlci_at, tail_at, key_at, held_in, held_of, stream_to, Laid}
-use Rattle.split.specs.Walks.{Row, Kept, Told, AllTold, Moved}
+use Rattle.split.specs.Walks.{Row, Lying, Kept, Told, AllTold, Moved}
 use Rattle.split.specs.declared.Plan.{Plan}
 use Rattle.split.proofs.Fronts.{dlci_front, tail_front, bytes_front}
 use Rattle.split.proofs.Steps.{own_key, joined_kept, held_mine, held_other, other_key}
@@ -54,7 +54,7 @@ noted_is w p i g r e v u ev eu = record {
   other j n = rw eu (word_put_other v (p.ends + i) e j n)
 
 -- what the words of the pieces before say stays true
-module _ (f u w : List ℕ) (p : Plan) (l : Laid f w p) (i : ℕ) (o : i < p.n) (k : Kept w p i u) where
+module _ (f u w : List ℕ) (p : Plan) (l : Lying f w p) (i : ℕ) (o : i < p.n) (k : Kept w p i u) where
   told_kept : (j : ℕ) → j < i → Told f w p j → Told f u p j
   told_kept j h t = record {
     holds = k.held j h ∙ t.holds ∙ rw (joined_kept f u w p l i o k j (omega arith));
@@ -68,7 +68,7 @@ module _ (f u w : List ℕ) (p : Plan) (l : Laid f w p) (i : ℕ) (o : i < p.n) 
 
 -- ---- the keys of the DLCI's pieces
 
-module _ (f u w : List ℕ) (p : Plan) (l : Laid f w p) (s : Front (4 * p.held) u w) where
+module _ (f u w : List ℕ) (p : Plan) (l : Lying f w p) (s : Front (4 * p.held) u w) where
   pub keys_front : (i : ℕ) → i ≤ p.n → keys_to u p i ≡ keys_to w p i
   unfolding keys_to
   keys_front zero h = refl
@@ -105,7 +105,7 @@ unseen w p (suc i) k e =
           (λ e. rw e (mem_front xs x k (rw e at q)))
 
 -- what the keys hold, added up
-module _ (f w : List ℕ) (p : Plan) (i : ℕ) (l : Laid f w p) (o : i < p.n) (x : held_of w p i ≤ length (stream_to f w p i)) (u : List ℕ) (m : Moved f w p i u) (d : dlci_at w p i ≡ p.dlci) where
+module _ (f w : List ℕ) (p : Plan) (i : ℕ) (l : Lying f w p) (o : i < p.n) (x : held_of w p i ≤ length (stream_to f w p i)) (u : List ℕ) (m : Moved f w p i u) (d : dlci_at w p i ≡ p.dlci) where
   pub moved_sums : (g : ℕ → ℕ) → g 0 ≡ 0 → held_to g u p (i + 1) + g (held_of w p i) ≡ held_to g w p i + g (word u (p.held + i))
   unfolding held_to keys_to
   moved_sums g z =

@@ -8,7 +8,7 @@ ghost use Rattle.split.specs.Walks.{Row};
 ghost use Rattle.measuring.specs.Counting.{sign, Noted, OpenPre, AddPre, added, Known, CountPre, CountHeld, JoinHeld, Behind, Stepped, CountIs};
 
 use spans::{Scanned, Tally, count_part, first_end, scan};
-use split::{Plan, held_before, join, length_of, piece};
+use split::{Pieces, Plan, join};
 use words::{get32, put32};
 
 // What is held of a rest of n bytes: over 65,536 it is cleared.
@@ -60,8 +60,9 @@ fn count_joined(file: &[u8], w: &mut [u8], p: Plan, i: usize, h: usize, t: Tally
     requires { JoinHeld file.now w.old p i h t }
     ensures { Behind file.now w.old p i h t w.new result }
 {
-    let e = first_end(piece(file, w, p, i));
-    let m = length_of(w, p, i);
+    let pieces = Pieces { file, w, plan: p };
+    let e = first_end(pieces.piece(i));
+    let m = pieces.length_of(i);
     if e == m {
         return Scanned {
             tally: t,
@@ -87,7 +88,8 @@ fn count_behind(file: &[u8], w: &mut [u8], p: Plan, i: usize, h: usize, t: Tally
     ensures { Behind file.now w.old p i h t w.new result }
 {
     if is_known(h, t) {
-        return scan(piece(file, w, p, i), h, t);
+        let pieces = Pieces { file, w, plan: p };
+        return scan(pieces.piece(i), h, t);
     }
     count_joined(file, w, p, i, h, t)
 }
@@ -123,8 +125,9 @@ fn count_piece(file: &[u8], w: &mut [u8], p: Plan, i: usize, s: Sums) -> Sums
     requires { CountPre file.now w.old p i s }
     ensures { Stepped file.now w.old p i s w.new result }
 {
-    let h = held_before(w, p, i);
-    let m = length_of(w, p, i);
+    let pieces = Pieces { file, w, plan: p };
+    let h = pieces.held_before(i);
+    let m = pieces.length_of(i);
     let t = s.tally;
     let c = count_behind(file, w, p, i, h, t);
     let r = capped(c.rest);

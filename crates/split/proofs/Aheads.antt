@@ -12,8 +12,9 @@ use Rattle.rfcomm.specs.PieceTable.{piece_at, pieces_from}
 use Rattle.spans.specs.Scan.{spans_of}
 use Rattle.spans.specs.Spans.{scanner, emptied, on_dlci}
 use Rattle.spans.specs.Parts.{tagged}
-use Rattle.split.specs.Rows.{piece, dlci_at, tail_at, key_at, held_in, stream_of, opened, Fits, joined, ahead, Laid}
+use Rattle.split.specs.Rows.{piece, dlci_at, tail_at, key_at, held_in, stream_of, opened, Fits, joined, ahead}
 use Rattle.split.proofs.Fronts.{table_front}
+use Rattle.split.specs.Walks.{Lying}
 use Rattle.split.specs.declared.Plan.{Plan}
 use Rattle.split.proofs.Lasts.{lastn_zero}
 use Rattle.split.proofs.Tables.{piece_key, piece_bytes}
@@ -42,7 +43,7 @@ module _ (f w : List ℕ) (p : Plan) (i : ℕ) (h : i < p.n) (d : dlci_at w p i 
   unfolding run
   first_run = rw (ahead_own, own_joined)
 
-  module _ (u : List ℕ) (l : Laid f w p) (s : Front (4 * p.held) u w) (m : opened f u p (i + 1) ≡ step scanner (opened f w p i) (piece f w p i)) where
+  module _ (u : List ℕ) (l : Lying f w p) (s : Front (4 * p.held) u w) (m : opened f u p (i + 1) ≡ step scanner (opened f w p i) (piece f w p i)) where
     pub next_ahead : ahead f u p (i + 1) ≡ ahead f w p (i + 1)
     next_ahead = rw (table_front f u w p l s (i + 1) (p.n - (i + 1)) (omega arith))
 

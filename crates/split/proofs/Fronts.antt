@@ -15,9 +15,9 @@ use Rattle.split.specs.Rows.{row_of, piece, dlci_at, tail_at, key_at, len_at, by
 use Rattle.split.specs.Walks.{Lying}
 use Rattle.split.specs.declared.Plan.{Plan}
 
-module _ (f u w : List ℕ) (p : Plan) (l : Laid f w p) (s : Front (4 * p.held) u w) where
+module _ (f u w : List ℕ) (p : Plan) (l : Lying f w p) (s : Front (4 * p.held) u w) where
   piece_same : (i : ℕ) → i < p.n → piece f u p i ≡ piece f w p i
-  piece_same i h = piece_front (4 * p.held) f u w (row_of p i) (omega (arith, l.rows)) s (4 * p.held) (omega arith) (l.within i h)
+  piece_same i h = piece_front (4 * p.held) f u w (row_of p i) (omega (arith, l.chained.rows)) s (4 * p.held) (omega arith) (l.within i h)
 
   pub dlci_front : (i : ℕ) → i < p.n → dlci_at u p i ≡ dlci_at w p i
   unfolding piece_at
@@ -32,7 +32,7 @@ module _ (f u w : List ℕ) (p : Plan) (l : Laid f w p) (s : Front (4 * p.held) 
   key_front i h = rw (dlci_front i h, tail_front i h)
 
   pub len_front : (i : ℕ) → i < p.n → len_at u p i ≡ len_at w p i
-  len_front i h = rw (front_word (4 * p.held) u w (row_of p i + 5) (omega (arith, l.rows)) s)
+  len_front i h = rw (front_word (4 * p.held) u w (row_of p i + 5) (omega (arith, l.chained.rows)) s)
 
   pub bytes_front : (i : ℕ) → i < p.n → bytes_at f u p i ≡ bytes_at f w p i
   unfolding piece_at bytes_at
@@ -40,7 +40,7 @@ module _ (f u w : List ℕ) (p : Plan) (l : Laid f w p) (s : Front (4 * p.held) 
 
   -- the pieces from the i-th on
   pub table_front : (i k : ℕ) → i + k ≤ p.n → pieces_from f u p.rows i k ≡ pieces_from f w p.rows i k
-  table_front i k h = pieces_front (4 * p.held) f u w p.rows i k (4 * p.held) (omega (arith, l.rows)) s (omega arith) (λ j o. l.within j (omega arith))
+  table_front i k h = pieces_front (4 * p.held) f u w p.rows i k (4 * p.held) (omega (arith, l.chained.rows)) s (omega arith) (λ j o. l.within j (omega arith))
 
   pub stream_front : (i : ℕ) (k : Key) → i ≤ p.n → stream_of f u p i k ≡ stream_of f w p i k
   unfolding stream_of
@@ -60,30 +60,41 @@ module _ (f u w : List ℕ) (p : Plan) (l : Laid f w p) (s : Front (4 * p.held) 
 
   pub linked_front : Linked u p
   linked_front = record {
-    before = λ i h. front_word (4 * p.held) u w (p.chain + i) (omega (arith, l.chain)) s ∙ l.linked.before i h ∙ sym (rw (key_front i h) (newest_front (key_at w p i) i (omega arith)));
+    before = λ i h. front_word (4 * p.held) u w (p.chain + i) (omega (arith, l.chained.chain)) s ∙ l.chained.linked.before i h ∙ sym (rw (key_front i h) (newest_front (key_at w p i) i (omega arith)));
   }
 
   within_same : (i : ℕ) → i < p.n → Within f u (row_of p i) (4 * p.held)
-  within_same i h = within_front (4 * p.held) f u w (row_of p i) (4 * p.held) (omega (arith, l.rows)) s (l.within i h)
+  within_same i h = within_front (4 * p.held) f u w (row_of p i) (4 * p.held) (omega (arith, l.chained.rows)) s (l.within i h)
 
-  pub laid_front : length u ≡ length w → Laid f u p
-  laid_front e =
-      let z : infos_of u p.rows p.n ≡ infos_of w p.rows p.n = infos_front (4 * p.held) u w p.rows p.n (omega (arith, l.rows)) s in
-      record {
-        rows = l.rows;
-        chain = l.chain;
-        linked = linked_front;
-        ends = l.ends;
-        area = l.area;
-        many = l.many;
-        sum = rw z l.sum;
-        room = rw (z, e) l.room;
-        within = within_same;
-      }
+  infos_same : infos_of u p.rows p.n ≡ infos_of w p.rows p.n
+  infos_same = infos_front (4 * p.held) u w p.rows p.n (omega (arith, l.chained.rows)) s
 
   -- the tables alone
   pub lying_front : 4 * (p.ends + p.n) ≤ length u → Lying f u p
-  lying_front e = record { rows = l.rows; chain = l.chain; linked = linked_front; ends = l.ends; words = e; within = within_same }
+  lying_front e = record {
+    chained = record { rows = l.chained.rows; chain = l.chained.chain; linked = linked_front; ends = l.chained.ends; words = e };
+    sum = rw infos_same l.sum;
+    within = within_same;
+  }
 
 pub laid_lying : (f w : List ℕ) (p : Plan) → Laid f w p → Lying f w p
-laid_lying f w p l = record { rows = l.rows; chain = l.chain; linked = l.linked; ends = l.ends; words = omega (arith, l.area, l.room); within = l.within }
+laid_lying f w p l = record {
+  chained = record { rows = l.rows; chain = l.chain; linked = l.linked; ends = l.ends; words = omega (arith, l.area, l.room) };
+  sum = l.sum;
+  within = l.within;
+}
+
+pub laid_front : (f u w : List ℕ) (p : Plan) → Laid f w p → Front (4 * p.held) u w → length u ≡ length w → Laid f u p
+laid_front f u w p l s e =
+    let k = laid_lying f w p l in
+    record {
+      rows = l.rows;
+      chain = l.chain;
+      linked = linked_front f u w p k s;
+      ends = l.ends;
+      area = l.area;
+      many = l.many;
+      sum = rw (infos_same f u w p k s) l.sum;
+      room = rw (infos_same f u w p k s, e) l.room;
+      within = within_same f u w p k s;
+    }

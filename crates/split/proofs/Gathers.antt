@@ -1,35 +1,24 @@
 -- The bytes of a piece, read or copied from the file or from work; and what a key holds, put together by walking the pieces back.
-use Prim.Native.Nat.{ℕ, suc, ◌+◌, ◌-◌, ◌*◌, ◌<◌, ◌≤◌, min}
+use Prim.Native.Nat.{ℕ, suc, ◌+◌, ◌-◌, ◌<◌, ◌≤◌, min}
 use mathlib.Core.Path.{◌≡◌, refl, sym, ap, ◌∙◌}
-use mathlib.Core.Bool.{Bool, true, false, cond}
+use mathlib.Core.Bool.{Bool, true, false}
 use mathlib.Core.List.{List, ◌++◌}
 use native.Mathlib.Omega.{arith}
 use lib.ListN.{length, take, drop, length-append, length-drop}
-use lib.Seq.{sets, length-sets, length-take-le, take_all}
+use lib.Seq.{sets, length-sets, take_all}
 use Rattle.std.specs.Prelude.{Option, None, Some}
 use Rattle.laws.specs.Keys.{Key}
-use Rattle.laws.specs.Stores.{Writes}
 use Rattle.split.specs.Last.{lastn}
 use Rattle.split.specs.Rows.{key_at, len_at, start_at, in_work, bytes_at, stream_of, stream_to}
-use Rattle.split.specs.Walks.{Row, Lying, Chain, Earlier, one_more, PutPre, GatherPre}
+use Rattle.split.specs.Walks.{Lying, Earlier, one_more, PutPre, GatherPre}
 use Rattle.split.specs.declared.Plan.{Plan}
 use Rattle.split.proofs.Backs.{sets_back}
 use Rattle.split.proofs.Lasts.{length_lastn, lastn_zero, lastn_append}
-use Rattle.split.proofs.Tables.{lying_row, lying_chain, stream_mine, stream_back, length_lying}
+use Rattle.split.proofs.Tables.{stream_mine, stream_back, length_bytes}
 
 -- ---- the bytes of a piece
 
 module _ (f w : List ℕ) (p : Plan) (j : ℕ) (t : Bool) (et : t ≡ in_work w p j) where
-  module _ (l : Lying f w p) (o : j < p.n) where
-    inside : start_at w p j + len_at w p j ≤ cond t (4 * p.held) (length f)
-    inside = rw (← et) at (l.within j o).inside
-
-    pub within_work : t ≡ true → start_at w p j + len_at w p j ≤ 4 * p.held
-    within_work e = rw e at inside
-
-    pub within_file : t ≡ false → start_at w p j + len_at w p j ≤ length f
-    within_file e = rw e at inside
-
   module _ (x : List ℕ) (s n : ℕ) (es : s ≡ start_at w p j) (en : n ≡ len_at w p j) where
     pub whole_work : t ≡ true → x ≡ take n (drop s w) → x ≡ bytes_at f w p j
     unfolding bytes_at
@@ -40,16 +29,9 @@ module _ (f w : List ℕ) (p : Plan) (j : ℕ) (t : Bool) (et : t ≡ in_work w 
     whole_file e ex = ex ∙ rw (es, en, ← et, e)
 
 -- a part of a piece
-module _ (f w : List ℕ) (p : Plan) (j skip m : ℕ) (out : List ℕ) (to : ℕ) (q : PutPre f w p j skip m out to) (x : List ℕ) (ex : x ≡ bytes_at f w p j) where
+module _ (f w : List ℕ) (p : Plan) (j skip m : ℕ) (out : List ℕ) (to : ℕ) (l : Lying f w p) (q : PutPre w p j skip m out to) (x : List ℕ) (ex : x ≡ bytes_at f w p j) where
   pub put_within : skip + m ≤ length x
-  put_within = omega (arith, q.part, ap length ex, length_lying f w p q.lying j q.row)
-
-  module _ (y : List ℕ) (ey : y ≡ take m (drop skip x)) where
-    pub put_fits : to + length y ≤ length out
-    put_fits = omega (arith, q.fits, ap length ey, length-take-le m (drop skip x) (omega (arith, length-drop skip x, put_within)))
-
-    pub put_done : (r : ℕ) (u : List ℕ) → Writes out to y r u → u ≡ sets out to (take m (drop skip (bytes_at f w p j)))
-    put_done r u k = k.writes ∙ rw (ey, ex)
+  put_within = omega (arith, q.part, ap length ex, length_bytes f w p l j q.row)
 
 -- ---- the walk back: what is left of a key's bytes before piece j, and the piece of the key before it
 
@@ -70,7 +52,7 @@ module _ (f w : List ℕ) (p : Plan) (l : Lying f w p) (k : Key) (j left : ℕ) 
 
     module _ (n m : ℕ) (en : n ≡ len_at w p r) (em : m ≡ min left n) where
       back_long : length (bytes_at f w p r) ≡ n
-      back_long = length_lying f w p l r (omega (arith, b.less)) ∙ sym en
+      back_long = length_bytes f w p l r (omega (arith, b.less)) ∙ sym en
 
       back_sum : left ≤ length (stream_of f w p r k) + length (bytes_at f w p r)
       back_sum = rw (back_stream, length-append) at come
@@ -98,16 +80,10 @@ pub record Gathering (f w : List ℕ) (p : Plan) (i h : ℕ) (out₀ : List ℕ)
   pub long : length out ≡ length out₀
   pub done : sets out at (lastn left (stream_of f w p j (key_at w p i))) ≡ sets out₀ at (lastn h (stream_to f w p i))
 
-module _ (f w : List ℕ) (p : Plan) (i h : ℕ) (out₀ : List ℕ) (at : ℕ) (q : GatherPre f w p i h out₀ at) where
-  pub gathering_start : Gathering f w p i h out₀ at out₀ i h
-  gathering_start = record { low = omega arith; most = omega arith; come = q.come; mine = refl; long = refl; done = refl }
-
+module _ (f w : List ℕ) (p : Plan) (i h : ℕ) (out₀ : List ℕ) (at : ℕ) (l : Lying f w p) (q : GatherPre f w p i h out₀ at) where
   module _ (out : List ℕ) (j left : ℕ) (g : Gathering f w p i h out₀ at out j left) where
     pub gathering_end : left ≤ 0 → out ≡ sets out₀ at (lastn h (stream_to f w p i))
-    gathering_end l = rw (lastn_zero left (stream_of f w p j (key_at w p i)) (omega arith)) at g.done
-
-    pub gathering_chain : Chain w p j
-    gathering_chain = lying_chain f w p j q.lying (omega (arith, g.low, q.row))
+    gathering_end z = rw (lastn_zero left (stream_of f w p j (key_at w p i)) (omega arith)) at g.done
 
     pub gathering_room : at + left ≤ length out
     gathering_room = omega (arith, g.most, g.long, q.fits)
@@ -117,7 +93,7 @@ module _ (f w : List ℕ) (p : Plan) (i h : ℕ) (out₀ : List ℕ) (at : ℕ) 
       pub gathering_none : 0 < left → x ≡ None → out ≡ sets out₀ at (lastn h (stream_to f w p i))
       unfolding one_more
       gathering_none z e =
-          let y = back_none f w p q.lying (key_at w p i) j left (omega (arith, g.low, q.row)) g.mine g.come (rw e at b) in
+          let y = back_none f w p l (key_at w p i) j left (omega (arith, g.low, q.row)) g.mine g.come (rw e at b) in
           absurd (omega (arith, y))
 
       module _ (r : ℕ) (e : x ≡ Some r) where
@@ -128,12 +104,12 @@ module _ (f w : List ℕ) (p : Plan) (i h : ℕ) (out₀ : List ℕ) (at : ℕ) 
         pub gathering_less : r < j
         gathering_less = omega (arith, before.less)
 
-        pub gathering_row : Row w p r
-        gathering_row = lying_row f w p r q.lying (omega (arith, gathering_less, g.low, q.row))
+        pub gathering_row : r < p.n
+        gathering_row = omega (arith, gathering_less, g.low, q.row)
 
         module _ (n m : ℕ) (en : n ≡ len_at w p r) (em : m ≡ min left n) where
-          pub gathering_put : PutPre f w p r (n - m) m out (at + left - m)
-          gathering_put = record { lying = q.lying; row = gathering_row.row; part = omega arith; fits = omega (arith, gathering_room) }
+          pub gathering_put : PutPre w p r (n - m) m out (at + left - m)
+          gathering_put = record { row = gathering_row; part = omega arith; fits = omega (arith, gathering_room) }
 
           pub gathering_turn : (u : List ℕ) → u ≡ sets out (at + left - m) (take m (drop (n - m) (bytes_at f w p r))) → Gathering f w p i h out₀ at u r (left - m)
           gathering_turn u eu =
@@ -141,8 +117,8 @@ module _ (f w : List ℕ) (p : Plan) (i h : ℕ) (out₀ : List ℕ) (at : ℕ) 
               record {
                 low = omega (arith, g.low, gathering_less);
                 most = omega (arith, g.most);
-                come = back_come f w p q.lying (key_at w p i) j left o g.mine g.come r before n m en em;
-                mine = back_mine f w p q.lying (key_at w p i) j left o g.mine g.come r before;
+                come = back_come f w p l (key_at w p i) j left o g.mine g.come r before n m en em;
+                mine = back_mine f w p l (key_at w p i) j left o g.mine g.come r before;
                 long = ap length eu ∙ simp length-sets g.long;
-                done = back_sets f w p q.lying (key_at w p i) j left o g.mine g.come r before n m en em out at u eu ∙ g.done;
+                done = back_sets f w p l (key_at w p i) j left o g.mine g.come r before n m en em out at u eu ∙ g.done;
               }

@@ -10,7 +10,7 @@ use Rattle.laws.proofs.Keys.{split_k, eq_eq_k, ne_eq_k}
 use Rattle.words.specs.Words.{word}
 use Rattle.table.specs.Chain.{newest}
 use Rattle.classes.specs.Classes.{key_at as words_at}
-use Rattle.classes.specs.Linking.{LinkRoom as ClassRoom, LinkedTo as ClassLinked}
+use Rattle.classes.specs.Linking.{LinkedTo as ClassLinked}
 use Rattle.split.specs.Rows.{row_of, tail_at, key_at, newest_of}
 use Rattle.split.specs.Walks.{LinkRoom, LinkedTo}
 use Rattle.split.specs.declared.Plan.{Plan}
@@ -54,8 +54,5 @@ module _ (w : List ℕ) (p : Plan) (links : ℕ) (bucket : Key → ℕ) (exact :
       (λ n. rw (ne_eq_k (key_at w p m) (key_at w p i) n, ne_eqb (bucket (words_of w p links m)) (bucket (words_of w p links i)) (λ e. n (back w p links m i (exact m i (omega arith) h e)))) (newest_key i m h (omega arith)))
 
 module _ (w : List ℕ) (p : Plan) (links : ℕ) (g : LinkRoom w p links) where
-  pub class_room : ClassRoom w (record { at = p.rows; n = p.n; links = links }) p.chain (links + 2 * p.n)
-  class_room = record { rows = g.rows; low = omega (arith, g.chain, g.over); tree = omega arith; room = omega (arith, g.room); many = g.many }
-
   pub class_linked : (u : List ℕ) → ClassLinked w (record { at = p.rows; n = p.n; links = links }) p.chain u → LinkedTo w p u
   class_linked u l = record { linked = record { before = λ i h. l.chained.before i h ∙ newest_key u p links l.bucket l.exact i i h (omega arith) }; front = l.front }

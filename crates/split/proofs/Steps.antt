@@ -21,13 +21,13 @@ use Rattle.spans.specs.Bytewise.{AllQuiet}
 use Rattle.spans.proofs.Bytewise.{quiet_scanned}
 use Rattle.spans.proofs.Scans.{rest_le}
 use Rattle.split.specs.Last.{lastn}
-use Rattle.split.specs.Rows.{piece, dlci_at, tail_at, key_at, len_at, bytes_at, stream_of, held_in, held_of, stream_to, opened, Fits, joined, capped_length, Laid}
-use Rattle.split.specs.Walks.{Row, Lying, PutPre, GatherPre, JoinPre, Joined, Kept, Moved}
-use Rattle.split.proofs.Fronts.{key_front, len_front, bytes_front, stream_front, held_front, lying_front}
+use Rattle.split.specs.Rows.{piece, dlci_at, tail_at, key_at, len_at, bytes_at, stream_of, held_in, held_of, stream_to, opened, Fits, joined, capped_length}
+use Rattle.split.specs.Walks.{Lying, PutPre, GatherPre, JoinPre, Joined, Kept, Moved}
+use Rattle.split.proofs.Fronts.{key_front, len_front, bytes_front, stream_front, held_front, lying_front, laid_lying}
 use Rattle.split.specs.declared.Plan.{Plan}
 use Rattle.split.proofs.Backs.{part_sets, sets_drop}
 use Rattle.split.proofs.Lasts.{length_lastn, lastn_lastn, capped_le, capped_back}
-use Rattle.split.proofs.Tables.{lying_row, piece_key, piece_bytes, stream_mine, stream_other, length_bytes, stream_infos, infos_mono}
+use Rattle.split.proofs.Tables.{piece_key, piece_bytes, stream_mine, stream_other, length_bytes, stream_infos, infos_mono}
 
 pub own_key : (w : List ℕ) (p : Plan) (i : ℕ) → dlci_at w p i ≡ p.dlci → key_at w p i ≡ p.dlci ∷ tail_at w p i
 unfolding key_at
@@ -36,20 +36,23 @@ own_key w p i e = rw e
 pub own_fits : (f w : List ℕ) (p : Plan) (i : ℕ) → dlci_at w p i ≡ p.dlci → Fits f w p i → held_of w p i ≤ length (stream_to f w p i)
 own_fits f w p i e x = rw (own_key w p i e) (x.at (tail_at w p i))
 
-module _ (f w : List ℕ) (p : Plan) (i : ℕ) (l : Laid f w p) (o : i < p.n) (x : held_of w p i ≤ length (stream_to f w p i)) where
+module _ (f w : List ℕ) (p : Plan) (i : ℕ) (l : Lying f w p) (o : i < p.n) (x : held_of w p i ≤ length (stream_to f w p i)) where
   pub length_joined : length (joined f w p i) ≡ held_of w p i + len_at w p i
   unfolding joined
   length_joined =
       length-append (lastn (held_of w p i) (stream_to f w p i)) (bytes_at f w p i)
       ∙ rw (length_lastn (held_of w p i) (stream_to f w p i) x, length_bytes f w p l i o)
 
-  pub joined_small : (length (joined f w p i) ≤ 1048576) × (p.area + length (joined f w p i) ≤ length w)
+  pub joined_infos : length (joined f w p i) ≤ infos_of w p.rows p.n
   unfolding infos_of
-  joined_small =
+  joined_infos =
       let a = length_joined in
       let c = stream_infos f w p l i (key_at w p i) (omega arith) in
       let d : infos_of w p.rows (suc i) ≤ infos_of w p.rows p.n = infos_mono w p.rows (suc i) p.n (omega arith) in
-      (omega (arith, l.sum), omega (arith, l.room))
+      omega arith
+
+  pub joined_small : length (joined f w p i) ≤ 1048576
+  joined_small = omega (arith, joined_infos, l.sum)
 
 -- ---- the words of a piece
 
@@ -57,7 +60,7 @@ pub kept_own : (w : List ℕ) (p : Plan) (i : ℕ) → Kept w p i w
 kept_own w p i = record { front = front_refl (4 * p.held) w; long = refl; held = λ j h. refl; ends = λ j h. refl }
 
 -- what the words of the pieces before say stays true
-module _ (f u w : List ℕ) (p : Plan) (l : Laid f w p) (i : ℕ) (o : i < p.n) (k : Kept w p i u) where
+module _ (f u w : List ℕ) (p : Plan) (l : Lying f w p) (i : ℕ) (o : i < p.n) (k : Kept w p i u) where
   held_kept : (j : ℕ) (q : Key) → j ≤ i → held_in u p j q ≡ held_in w p j q
   held_kept j q h = held_front f u w p l k.front j q (omega arith) (λ m g. k.held m (omega arith))
 
@@ -73,7 +76,7 @@ module _ (f u w : List ℕ) (p : Plan) (l : Laid f w p) (i : ℕ) (o : i < p.n) 
 
 -- ---- the step
 
-module _ (f w : List ℕ) (p : Plan) (i : ℕ) (l : Laid f w p) (o : i < p.n) (x : held_of w p i ≤ length (stream_to f w p i)) (u : List ℕ) (m : Moved f w p i u) where
+module _ (f w : List ℕ) (p : Plan) (i : ℕ) (l : Lying f w p) (o : i < p.n) (x : held_of w p i ≤ length (stream_to f w p i)) (u : List ℕ) (m : Moved f w p i u) where
   step_front : Front (4 * p.held) u w
   step_front = m.kept.front
 
@@ -137,6 +140,15 @@ module _ (f w : List ℕ) (p : Plan) (i h : ℕ) (q : JoinPre f w p i h) where
   join_fits : held_of w p i ≤ length (stream_to f w p i)
   join_fits = rw q.held at q.fits
 
+  join_lying : Lying f w p
+  join_lying = laid_lying f w p q.laid
+
+  join_room : p.area + length (joined f w p i) ≤ length w
+  join_room = omega (arith, joined_infos f w p i join_lying q.row join_fits, q.laid.room)
+
+  join_most : length (joined f w p i) ≤ 1048576
+  join_most = joined_small f w p i join_lying q.row join_fits
+
   -- the tables, and the area behind them
   module _ (u : List ℕ) (eu : u ≡ take p.area w) (a : List ℕ) (ea : a ≡ drop p.area w) where
     tables_long : length u ≡ p.area
@@ -148,62 +160,53 @@ module _ (f w : List ℕ) (p : Plan) (i h : ℕ) (q : JoinPre f w p i h) where
     tables_front : Front (4 * p.held) u w
     tables_front = rw eu (record { same = take-take (4 * p.held) p.area w (omega (arith, q.laid.ends, q.laid.area)) })
 
-    tables_lying : Lying f u p
-    tables_lying = lying_front f u w p q.laid tables_front (omega (arith, q.laid.area, tables_long))
+    pub tables_lying : Lying f u p
+    tables_lying = lying_front f u w p join_lying tables_front (omega (arith, q.laid.area, tables_long))
 
     tables_stream : stream_to f u p i ≡ stream_to f w p i
-    tables_stream = rw (key_front f u w p q.laid tables_front i q.row, stream_front f u w p q.laid tables_front i (key_at w p i) (omega (arith, q.row)))
-
-    pub join_row : Row u p i
-    join_row = lying_row f u p i tables_lying q.row
+    tables_stream = rw (key_front f u w p join_lying tables_front i q.row, stream_front f u w p join_lying tables_front i (key_at w p i) (omega (arith, q.row)))
 
     join_size : h + len_at w p i ≡ length (joined f w p i)
-    join_size = sym (length_joined f w p i q.laid q.row join_fits ∙ omega (arith, q.held))
+    join_size = sym (length_joined f w p i join_lying q.row join_fits ∙ omega (arith, q.held))
 
     pub join_gather : GatherPre f u p i h a 0
     join_gather = record {
-      lying = tables_lying;
       row = q.row;
       come = rw tables_stream q.fits;
-      fits = omega (arith, area_long, (joined_small f w p i q.laid q.row join_fits).1, join_size);
+      fits = omega (arith, area_long, join_room, join_size);
     }
 
     module _ (b : List ℕ) (eb : b ≡ sets a 0 (lastn h (stream_to f u p i))) (n : ℕ) (en : n ≡ len_at u p i) where
       join_own : n ≡ len_at w p i
-      join_own = en ∙ len_front f u w p q.laid tables_front i q.row
+      join_own = en ∙ len_front f u w p join_lying tables_front i q.row
 
-      pub join_put : PutPre f u p i 0 n b h
+      pub join_put : PutPre u p i 0 n b h
       join_put = record {
-        lying = tables_lying;
         row = q.row;
         part = omega arith;
-        fits = omega (arith, ap length eb ∙ length-sets a 0 (lastn h (stream_to f u p i)), area_long, (joined_small f w p i q.laid q.row join_fits).1, join_size, join_own);
+        fits = omega (arith, ap length eb ∙ length-sets a 0 (lastn h (stream_to f u p i)), area_long, join_room, join_size, join_own);
       }
 
       pub join_small : h + n ≤ 1048576
-      join_small = omega (arith, (joined_small f w p i q.laid q.row join_fits).0, join_size, join_own)
+      join_small = omega (arith, join_most, join_size, join_own)
 
       pub join_done : (d : List ℕ) → d ≡ sets b h (take n (drop 0 (bytes_at f u p i))) → Joined f w p i (u ++ d) (h + n)
       unfolding joined
       join_done d ed =
           let L : List ℕ = lastn h (stream_to f w p i) in
           let B : List ℕ = bytes_at f w p i in
-          let s = joined_small f w p i q.laid q.row join_fits in
-          let t : take n (bytes_at f u p i) ≡ B = rw (bytes_front f u w p q.laid tables_front i q.row) (take_all n B (omega (arith, length_bytes f w p q.laid i q.row, join_own))) in
+          let t : take n (bytes_at f u p i) ≡ B = rw (bytes_front f u w p join_lying tables_front i q.row) (take_all n B (omega (arith, length_bytes f w p join_lying i q.row, join_own))) in
           let y : 0 + length L ≡ h = omega (arith, length_lastn h (stream_to f w p i) q.fits) in
           let x : d ≡ sets a 0 (L ++ B) = rw (t, eb, tables_stream) at ed ∙ sym (rw y at (sets_append a 0 L B)) in
           let z : length (L ++ B) ≡ length (joined f w p i) = rw q.held in
           record {
-            put = rw (← q.held, eu, x, ea) (sets_drop w p.area (L ++ B) (omega (arith, s.1, z)));
+            put = rw (← q.held, eu, x, ea) (sets_drop w p.area (L ++ B) (omega (arith, join_room, z)));
             size = rw join_own join_size;
-            fits = omega (arith, s.1, join_size, join_own);
-            small = omega (arith, s.0, join_size, join_own);
+            fits = omega (arith, join_room, join_size, join_own);
+            small = omega (arith, join_most, join_size, join_own);
           }
 
 module _ (f w : List ℕ) (p : Plan) (i : ℕ) (v : List ℕ) (n : ℕ) (j : Joined f w p i v n) where
-  pub joined_long : length v ≡ length w
-  joined_long = ap length j.put ∙ length-sets w p.area (joined f w p i)
-
   pub joined_front : Front p.area v w
   joined_front = rw j.put (front_sets p.area (joined f w p i) w p.area (omega arith))
 

@@ -12,16 +12,9 @@ use Rattle.laws.specs.Keys.{Key, eq_k}
 use Rattle.laws.proofs.Keys.{split_k, eq_k_true, eq_eq_k, ne_eq_k}
 use Rattle.words.specs.Words.{word}
 use Rattle.rfcomm.specs.PieceTable.{piece_at, infos_of}
-use Rattle.split.specs.Rows.{piece, tail_at, key_at, len_at, start_at, in_work, bytes_at, stream_of, held_in, held_of, newest_of, Laid}
-use Rattle.split.specs.Walks.{Row, Lying, Chain, Earlier, one_more}
-use Rattle.split.proofs.Fronts.{laid_lying}
+use Rattle.split.specs.Rows.{piece, tail_at, key_at, len_at, start_at, in_work, bytes_at, stream_of, held_in, held_of, newest_of}
+use Rattle.split.specs.Walks.{Chained, Lying, Earlier, one_more}
 use Rattle.split.specs.declared.Plan.{Plan}
-
-pub lying_row : (f w : List ℕ) (p : Plan) (i : ℕ) → Lying f w p → i < p.n → Row w p i
-lying_row f w p i l h = record { rows = l.rows; ends = l.ends; words = l.words; row = h }
-
-pub lying_chain : (f w : List ℕ) (p : Plan) (i : ℕ) → Lying f w p → i < p.n → Chain w p i
-lying_chain f w p i l h = record { row = lying_row f w p i l h; chain = l.chain; linked = l.linked }
 
 -- ---- the newest piece of a key
 
@@ -45,10 +38,10 @@ module _ (w : List ℕ) (p : Plan) (k : Key) where
   newest_same g o zero = refl
   newest_same g o (suc n) = split_k (key_at w p n) k (λ e. rw (eq_eq_k (key_at w p n) k e)) (λ e. rw (ne_eq_k (key_at w p n) k e) (o n e ∙ newest_same g o n))
 
-pub earlier_is : (w : List ℕ) (p : Plan) (i : ℕ) → Chain w p i → (r : ℕ) → r ≡ word w (p.chain + i) → Earlier w p i r
-earlier_is w p i c r e =
-    let z : r ≡ newest_of (λ j. key_at w p j) (key_at w p i) i = e ∙ c.linked.before i c.row.row in
-    record { newest = z; less = rw z (newest_less w p (key_at w p i) i); mine = λ j h. newest_mine w p (key_at w p i) i j (sym z ∙ h) }
+pub earlier_is : (w : List ℕ) (p : Plan) (i : ℕ) → Chained w p → i < p.n → (r : ℕ) → r ≡ word w (p.chain + i) → Earlier w p i r
+earlier_is w p i c h r e =
+    let z : r ≡ newest_of (λ j. key_at w p j) (key_at w p i) i = e ∙ c.linked.before i h in
+    record { newest = z; less = rw z (newest_less w p (key_at w p i) i); mine = λ j q. newest_mine w p (key_at w p i) i j (sym z ∙ q) }
 
 pub less_one : (x : ℕ) (r : Option ℕ) → SomeIff r (1 ≤ x) (x - 1) → one_more r ≡ x
 unfolding one_more
@@ -106,16 +99,12 @@ infos_mono w b i (suc n) h = split≡ i (suc n) (λ e. rw e (omega arith)) (λ e
 
 module _ (f w : List ℕ) (p : Plan) (l : Lying f w p) where
   part_long : (t : Bool) (a n : ℕ) → a + n ≤ cond t (4 * p.held) (length f) → length (take n (drop a (cond t w f))) ≡ n
-  part_long true a n h = length-take-le n (drop a w) (simp length-drop (omega (arith, l.ends, l.words)))
+  part_long true a n h = length-take-le n (drop a w) (simp length-drop (omega (arith, l.chained.ends, l.chained.words)))
   part_long false a n h = length-take-le n (drop a f) (simp length-drop (omega arith))
 
-  pub length_lying : (i : ℕ) → i < p.n → length (bytes_at f w p i) ≡ len_at w p i
-  unfolding bytes_at
-  length_lying i h = part_long (in_work w p i) (start_at w p i) (len_at w p i) (l.within i h).inside
-
-module _ (f w : List ℕ) (p : Plan) (l : Laid f w p) where
   pub length_bytes : (i : ℕ) → i < p.n → length (bytes_at f w p i) ≡ len_at w p i
-  length_bytes = length_lying f w p (laid_lying f w p l)
+  unfolding bytes_at
+  length_bytes i h = part_long (in_work w p i) (start_at w p i) (len_at w p i) (l.within i h).inside
 
   pub stream_infos : (i : ℕ) (k : Key) → i ≤ p.n → length (stream_of f w p i k) ≤ infos_of w p.rows i
   unfolding stream_of infos_of

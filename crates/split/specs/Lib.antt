@@ -1,3 +1,4 @@
 pub mod Last
 pub mod Rows
 pub mod Walks
+pub mod Views

@@ -5,7 +5,7 @@ use Rattle.words.specs.Words.{word}
 use Rattle.words.specs.Front.{Front}
 use Rattle.spans.specs.Scan.{rest_of}
 use Rattle.search.specs.Seek.{seek}
-use Rattle.rfcomm.specs.PieceTable.{Within}
+use Rattle.rfcomm.specs.PieceTable.{infos_of, Within}
 use Rattle.split.specs.Rows.{row_of, dlci_at, key_at, len_at, start_at, bytes_at, held_of, stream_to, joined, capped_length, newest_of, Linked, Laid}
 use Rattle.split.specs.declared.Plan.{Plan}
 
@@ -17,11 +17,13 @@ pub record Row (w : List ℕ) (p : Plan) (i : ℕ) : Type 0 where
   pub words : 4 * (p.ends + p.n) ≤ length w
   pub row : i < p.n
 
--- a piece and the words that link the pieces
-pub record Chain (w : List ℕ) (p : Plan) (i : ℕ) : Type 0 where
-  pub row : Row w p i
+-- the tables that are read lie in w, and the pieces are linked
+pub record Chained (w : List ℕ) (p : Plan) : Type 0 where
+  pub rows : p.rows + 8 * p.n ≤ p.held
   pub chain : p.chain + p.n ≤ p.held
   pub linked : Linked w p
+  pub ends : p.held + p.n ≤ p.ends
+  pub words : 4 * (p.ends + p.n) ≤ length w
 
 -- room to link the pieces: three words for each, from word links on
 pub record LinkRoom (w : List ℕ) (p : Plan) (links : ℕ) : Type 0 where
@@ -50,22 +52,14 @@ pub record StartIs (w : List ℕ) (p : Plan) (i r : ℕ) : Type 0 where
   pub at : r ≡ start_at w p i
   pub small : r < 4294967296
 
--- the tables lie in w, the linked pieces first, and below them what was joined; w may end behind them, so that there is no area
+-- below the tables in w lies what was joined, and the rest in f; w may end behind the tables, so that there is no area
 pub record Lying (f w : List ℕ) (p : Plan) : Type 0 where
-  pub rows : p.rows + 8 * p.n ≤ p.held
-  pub chain : p.chain + p.n ≤ p.held
-  pub linked : Linked w p
-  pub ends : p.held + p.n ≤ p.ends
-  pub words : 4 * (p.ends + p.n) ≤ length w
+  pub chained : Chained w p
+  pub sum : infos_of w p.rows p.n ≤ 1048576
   pub within : (i : ℕ) → i < p.n → Within f w (row_of p i) (4 * p.held)
 
-pub record Placed (f w : List ℕ) (p : Plan) (i : ℕ) : Type 0 where
-  pub lying : Lying f w p
-  pub row : i < p.n
-
 -- m bytes of the piece j from skip on, to a place in out
-pub record PutPre (f w : List ℕ) (p : Plan) (j skip m : ℕ) (out : List ℕ) (to : ℕ) : Type 0 where
-  pub lying : Lying f w p
+pub record PutPre (w : List ℕ) (p : Plan) (j skip m : ℕ) (out : List ℕ) (to : ℕ) : Type 0 where
   pub row : j < p.n
   pub part : skip + m ≤ len_at w p j
   pub fits : to + m ≤ length out
@@ -73,7 +67,6 @@ pub record PutPre (f w : List ℕ) (p : Plan) (j skip m : ℕ) (out : List ℕ) 
 -- ---- the buffer of a key
 
 pub record GatherPre (f w : List ℕ) (p : Plan) (i h : ℕ) (out : List ℕ) (at : ℕ) : Type 0 where
-  pub lying : Lying f w p
   pub row : i < p.n
   pub come : h ≤ length (stream_to f w p i)
   pub fits : at + h ≤ length out

@@ -16,7 +16,8 @@ use Rattle.rfcomm.specs.PieceTable.{infos_of}
 use Rattle.rfcomm.proofs.PieceRows.{pieces_front, infos_front, within_front}
 use Rattle.spans.specs.Spans.{spans, on_dlci}
 use Rattle.split.specs.Rows.{all}
-use Rattle.split.specs.Walks.{LinkRoom, LinkedTo}
+use Rattle.split.specs.Walks.{LinkRoom, LinkedTo, Lying}
+use Rattle.split.proofs.Fronts.{laid_lying}
 use Rattle.split.specs.declared.Plan.{Plan}
 use Rattle.writing.specs.Writing.{ListPre}
 use Rattle.outcome.specs.Import.{chosen, listed, given}
@@ -80,10 +81,12 @@ module _ (f w : List ℕ) (n : ℕ) (channel : Channel) (u : List ℕ) (c : Choi
     }
 
     module _ (t : Ready f w n) (h : s.bytes ≤ length out) (k : length u ≡ length w) (p : Plan) (ep : p ≡ plan_of (length f / 4) n s.dlci) where
+      pub lists_lying : Lying f u p
+      lists_lying = laid_lying f u p (laid_later f w n t u q.front k p s.dlci ep)
+
       pub lists_pre : ListPre f u p out
       unfolding plan_of
       lists_pre = record {
-        laid = laid_later f w n t u q.front k p s.dlci ep;
         told = rw ep (q.told s e);
         room = rw (all_same f w n t u q.front p s.dlci ep) (omega (arith, needed));
       }

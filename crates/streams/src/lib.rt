@@ -6,7 +6,7 @@ ghost use Rattle.outcome.specs.Import.{on_channel};
 ghost use Rattle.streams.specs.Streams.{channel_of, plan_of, Tabled, Ready, Accountable, stream_summed, Chooses, ListsSpans};
 
 use measuring::{Sums, count_spans};
-use split::{Plan, link_pieces};
+use split::{Pieces, Plan, link_pieces};
 use words::get32;
 use writing::write_spans;
 
@@ -102,29 +102,6 @@ pub enum ListError {
     OutShort(usize),
 }
 
-// Lists the spans of the DLCI chosen, for the n pieces in the table, which are linked.
-fn list_linked(
-    file: &[u8],
-    w: &mut [u8],
-    n: usize,
-    channel: Option<u8>,
-    out: &mut [u8],
-) -> Result<Stream, ListError>
-    requires { Ready file.now w.old n }
-    ensures { ListsSpans file.now w.old n channel out.old result w.new out.new }
-{
-    let Some(s) = choose_dlci(file, w, n, channel) else {
-        return Err(ListError::NoStream);
-    };
-    if out.len() < s.bytes {
-        return Err(ListError::OutShort(s.bytes));
-    }
-    let q = file.len() / 4;
-    let p = plan(q, n, s.dlci as u32);
-    write_spans(file, w, p, out);
-    Ok(s)
-}
-
 // Lists the spans of the DLCI chosen, for the n pieces in the table.
 pub fn list_spans(
     file: &[u8],
@@ -137,7 +114,16 @@ pub fn list_spans(
     ensures { ListsSpans file.now w.old n channel out.old result w.new out.new }
 {
     let q = file.len() / 4;
-    let p = plan(q, n, 0);
-    link_pieces(w, p, 7 * q);
-    list_linked(file, w, n, channel, out)
+    let all = plan(q, n, 0);
+    link_pieces(w, all, 7 * q);
+    let Some(s) = choose_dlci(file, w, n, channel) else {
+        return Err(ListError::NoStream);
+    };
+    if out.len() < s.bytes {
+        return Err(ListError::OutShort(s.bytes));
+    }
+    let p = plan(q, n, s.dlci as u32);
+    let pieces = Pieces { file, w, plan: p };
+    write_spans(pieces, out);
+    Ok(s)
 }

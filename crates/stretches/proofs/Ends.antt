@@ -11,9 +11,9 @@ use Rattle.laws.specs.Keys.{Key}
 use Rattle.laws.specs.Keyed.{step, after}
 use Rattle.words.proofs.Front.{front_refl}
 use Rattle.spans.specs.Spans.{scanner, emptied}
-use Rattle.split.specs.Rows.{piece, dlci_at, held_in, held_of, stream_of, stream_to, opened, Fits, ahead, all, Laid}
+use Rattle.split.specs.Rows.{piece, dlci_at, held_in, held_of, stream_of, stream_to, opened, Fits, ahead, all}
 use Rattle.measuring.specs.Counting.{keys_to}
-use Rattle.split.specs.Walks.{AllTold, Moved}
+use Rattle.split.specs.Walks.{Lying, AllTold, Moved}
 use Rattle.split.proofs.Lasts.{length_lastn}
 use Rattle.split.proofs.Steps.{own_fits, kept_own, moved_opens, moved_fits}
 use Rattle.split.proofs.Aheads.{opened_none, ahead_none, next_after, next_keys, ahead_skip, opened_skip, fits_skip}
@@ -26,7 +26,7 @@ record Ending (f w : List ℕ) (p : Plan) (i : ℕ) : Type 0 where
   pub ends : after scanner (opened f w p i) (ahead f w p i) ≡ after scanner emptied (all f w p)
   pub keys : keys_to w p i ++ map (λ x. x.key) (ahead f w p i) ≡ map (λ x. x.key) (all f w p)
 
-module _ (f w : List ℕ) (p : Plan) (l : Laid f w p) (t : AllTold f w p p.n) where
+module _ (f w : List ℕ) (p : Plan) (l : Lying f w p) (t : AllTold f w p p.n) where
   ending_own : (i : ℕ) → i < p.n → dlci_at w p i ≡ p.dlci → Ending f w p i → Ending f w p (i + 1)
   unfolding keys_to
   ending_own i h d v =

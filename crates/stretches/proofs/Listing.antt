@@ -8,7 +8,7 @@ use native.Mathlib.Numerals.{add-one}
 use lib.ListN.{length}
 use lib.Dec.{eqb, ltb}
 use borrow.Author.Tests.{eq-eqb, ne_eqb, lt-ltb}
-use Rattle.laws.proofs.Choice.{split_b, split≡}
+use Rattle.laws.proofs.Choice.{split_b, split≡, no_way}
 use Rattle.laws.specs.Keys.{Key, eq_k}
 use Rattle.laws.proofs.Keys.{split_k, eq_eq_k, ne_eq_k}
 use Rattle.laws.specs.Count.{mem}
@@ -16,15 +16,20 @@ use Rattle.words.specs.Words.{word, put_word}
 use Rattle.words.specs.Rows.{put_words}
 use Rattle.words.proofs.Rows.{length_puts, puts_below, puts_above, word_puts}
 use Rattle.words.proofs.Front.{front_word}
+use Rattle.std.specs.Prelude.{Option, None, Some}
+use Rattle.std.specs.Option.{is_some}
+use Rattle.split.specs.Walks.{Chained, Earlier, one_more}
+use Rattle.split.proofs.Fronts.{laid_lying}
 use Rattle.split.specs.Rows.{dlci_at, tail_at, key_at, held_in, newest_of}
 use Rattle.measuring.specs.Counting.{keys_to}
 use Rattle.split.proofs.Steps.{own_key}
 use Rattle.split.specs.declared.Plan.{Plan}
 use Rattle.stretches.specs.Open.{firsts, stretch_of, open_of}
 use Rattle.stretches.specs.Filled.{stretch_at, stretches_to}
-use Rattle.stretches.specs.Listing.{ListRoom, RowIn, SpreadPre, Spread, is_open, row_stretch, words_of, added, AddPre, Above, Added, open_to, SpreadListed, OpenListed}
+use Rattle.stretches.specs.Listing.{SpreadPre, Spread, is_open, row_stretch, words_of, added, AddPre, Above, Added, open_to, SpreadListed, OpenListed}
 use Rattle.stretches.specs.declared.Stretch.{Stretch}
 use Rattle.stretches.proofs.Opening.{mem_snoc, firsts_snoc, open_append, open_none, open_one}
+use Rattle.stretches.proofs.Spreading.{linked_same, list_room}
 use Rattle.stretches.proofs.Ends.{open_by_words}
 
 -- ---- one piece
@@ -34,14 +39,24 @@ module _ (w : List ℕ) (p : Plan) (i : ℕ) where
   unfolding is_open
   open_other x e n = rw (← e, ne_eqb x p.dlci n)
 
-  module _ (x : ℕ) (ex : x ≡ word w (p.rows + 8 * i)) (e : x ≡ p.dlci) (y : ℕ) (ey : y ≡ word w (p.chain + i)) where
-    pub open_later : (y ≡ 0 → ⊥) → false ≡ is_open w p i
-    unfolding is_open
-    open_later n = rw (← ex, ← ey, eq-eqb x p.dlci e, ne_eqb y 0 n)
+  module _ (c : Chained w p) (h : i < p.n) (x : ℕ) (ex : x ≡ word w (p.rows + 8 * i)) (e : x ≡ p.dlci) (o : Option ℕ) (g : Earlier w p i (one_more o)) where
+    chain_is : word w (p.chain + i) ≡ one_more o
+    chain_is = c.linked.before i h ∙ sym g.newest
 
-    pub open_first : y ≡ 0 → (z : ℕ) → z ≡ word w (p.held + i) → ltb 0 z ≡ is_open w p i
-    unfolding is_open
-    open_first o z ez = rw (← ex, ← ey, ← ez, eq-eqb x p.dlci e, eq-eqb y 0 o)
+    module _ (t : Bool) (et : t ≡ is_some o) where
+      pub open_later : t ≡ true → false ≡ is_open w p i
+      unfolding is_open one_more
+      open_later z = rw (← ex, chain_is, eq-eqb x p.dlci e) (later o (sym et ∙ z)) where
+        later : (o : Option ℕ) → is_some o ≡ true → false ≡ (eqb (one_more o) 0 && ltb 0 (word w (p.held + i)))
+        later None q = no_way q refl
+        later (Some j) q = rw (ne_eqb (suc j) 0 (λ z. omega arith))
+
+      pub open_first : t ≡ false → (y : ℕ) → y ≡ word w (p.held + i) → ltb 0 y ≡ is_open w p i
+      unfolding is_open one_more
+      open_first z y ey = rw (← ex, chain_is, ← ey, eq-eqb x p.dlci e) (first o (sym et ∙ z)) where
+        first : (o : Option ℕ) → is_some o ≡ false → ltb 0 y ≡ (eqb (one_more o) 0 && ltb 0 y)
+        first None q = refl
+        first (Some j) q = no_way {b = true} refl q
 
   pub stretch_is :
       (counts way cid dlci held : ℕ) →
@@ -113,24 +128,21 @@ module _ (w : List ℕ) (at k : ℕ) (s : Stretch) (o : at ≡ 6 * k) (r : 4 * a
   old zero h = refl
   old (suc j) h = rw (old j (omega arith), at_old j (omega arith))
 
-  one_more : stretches_to more (k + 1) ≡ stretches_to w k ++ (s ∷ [])
+  listed_more : stretches_to more (k + 1) ≡ stretches_to w k ++ (s ∷ [])
   unfolding stretches_to
-  one_more = rw (add-one k, old k (omega arith), at_new)
+  listed_more = rw (add-one k, old k (omega arith), at_new)
 
 module _ (w : List ℕ) (p : Plan) (i k : ℕ) (g : AddPre w p i k) where
-  pub add_row : RowIn w p i
-  add_row = record { room = g.room; row = g.row }
-
   pub add_room : 4 * (6 * k) + 24 ≤ length w
-  add_room = omega (arith, g.fewer, g.row, g.room.low, g.room.rows, g.room.ends, g.room.words)
+  add_room = omega (arith, g.fewer, g.row, g.pre.room.low, g.pre.room.rows, g.pre.room.ends, g.pre.room.words)
 
   pub adds :
       (b : Bool) → b ≡ is_open w p i → b ≡ true → (s : Stretch) → s ≡ row_stretch w p i → (u : List ℕ) → u ≡ put_words w (6 * k) (words_of s) →
       Added w p i k u (k + 1)
   unfolding added
   adds b eb t s es u eu = record {
-    list = rw (eu, ← eb, t, ← es) (one_more w (6 * k) k s refl add_room);
-    above = λ j h. rw eu (puts_above (words_of s) w (6 * k) j (omega (arith, six w (6 * k) k s refl add_room, g.fewer, g.row, g.room.low)));
+    list = rw (eu, ← eb, t, ← es) (listed_more w (6 * k) k s refl add_room);
+    above = λ j h. rw eu (puts_above (words_of s) w (6 * k) j (omega (arith, six w (6 * k) k s refl add_room, g.fewer, g.row, g.pre.room.low)));
     fewer = omega (arith, g.fewer);
   }
 
@@ -141,34 +153,30 @@ module _ (w : List ℕ) (p : Plan) (i k : ℕ) (g : AddPre w p i k) where
 -- ---- all pieces
 
 pub record Listing (w₀ : List ℕ) (p : Plan) (w : List ℕ) (i k : ℕ) : Type 0 where
-  pub room : ListRoom w₀ p
+  pub pre : SpreadPre w₀ p
   pub within : i ≤ p.n
   pub size : length w ≡ length w₀
   pub above : Above p w w₀
   pub list : stretches_to w k ≡ open_to w₀ p i
   pub fewer : k ≤ i
 
-pub listing_start : (w : List ℕ) (p : Plan) → ListRoom w p → Listing w p w 0 0
+pub listing_start : (w : List ℕ) (p : Plan) → SpreadPre w p → Listing w p w 0 0
 unfolding stretches_to open_to
-listing_start w p r = record { room = r; within = omega arith; size = refl; above = λ j h. refl; list = refl; fewer = omega arith }
+listing_start w p g = record { pre = g; within = omega arith; size = refl; above = λ j h. refl; list = refl; fewer = omega arith }
 
 module _ (w₀ : List ℕ) (p : Plan) (w : List ℕ) (i k : ℕ) (v : Listing w₀ p w i k) where
   pub listing_pre : i < p.n → AddPre w p i k
   listing_pre h =
-      let r = v.room in
-      record {
-        room = record { low = r.low; after = r.after; rows = r.rows; chain = r.chain; ends = r.ends; words = rw v.size r.words; many = r.many };
-        row = h;
-        fewer = v.fewer;
-      }
+      let s : (j : ℕ) → p.rows ≤ j → j < p.held → word w j ≡ word w₀ j = λ j a b. v.above j a in
+      record { pre = record { room = list_room w w₀ p v.pre.room s v.size; linked = linked_same w w₀ p v.pre.room s v.pre.linked }; row = h; fewer = v.fewer }
 
   added_same : added w p i ≡ added w₀ p i
   unfolding added is_open row_stretch
   added_same =
       rw (
         v.above (p.rows + 8 * i) (omega arith),
-        v.above (p.chain + i) (omega (arith, v.room.after)),
-        v.above (p.held + i) (omega (arith, v.room.rows)),
+        v.above (p.chain + i) (omega (arith, v.pre.room.after)),
+        v.above (p.held + i) (omega (arith, v.pre.room.rows)),
         v.above (p.rows + 8 * i + 1) (omega arith),
         v.above (p.rows + 8 * i + 2) (omega arith),
         v.above (p.rows + 8 * i + 3) (omega arith),
@@ -177,18 +185,13 @@ module _ (w₀ : List ℕ) (p : Plan) (w : List ℕ) (i k : ℕ) (v : Listing w�
   pub listing_turn : i < p.n → (u : List ℕ) (r : ℕ) → Added w p i k u r → length u ≡ length w → Listing w₀ p u (i + 1) r
   unfolding open_to
   listing_turn h u r a l = record {
-    room = v.room;
+    pre = v.pre;
     within = omega arith;
     size = l ∙ v.size;
     above = λ j o. a.above j o ∙ v.above j o;
     list = rw (add-one i) (a.list ∙ rw (v.list, added_same));
     fewer = a.fewer;
   }
-
-  pub listing_end : p.n ≤ i → SpreadListed w₀ p w k
-  listing_end h =
-      let z : i ≡ p.n = omega (arith, v.within) in
-      record { list = rw z at v.list; few = omega (arith, v.fewer, v.within) }
 
 -- ---- the list is that of the definition
 
@@ -273,6 +276,6 @@ module _ (w : List ℕ) (p : Plan) (g : SpreadPre w p) (v : List ℕ) (s : Sprea
 
   pub open_listed : (u : List ℕ) (r : ℕ) → SpreadListed v p u r → OpenListed w p u r
   open_listed u r t = record {
-    list = λ f l a. t.list ∙ open_to_law p.n (omega arith) ∙ sym (open_by_words f w p l a);
+    list = λ f l a. t.list ∙ open_to_law p.n (omega arith) ∙ sym (open_by_words f w p (laid_lying f w p l) a);
     few = t.few;
   }

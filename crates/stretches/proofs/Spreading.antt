@@ -13,16 +13,16 @@ use Rattle.words.proofs.Words.{word_put_same, word_put_other}
 use Rattle.words.specs.Front.{Front}
 use Rattle.words.proofs.Front.{front_refl, front_then, front_put, front_word}
 use Rattle.split.specs.Rows.{key_at, tail_at, held_in, newest_of, Linked}
-use Rattle.split.specs.Walks.{Chain, Earlier, one_more}
+use Rattle.split.specs.Walks.{Chained, Earlier, one_more}
 use Rattle.split.proofs.Tables.{newest_less, newest_mine, before_less}
 use Rattle.split.specs.declared.Plan.{Plan}
-use Rattle.stretches.specs.Listing.{ListRoom, Handed, SpreadPre, Spread}
+use Rattle.stretches.specs.Listing.{ListRoom, PieceIn, Handed, SpreadPre}
 
 -- ---- one piece
 
-module _ (w : List ℕ) (p : Plan) (i : ℕ) (c : Chain w p i) (o : Option ℕ) (b : Earlier w p i (one_more o)) where
+module _ (w : List ℕ) (p : Plan) (i : ℕ) (c : PieceIn w p i) (o : Option ℕ) (b : Earlier w p i (one_more o)) where
   chain_word : one_more o ≡ word w (p.chain + i)
-  chain_word = b.newest ∙ sym (c.linked.before i c.row.row)
+  chain_word = b.newest ∙ sym (c.chained.linked.before i c.row)
 
   pub handed_none : o ≡ None → Handed w p i w
   unfolding one_more
@@ -36,7 +36,7 @@ module _ (w : List ℕ) (p : Plan) (i : ℕ) (c : Chain w p i) (o : Option ℕ) 
     next = rw z at chain_word
 
     pub back_room : 4 * (p.held + j) + 4 ≤ length w
-    back_room = omega (arith, before_less w p i o b j z, c.row.row, c.row.ends, c.row.words)
+    back_room = omega (arith, before_less w p i o b j z, c.row, c.chained.ends, c.chained.words)
 
     pub handed : (h : ℕ) → h ≡ word w (p.held + i) → (u : List ℕ) → u ≡ put_word w (p.held + j) h → Handed w p i u
     handed h eh u eu =
@@ -87,22 +87,39 @@ spreading_start w p g = record {
   late = λ m h z. absurd (omega arith);
 }
 
-key_front : (u w : List ℕ) (p : Plan) → ListRoom w p → Front (4 * p.held) u w → (i : ℕ) → i < p.n → key_at u p i ≡ key_at w p i
-unfolding key_at tail_at
-key_front u w p r s i h =
-    rw (
-      front_word (4 * p.held) u w (p.rows + 8 * i) (omega (arith, r.rows)) s,
-      front_word (4 * p.held) u w (p.rows + 8 * i + 1) (omega (arith, r.rows)) s,
-      front_word (4 * p.held) u w (p.rows + 8 * i + 2) (omega (arith, r.rows)) s,
-      front_word (4 * p.held) u w (p.rows + 8 * i + 3) (omega (arith, r.rows)) s,
-    )
+-- what links the pieces is told by the words from their rows to the lengths held
+module _ (u w : List ℕ) (p : Plan) (r : ListRoom w p) (s : (j : ℕ) → p.rows ≤ j → j < p.held → word u j ≡ word w j) where
+  key_same : (i : ℕ) → i < p.n → key_at u p i ≡ key_at w p i
+  unfolding key_at tail_at
+  key_same i h =
+      rw (
+        s (p.rows + 8 * i) (omega arith) (omega (arith, r.rows)),
+        s (p.rows + 8 * i + 1) (omega arith) (omega (arith, r.rows)),
+        s (p.rows + 8 * i + 2) (omega arith) (omega (arith, r.rows)),
+        s (p.rows + 8 * i + 3) (omega arith) (omega (arith, r.rows)),
+      )
 
-newest_front :
-    (u w : List ℕ) (p : Plan) → ListRoom w p → Front (4 * p.held) u w → (k : Key) (i : ℕ) → i ≤ p.n →
-    newest_of (λ j. key_at u p j) k i ≡ newest_of (λ j. key_at w p j) k i
-unfolding newest_of
-newest_front u w p r s k zero h = refl
-newest_front u w p r s k (suc i) h = rw (key_front u w p r s i (omega arith), newest_front u w p r s k i (omega arith))
+  newest_same : (k : Key) (i : ℕ) → i ≤ p.n → newest_of (λ j. key_at u p j) k i ≡ newest_of (λ j. key_at w p j) k i
+  unfolding newest_of
+  newest_same k zero h = refl
+  newest_same k (suc i) h = rw (key_same i (omega arith), newest_same k i (omega arith))
+
+  pub linked_same : Linked w p → Linked u p
+  linked_same l = record {
+    before = λ i h. s (p.chain + i) (omega (arith, r.after)) (omega (arith, r.chain)) ∙ l.before i h ∙ sym (rw (key_same i h) (newest_same (key_at w p i) i (omega arith)));
+  }
+
+  pub list_room : length u ≡ length w → ListRoom u p
+  list_room e = record { low = r.low; after = r.after; rows = r.rows; chain = r.chain; ends = r.ends; words = rw e r.words; many = r.many }
+
+pub pre_chained : (w : List ℕ) (p : Plan) → SpreadPre w p → Chained w p
+pre_chained w p g = record { rows = g.room.rows; chain = g.room.chain; linked = g.linked; ends = g.room.ends; words = g.room.words }
+
+-- where all below the lengths held is as it was
+pub front_pre : (u w : List ℕ) (p : Plan) → SpreadPre w p → Front (4 * p.held) u w → length u ≡ length w → SpreadPre u p
+front_pre u w p g f e =
+    let s : (j : ℕ) → p.rows ≤ j → j < p.held → word u j ≡ word w j = λ j a b. front_word (4 * p.held) u w j (omega arith) f in
+    record { room = list_room u w p g.room s e; linked = linked_same u w p g.room s g.linked }
 
 module _ (w₀ : List ℕ) (p : Plan) (w : List ℕ) where
   abbrev newest : Key → ℕ → ℕ
@@ -115,20 +132,8 @@ module _ (w₀ : List ℕ) (p : Plan) (w : List ℕ) where
     chain_is : word w (p.chain + m) ≡ newest (key_at w₀ p m) m
     chain_is = front_word (4 * p.held) w w₀ (p.chain + m) (omega (arith, g.room.chain)) v.front ∙ g.linked.before m h
 
-    linked_now : Linked w p
-    linked_now = record {
-      before = λ i o.
-          front_word (4 * p.held) w w₀ (p.chain + i) (omega (arith, g.room.chain)) v.front
-          ∙ g.linked.before i o
-          ∙ sym (rw (key_front w w₀ p g.room v.front i o) (newest_front w w₀ p g.room v.front (key_at w₀ p i) i (omega arith)));
-    }
-
-    back_pre : Chain w p m
-    back_pre = record {
-      row = record { rows = g.room.rows; ends = g.room.ends; words = rw v.size g.room.words; row = h };
-      chain = g.room.chain;
-      linked = linked_now;
-    }
+    back_pre : PieceIn w p m
+    back_pre = record { chained = pre_chained w p (front_pre w w₀ p g v.front v.size); row = h }
 
     module _ (u : List ℕ) (t : Handed w p m u) where
       low : newest (key_at w₀ p m) m ≤ m
@@ -170,11 +175,8 @@ module _ (w₀ : List ℕ) (p : Plan) (w : List ℕ) where
     is_suc : i ≡ suc (i - 1)
     is_suc = omega arith
 
-    pub spreading_pre : Chain w p (i - 1)
+    pub spreading_pre : PieceIn w p (i - 1)
     spreading_pre = back_pre (i - 1) (omega (arith, v.within)) (rw is_suc at v)
 
     pub spreading_turn : (u : List ℕ) → Handed w p (i - 1) u → length u ≡ length w → Spreading w₀ p u (i - 1)
     spreading_turn u t l = spreading_step (i - 1) (omega (arith, v.within)) (rw is_suc at v) u t l
-
-pub spreading_end : (w₀ : List ℕ) (p : Plan) (w : List ℕ) (i : ℕ) → Spreading w₀ p w i → i ≤ 0 → Spread w₀ p w
-spreading_end w₀ p w i v h = record { front = v.front; last = λ m g. v.late m (omega arith) g }

@@ -3,7 +3,7 @@ use Rattle.std.specs.Prelude.{ℕ, zero, suc, ◌+◌, ◌-◌, ◌*◌, ◌/◌
 use Rattle.words.specs.Words.{word}
 use Rattle.words.specs.Front.{Front}
 use Rattle.split.specs.Rows.{row_of, dlci_at, key_at, held_in, all, Linked, Laid}
-use Rattle.split.specs.Walks.{AllTold}
+use Rattle.split.specs.Walks.{Chained, AllTold}
 use Rattle.split.specs.declared.Plan.{Plan}
 use Rattle.stretches.specs.Open.{open_stretches}
 use Rattle.stretches.specs.Filled.{stretches_to}
@@ -19,8 +19,8 @@ pub record ListRoom (w : List ℕ) (p : Plan) : Type 0 where
   pub words : 4 * (p.ends + p.n) ≤ length w
   pub many : p.n ≤ 1048576
 
-pub record RowIn (w : List ℕ) (p : Plan) (i : ℕ) : Type 0 where
-  pub room : ListRoom w p
+pub record PieceIn (w : List ℕ) (p : Plan) (i : ℕ) : Type 0 where
+  pub chained : Chained w p
   pub row : i < p.n
 
 -- ---- what each key holds at the end, told to each of its pieces
@@ -67,7 +67,7 @@ added w p i = cond (is_open w p i) (row_stretch w p i ∷ []) []
 
 -- a piece, and k stretches listed before it
 pub record AddPre (w : List ℕ) (p : Plan) (i k : ℕ) : Type 0 where
-  pub room : ListRoom w p
+  pub pre : SpreadPre w p
   pub row : i < p.n
   pub fewer : k ≤ i
 

@@ -1,13 +1,12 @@
 // The stretches that are open at the end of a trace, each with its counts: listed in work, and put into a lent list.
 #![tactic(auto)]
 
-ghost use Rattle.std.specs.Prelude.{◌≡◌, ◌+◌, ◌*◌, ◌≤◌, length};
+ghost use Rattle.std.specs.Prelude.{◌≡◌, ◌+◌, ◌*◌, ◌<◌, ◌≤◌, length};
 ghost use Rattle.words.specs.Rows.{put_words};
-ghost use Rattle.split.specs.Walks.{Chain};
 ghost use Rattle.stretches.specs.Filled.{stretch_at, filled};
-ghost use Rattle.stretches.specs.Listing.{ListRoom, RowIn, Handed, SpreadPre, Spread, is_open, row_stretch, words_of, AddPre, Added, SpreadListed, OpenListed};
+ghost use Rattle.stretches.specs.Listing.{PieceIn, Handed, SpreadPre, Spread, is_open, row_stretch, words_of, AddPre, Added, SpreadListed, OpenListed};
 
-use split::{Plan, earlier};
+use split::{Plan, Table};
 use words::{get32, put32};
 
 // A stretch and direction with bytes held: 2 * link + direction, where a link is 4096 times the adapter's index plus the handle;
@@ -62,10 +61,11 @@ pub fn fill(work: &[u8], stretches: &mut [Stretch], count: usize)
 
 // Tells the length held after piece i to the piece before it of its key, if there is one.
 fn hand_back(w: &mut [u8], p: Plan, i: usize)
-    requires { Chain w.old p i }
+    requires { PieceIn w.old p i }
     ensures { Handed w.old p i w.new }
 {
-    if let Some(j) = earlier(w, p, i) {
+    let table = Table { w, plan: p };
+    if let Some(j) = table.earlier(i) {
         let h = get32(w, p.held + i);
         put32(w, p.held + j, h);
     }
@@ -84,34 +84,33 @@ fn spread_back(w: &mut [u8], p: Plan)
 // ---- the stretches that are open at the end, listed in work
 
 // Whether piece i is the first of its key, of the DLCI, and something is held.
-// Stays: whether a piece came before is read off the word; `earlier` asks that the words link the pieces, which no one asks here.
-fn is_open(w: &[u8], p: Plan, i: usize) -> bool
-    requires { RowIn w.now p i }
-    ensures { result ≡ is_open w.now p i }
+fn is_open(t: Table, i: usize) -> bool
+    requires { i < t.plan.n }
+    ensures { result ≡ is_open t.entry.w.now t.entry.plan i }
 {
-    if get32(w, p.rows + 8 * i) != p.dlci {
+    if get32(t.w, t.plan.rows + 8 * i) != t.plan.dlci {
         return false;
     }
-    if get32(w, p.chain + i) != 0 {
+    if t.earlier(i).is_some() {
         return false;
     }
-    0 < get32(w, p.held + i)
+    0 < get32(t.w, t.plan.held + i)
 }
 
 // The stretch of piece i, with the length held.
-fn stretch_of(w: &[u8], p: Plan, i: usize) -> Stretch
-    requires { RowIn w.now p i }
-    ensures { result ≡ row_stretch w.now p i }
+fn stretch_of(t: Table, i: usize) -> Stretch
+    requires { i < t.plan.n }
+    ensures { result ≡ row_stretch t.entry.w.now t.entry.plan i }
 {
-    let row = p.rows + 8 * i;
-    let counts = get32(w, row + 3);
+    let row = t.plan.rows + 8 * i;
+    let counts = get32(t.w, row + 3);
     Stretch {
-        way: get32(w, row + 1),
-        cid: get32(w, row + 2),
-        dlci: get32(w, row),
+        way: get32(t.w, row + 1),
+        cid: get32(t.w, row + 2),
+        dlci: get32(t.w, row),
         sessions: counts % 65536,
         links: counts / 65536,
-        held: get32(w, p.held + i),
+        held: get32(t.w, t.plan.held + i),
     }
 }
 
@@ -133,8 +132,9 @@ fn add_open(w: &mut [u8], p: Plan, i: usize, k: usize) -> usize
     requires { AddPre w.old p i k }
     ensures { Added w.old p i k w.new result }
 {
-    if is_open(w, p, i) {
-        let s = stretch_of(w, p, i);
+    let table = Table { w, plan: p };
+    if is_open(table, i) {
+        let s = stretch_of(table, i);
         put_stretch(w, 6 * k, s);
         return k + 1;
     }
@@ -144,7 +144,7 @@ fn add_open(w: &mut [u8], p: Plan, i: usize, k: usize) -> usize
 // Lists the open stretches at the start of work, in the order of their first pieces, where every piece is told what its key
 // holds; returns how many.
 fn list_spread(w: &mut [u8], p: Plan) -> usize
-    requires { ListRoom w.old p }
+    requires { SpreadPre w.old p }
     ensures { SpreadListed w.old p w.new result }
 {
     let n = p.n;

@@ -27,10 +27,9 @@ use Rattle.spans.proofs.Scans.{seek_le, silent, rest_le, all_left}
 use Rattle.spans.specs.declared.Wrote.{Wrote}
 use Rattle.split.specs.Last.{lastn}
 use Rattle.split.specs.Rows.{row_of, piece, dlci_at, tail_at, len_at, bytes_at, held_in, held_of, stream_to, opened, Fits, joined, capped_length, ahead, all}
-use Rattle.split.specs.Walks.{PutPre, GatherPre, Told, Moved}
+use Rattle.split.specs.Walks.{Lying, PutPre, GatherPre, Told, Moved}
 use Rattle.split.specs.declared.Plan.{Plan}
 use Rattle.split.proofs.Lasts.{length_lastn, lastn_zero, capped_small}
-use Rattle.split.proofs.Fronts.{laid_lying}
 use Rattle.split.proofs.Tables.{length_bytes}
 use Rattle.split.proofs.Steps.{own_key, own_fits, length_joined, joined_small, kept_own, moved_opens, moved_quiet, moved_fits}
 use Rattle.split.proofs.Aheads.{opened_none, ahead_none, next_run, ahead_skip, opened_skip, fits_skip}
@@ -40,7 +39,7 @@ use Rattle.writing.specs.declared.Onward.{Onward}
 -- ---- a piece
 
 -- the span of the first 3C, and what comes behind it
-module _ (f w : List ℕ) (p : Plan) (i : ℕ) (out : List ℕ) (at : ℕ) (q : WritePre f w p i out at) (h e : ℕ) (y : Closes f w p i h e) where
+module _ (f w : List ℕ) (p : Plan) (l : Lying f w p) (i : ℕ) (out : List ℕ) (at : ℕ) (q : WritePre f w p i out at) (h e : ℕ) (y : Closes f w p i h e) where
   come : h ≤ length (stream_to f w p i)
   come = rw y.holds (own_fits f w p i q.own q.fits)
 
@@ -52,7 +51,7 @@ module _ (f w : List ℕ) (p : Plan) (i : ℕ) (out : List ℕ) (at : ℕ) (q : 
       rw (← y.holds, k)
       (closes_first (lastn h (stream_to f w p i)) (bytes_at f w p i)
       (rw y.holds (rw (← own_key w p i q.own) at (q.quiet.at (tail_at w p i))))
-      (lt-ltb (seek 0x3C (bytes_at f w p i)) (length (bytes_at f w p i)) (omega (arith, y.at, y.high, length_bytes f w p q.laid i q.row)))
+      (lt-ltb (seek 0x3C (bytes_at f w p i)) (length (bytes_at f w p i)) (omega (arith, y.at, y.high, length_bytes f w p l i q.row)))
       (λ g. y.first (sym z ∙ g)))
 
   closed_items : items_of f w p i ≡ closed_item f w p i h (e + 1) ++ items_from f w p i (e + 1)
@@ -63,14 +62,13 @@ module _ (f w : List ℕ) (p : Plan) (i : ℕ) (out : List ℕ) (at : ℕ) (q : 
   unfolding closed_item
   closed_size =
       length_span (span (piece f w p i).rx (piece f w p i).time (lastn h (stream_to f w p i) ++ take (e + 1) (bytes_at f w p i)))
-      ∙ rw (length-append (lastn h (stream_to f w p i)) (take (e + 1) (bytes_at f w p i)), length_lastn h (stream_to f w p i) come, length-take-le (e + 1) (bytes_at f w p i) (omega (arith, y.high, length_bytes f w p q.laid i q.row)))
+      ∙ rw (length-append (lastn h (stream_to f w p i)) (take (e + 1) (bytes_at f w p i)), length_lastn h (stream_to f w p i) come, length-take-le (e + 1) (bytes_at f w p i) (omega (arith, y.high, length_bytes f w p l i q.row)))
 
   pub closed_pre : ClosePre f w p i out at h (e + 1)
   closed_pre = record {
-    laid = q.laid;
     row = q.row;
     come = come;
-    small = omega (arith, y.holds, length_joined f w p i q.laid q.row (own_fits f w p i q.own q.fits), (joined_small f w p i q.laid q.row (own_fits f w p i q.own q.fits)).0);
+    small = omega (arith, y.holds, length_joined f w p i l q.row (own_fits f w p i q.own q.fits), joined_small f w p i l q.row (own_fits f w p i q.own q.fits));
     part = omega (arith, y.high);
     room = omega (arith, q.room, ap length closed_items, length-append (closed_item f w p i h (e + 1)) (items_from f w p i (e + 1)), closed_size);
   }
@@ -78,19 +76,19 @@ module _ (f w : List ℕ) (p : Plan) (i : ℕ) (out : List ℕ) (at : ℕ) (q : 
   pub closed_wrote : (to : ℕ) (out' : List ℕ) → Writes out at (closed_item f w p i h (e + 1)) to out' → FirstWrote f w p i out at (record { at = to; skip = e + 1 }) out'
   closed_wrote to out' k = record { done = closed_item f w p i h (e + 1); items = closed_items; writes = k; within = omega (arith, y.high); rest = closed_both.1 }
 
-module _ (f w : List ℕ) (p : Plan) (i : ℕ) (out : List ℕ) (at e : ℕ) (q : FirstOut f w p i out at e) (h : ℕ) (eh : h ≡ held_of w p i) (x : List ℕ) (ex : x ≡ bytes_at f w p i) where
+module _ (f w : List ℕ) (p : Plan) (l : Lying f w p) (i : ℕ) (out : List ℕ) (at e : ℕ) (q : FirstOut f w p i out at e) (h : ℕ) (eh : h ≡ held_of w p i) (x : List ℕ) (ex : x ≡ bytes_at f w p i) where
   pub first_some : 0 < length x
-  first_some = omega (arith, q.high, ap length ex, length_bytes f w p q.pre.laid i q.pre.row)
+  first_some = omega (arith, q.high, ap length ex, length_bytes f w p l i q.pre.row)
 
   module _ (g : Bool) (b : Begins x h g) where
     closes : g ≡ true → Closes f w p i h e
     closes z = record { holds = eh; first = λ y. rw ex at (b.yes z y); at = q.is; high = q.high }
 
     pub first_pre : g ≡ true → ClosePre f w p i out at h (e + 1)
-    first_pre z = closed_pre f w p i out at q.pre h e (closes z)
+    first_pre z = closed_pre f w p l i out at q.pre h e (closes z)
 
     pub first_wrote : g ≡ true → (to : ℕ) (out' : List ℕ) → Writes out at (closed_item f w p i h (e + 1)) to out' → FirstWrote f w p i out at (record { at = to; skip = e + 1 }) out'
-    first_wrote z = closed_wrote f w p i out at q.pre h e (closes z)
+    first_wrote z = closed_wrote f w p l i out at q.pre h e (closes z)
 
     pub first_none : g ≡ false → FirstWrote f w p i out at (record { at = at; skip = 0 }) out
     unfolding joined
@@ -99,12 +97,12 @@ module _ (f w : List ℕ) (p : Plan) (i : ℕ) (out : List ℕ) (at e : ℕ) (q 
         record { done = []; items = rw y; writes = record { next = omega arith; writes = refl }; within = omega arith; rest = rw y }
 
 -- what comes behind it
-module _ (f w : List ℕ) (p : Plan) (i : ℕ) (out : List ℕ) (at skip : ℕ) (q : RestPre f w p i out at skip) where
+module _ (f w : List ℕ) (p : Plan) (l : Lying f w p) (i : ℕ) (out : List ℕ) (at skip : ℕ) (q : RestPre f w p i out at skip) where
   abbrev tail : List ℕ
   tail = drop skip (bytes_at f w p i)
 
   tail_long : length tail ≡ len_at w p i - skip
-  tail_long = length-drop skip (bytes_at f w p i) ∙ rw (length_bytes f w p q.laid i q.row)
+  tail_long = length-drop skip (bytes_at f w p i) ∙ rw (length_bytes f w p l i q.row)
 
   -- all of it is held
   pub rest_none : (m : ℕ) → m ≡ len_at w p i → (r : ℕ) → r ≡ word w (p.held + i) → m - skip ≡ r → Writes out at (items_from f w p i skip) at out
@@ -116,7 +114,7 @@ module _ (f w : List ℕ) (p : Plan) (i : ℕ) (out : List ℕ) (at skip : ℕ) 
 
   module _ (m : ℕ) (em : m ≡ len_at w p i) (x : List ℕ) (ex : x ≡ bytes_at f w p i) where
     pub rest_part : skip + (m - skip) ≤ length x
-    rest_part = omega (arith, q.within, ap length ex, length_bytes f w p q.laid i q.row)
+    rest_part = omega (arith, q.within, ap length ex, length_bytes f w p l i q.row)
 
     module _ (y : List ℕ) (ey : y ≡ take (m - skip) (drop skip x)) (v rx time : ℕ) (ev : v ≡ word w (row_of p i + 1)) (er : rx ≡ v % 2) (et : time ≡ long w (row_of p i + 6)) where
       whole : y ≡ tail
@@ -136,9 +134,9 @@ module _ (f w : List ℕ) (p : Plan) (i : ℕ) (out : List ℕ) (at skip : ℕ) 
       pub rest_wrote : (c : Wrote) (out' : List ℕ) → WroteIs y rx time out at c out' → Writes out at (items_from f w p i skip) c.at out'
       rest_wrote c out' k = rw (whole, rx_is, time_is) at k.written
 
-module _ (f w : List ℕ) (p : Plan) (i : ℕ) (out : List ℕ) (at : ℕ) (q : WritePre f w p i out at) (e : ℕ) (ee : e ≡ word w (p.ends + i)) (m : ℕ) (em : m ≡ len_at w p i) where
+module _ (f w : List ℕ) (p : Plan) (l : Lying f w p) (i : ℕ) (out : List ℕ) (at : ℕ) (q : WritePre f w p i out at) (e : ℕ) (ee : e ≡ word w (p.ends + i)) (m : ℕ) (em : m ≡ len_at w p i) where
   own_long : length (bytes_at f w p i) ≡ len_at w p i
-  own_long = length_bytes f w p q.laid i q.row
+  own_long = length_bytes f w p l i q.row
 
   end_is : e ≡ seek 0x3C (bytes_at f w p i)
   end_is = ee ∙ q.told.end
@@ -156,7 +154,6 @@ module _ (f w : List ℕ) (p : Plan) (i : ℕ) (out : List ℕ) (at : ℕ) (q : 
   module _ (r : Onward) (mid : List ℕ) (k : FirstWrote f w p i out at r mid) where
     pub write_rest : RestPre f w p i mid r.at r.skip
     write_rest = record {
-      laid = q.laid;
       row = q.row;
       told = q.told;
       within = k.within;
@@ -168,7 +165,7 @@ module _ (f w : List ℕ) (p : Plan) (i : ℕ) (out : List ℕ) (at : ℕ) (q : 
     write_wrote to out' g = rw k.items (writes_then out at _ r.at mid _ to out' k.writes g)
 
 -- a span of what is held and the first bytes of a piece
-module _ (f w : List ℕ) (p : Plan) (i : ℕ) (out : List ℕ) (at h k : ℕ) (q : ClosePre f w p i out at h k) where
+module _ (f w : List ℕ) (p : Plan) (l : Lying f w p) (i : ℕ) (out : List ℕ) (at h k : ℕ) (q : ClosePre f w p i out at h k) where
   module _ (kind : ℕ) (a : ℕ) (d₁ : List ℕ) (w₁ : Writes out at (item_head kind (8 + h + k)) a d₁) where
     pub close_time : a + 8 ≤ length d₁
     close_time = omega (arith, w₁.next, length_head kind (8 + h + k), writes_long out at _ a d₁ w₁, q.room)
@@ -184,17 +181,17 @@ module _ (f w : List ℕ) (p : Plan) (i : ℕ) (out : List ℕ) (at h k : ℕ) (
       body_long = writes_long d₁ a _ b d₂ w₂ ∙ writes_long out at _ a d₁ w₁
 
       pub close_gather : GatherPre f w p i h d₂ b
-      close_gather = record { lying = laid_lying f w p q.laid; row = q.row; come = q.come; fits = omega (arith, close_sum, body_long) }
+      close_gather = record { row = q.row; come = q.come; fits = omega (arith, close_sum, body_long) }
 
-      pub close_put : (d₃ : List ℕ) → d₃ ≡ sets d₂ b (lastn h (stream_to f w p i)) → PutPre f w p i 0 k d₃ (b + h)
-      close_put d₃ e = record { lying = laid_lying f w p q.laid; row = q.row; part = omega (arith, q.part); fits = omega (arith, close_sum, ap length e ∙ length-sets d₂ b (lastn h (stream_to f w p i)), body_long) }
+      pub close_put : (d₃ : List ℕ) → d₃ ≡ sets d₂ b (lastn h (stream_to f w p i)) → PutPre w p i 0 k d₃ (b + h)
+      close_put d₃ e = record { row = q.row; part = omega (arith, q.part); fits = omega (arith, close_sum, ap length e ∙ length-sets d₂ b (lastn h (stream_to f w p i)), body_long) }
 
   module _ (x kind time : ℕ) (ex : x ≡ word w (row_of p i + 1)) (ek : kind ≡ 2 - x % 2) (et : time ≡ long w (row_of p i + 6)) where
     abbrev wire : List ℕ
     wire = lastn h (stream_to f w p i) ++ take k (bytes_at f w p i)
 
     wire_size : length wire ≡ h + k
-    wire_size = length-append (lastn h (stream_to f w p i)) (take k (bytes_at f w p i)) ∙ rw (length_lastn h (stream_to f w p i) q.come, length-take-le k (bytes_at f w p i) (omega (arith, q.part, length_bytes f w p q.laid i q.row)))
+    wire_size = length-append (lastn h (stream_to f w p i)) (take k (bytes_at f w p i)) ∙ rw (length_lastn h (stream_to f w p i) q.come, length-take-le k (bytes_at f w p i) (omega (arith, q.part, length_bytes f w p l i q.row)))
 
     item_is : closed_item f w p i h k ≡ item_head kind (8 + h + k) ++ (le 8 time ++ wire)
     unfolding closed_item span_item item item_head piece_at
@@ -227,7 +224,7 @@ writing_start f w p out =
       emits = rw (z, opened_none f w p) (emit_start out 0 (span_list (run scanner emptied (all f w p))));
     }
 
-module _ (f w : List ℕ) (p : Plan) (out₀ out : List ℕ) (i at : ℕ) (v : WritingTo f w p out₀ out i at) where
+module _ (f w : List ℕ) (p : Plan) (l : Lying f w p) (out₀ out : List ℕ) (i at : ℕ) (v : WritingTo f w p out₀ out i at) where
   module _ (g : ListPre f w p out₀) (h : i < p.n) (x : ℕ) (ex : x ≡ dlci_at w p i) where
     module _ (e : x ≡ p.dlci) where
       own : dlci_at w p i ≡ p.dlci
@@ -246,11 +243,10 @@ module _ (f w : List ℕ) (p : Plan) (out₀ out : List ℕ) (i at : ℕ) (v : W
       later = run scanner (opened f w p (i + 1)) (ahead f w p (i + 1))
 
       next_items : span_list (run scanner (opened f w p i) (ahead f w p i)) ≡ items_of f w p i ++ span_list later
-      next_items = rw (next_run f w p i h own w g.laid (front_refl (4 * p.held) w) (moved_opens f w p i g.laid h come_own w moves own)) (spans_append (tagged (piece f w p i).rx (piece f w p i).time (spans_of (joined f w p i))) later)
+      next_items = rw (next_run f w p i h own w l (front_refl (4 * p.held) w) (moved_opens f w p i l h come_own w moves own)) (spans_append (tagged (piece f w p i).rx (piece f w p i).time (spans_of (joined f w p i))) later)
 
       pub writing_pre : WritePre f w p i out at
       writing_pre = record {
-        laid = g.laid;
         row = h;
         own = own;
         fits = v.fits;
@@ -262,8 +258,8 @@ module _ (f w : List ℕ) (p : Plan) (out₀ out : List ℕ) (i at : ℕ) (v : W
       pub writing_turn : (out' : List ℕ) (r : ℕ) → Writes out at (items_of f w p i) r out' → WritingTo f w p out₀ out' (i + 1) r
       writing_turn out' r t = record {
         within = omega arith;
-        fits = moved_fits f w p i g.laid h come_own w moves own v.fits;
-        quiet = moved_quiet f w p i g.laid h come_own w moves own v.quiet;
+        fits = moved_fits f w p i l h come_own w moves own v.fits;
+        quiet = moved_quiet f w p i l h come_own w moves own v.quiet;
         emits = emit_turn out₀ 0 _ out at _ v.emits (items_of f w p i) (span_list later) r out' next_items t;
       }
 

@@ -8,7 +8,7 @@ use Rattle.spans.specs.Spans.{spans}
 use Rattle.spans.specs.Parts.{tagged}
 use Rattle.spans.specs.Bytewise.{AllQuiet}
 use Rattle.split.specs.Last.{lastn}
-use Rattle.split.specs.Rows.{piece, dlci_at, len_at, bytes_at, held_of, stream_to, opened, Fits, joined, all, Laid}
+use Rattle.split.specs.Rows.{piece, dlci_at, len_at, bytes_at, held_of, stream_to, opened, Fits, joined, all}
 use Rattle.split.specs.Walks.{Told, AllTold}
 use Rattle.split.specs.declared.Plan.{Plan}
 use Rattle.writing.specs.declared.Onward.{Onward}
@@ -18,7 +18,6 @@ abbrev pub items_of : List ℕ → List ℕ → Plan → ℕ → List ℕ
 items_of f w p i = span_list (tagged (piece f w p i).rx (piece f w p i).time (spans_of (joined f w p i)))
 
 pub record WritePre (f w : List ℕ) (p : Plan) (i : ℕ) (out : List ℕ) (at : ℕ) : Type 0 where
-  pub laid : Laid f w p
   pub row : i < p.n
   pub own : dlci_at w p i ≡ p.dlci
   pub fits : Fits f w p i
@@ -45,7 +44,6 @@ pub record FirstWrote (f w : List ℕ) (p : Plan) (i : ℕ) (out : List ℕ) (at
   pub rest : rest_of (joined f w p i) ≡ rest_of (drop r.skip (bytes_at f w p i))
 
 pub record RestPre (f w : List ℕ) (p : Plan) (i : ℕ) (out : List ℕ) (at skip : ℕ) : Type 0 where
-  pub laid : Laid f w p
   pub row : i < p.n
   pub told : Told f w p i
   pub within : skip ≤ len_at w p i
@@ -64,15 +62,13 @@ unfoldable pub closed_item : List ℕ → List ℕ → Plan → ℕ → ℕ → 
 closed_item f w p i h k = span_item (span (piece f w p i).rx (piece f w p i).time (lastn h (stream_to f w p i) ++ take k (bytes_at f w p i)))
 
 pub record ClosePre (f w : List ℕ) (p : Plan) (i : ℕ) (out : List ℕ) (at h k : ℕ) : Type 0 where
-  pub laid : Laid f w p
   pub row : i < p.n
   pub come : h ≤ length (stream_to f w p i)
   pub small : h ≤ 1048576
   pub part : k ≤ len_at w p i
   pub room : at + 14 + h + k ≤ length out
 
--- room for the list, and the words that counting left
+-- the words that counting left, and room for the list
 pub record ListPre (f w : List ℕ) (p : Plan) (out : List ℕ) : Type 0 where
-  pub laid : Laid f w p
   pub told : AllTold f w p p.n
   pub room : length (span_list (spans (all f w p))) ≤ length out

@@ -12,31 +12,22 @@ ghost use Rattle.writing.specs.Writing.{items_of, items_from, WritePre, FirstOut
 
 use items::{Direction, put_head};
 use spans::{begins, write_part};
-use split::{Plan, gather, held_before, length_of, piece, put_part};
+use split::Pieces;
 use words::{get32, get64, part, put_le};
 
 // Writes the span of the h bytes held and the first k bytes of piece i.
-fn write_closed<'a>(
-    file: &'a [u8],
-    w: &'a [u8],
-    p: Plan,
-    i: usize,
-    out: &mut [u8],
-    at: usize,
-    h: usize,
-    k: usize,
-) -> usize
-    requires { ClosePre file.now w.now p i out.old at h k }
-    ensures { Writes out.old at (closed_item file.now w.now p i h k) result out.new }
+fn write_closed(s: Pieces, i: usize, out: &mut [u8], at: usize, h: usize, k: usize) -> usize
+    requires { ClosePre s.file.now s.w.now s.plan i out.old at h k }
+    ensures { Writes out.old at (closed_item s.entry.file.now s.entry.w.now s.entry.plan i h k) result out.new }
 {
-    let row = p.rows + 8 * i;
-    let direction = Direction::in_side(get32(w, row + 1));
-    let ms = get64(w, row + 6);
+    let row = s.plan.rows + 8 * i;
+    let direction = Direction::in_side(get32(s.w, row + 1));
+    let ms = get64(s.w, row + 6);
     let time = put_head(out, at, direction.kind(), 8 + h + k);
     let body = put_le(out, time, ms, 8);
-    gather(file, w, p, i, h, out, body);
+    s.gather(i, h, out, body);
     let rest = body + h;
-    put_part(file, w, p, i, 0, k, out, rest);
+    s.put_part(i, 0, k, out, rest);
     rest + k
 }
 
@@ -48,83 +39,57 @@ struct Onward {
 }
 
 // Writes the span that the first 3C of piece i closes, at e.
-fn write_first<'a>(
-    file: &'a [u8],
-    w: &'a [u8],
-    p: Plan,
-    i: usize,
-    out: &mut [u8],
-    at: usize,
-    e: usize,
-) -> Onward
-    requires { FirstOut file.now w.now p i out.old at e }
-    ensures { FirstWrote file.now w.now p i out.old at result out.new }
+fn write_first(s: Pieces, i: usize, out: &mut [u8], at: usize, e: usize) -> Onward
+    requires { FirstOut s.file.now s.w.now s.plan i out.old at e }
+    ensures { FirstWrote s.entry.file.now s.entry.w.now s.entry.plan i out.old at result out.new }
 {
-    let h = held_before(w, p, i);
-    if begins(piece(file, w, p, i), h) {
+    let h = s.held_before(i);
+    if begins(s.piece(i), h) {
         let k = e + 1;
-        let to = write_closed(file, w, p, i, out, at, h, k);
+        let to = write_closed(s, i, out, at, h, k);
         return Onward { at: to, skip: k };
     }
     Onward { at, skip: 0 }
 }
 
 // Writes the spans of piece i from a place on. What its key holds after it needs no look.
-fn write_rest<'a>(
-    file: &'a [u8],
-    w: &'a [u8],
-    p: Plan,
-    i: usize,
-    out: &mut [u8],
-    at: usize,
-    skip: usize,
-) -> usize
-    requires { RestPre file.now w.now p i out.old at skip }
-    ensures { Writes out.old at (items_from file.now w.now p i skip) result out.new }
+fn write_rest(s: Pieces, i: usize, out: &mut [u8], at: usize, skip: usize) -> usize
+    requires { RestPre s.file.now s.w.now s.plan i out.old at skip }
+    ensures { Writes out.old at (items_from s.entry.file.now s.entry.w.now s.entry.plan i skip) result out.new }
 {
-    let n = length_of(w, p, i) - skip;
-    if n == get32(w, p.held + i) as usize {
+    let n = s.length_of(i) - skip;
+    if n == get32(s.w, s.plan.held + i) as usize {
         return at;
     }
-    let row = p.rows + 8 * i;
-    let direction = Direction::in_side(get32(w, row + 1));
-    let ms = get64(w, row + 6);
-    let c = write_part(part(piece(file, w, p, i), skip, n), direction, ms, out, at);
+    let row = s.plan.rows + 8 * i;
+    let direction = Direction::in_side(get32(s.w, row + 1));
+    let ms = get64(s.w, row + 6);
+    let c = write_part(part(s.piece(i), skip, n), direction, ms, out, at);
     c.at
 }
 
 // Writes the spans that piece i brings.
-fn write_piece<'a>(
-    file: &'a [u8],
-    w: &'a [u8],
-    p: Plan,
-    i: usize,
-    out: &mut [u8],
-    at: usize,
-) -> usize
-    requires { WritePre file.now w.now p i out.old at }
-    ensures { Writes out.old at (items_of file.now w.now p i) result out.new }
+fn write_piece(s: Pieces, i: usize, out: &mut [u8], at: usize) -> usize
+    requires { WritePre s.file.now s.w.now s.plan i out.old at }
+    ensures { Writes out.old at (items_of s.entry.file.now s.entry.w.now s.entry.plan i) result out.new }
 {
-    let e = get32(w, p.ends + i) as usize;
-    if e == length_of(w, p, i) {
+    let e = get32(s.w, s.plan.ends + i) as usize;
+    if e == s.length_of(i) {
         return at;
     }
-    let f = write_first(file, w, p, i, out, at, e);
-    write_rest(file, w, p, i, out, f.at, f.skip)
+    let f = write_first(s, i, out, at, e);
+    write_rest(s, i, out, f.at, f.skip)
 }
 
 // Writes the list of the DLCI's spans, and returns its length.
-pub fn write_spans<'a>(file: &'a [u8], w: &'a [u8], p: Plan, out: &mut [u8]) -> usize
-    requires { ListPre file.now w.now p out.old }
-    ensures { Writes out.old 0 (span_list (spans (all file.now w.now p))) result out.new }
+pub fn write_spans(s: Pieces, out: &mut [u8]) -> usize
+    requires { ListPre s.file.now s.w.now s.plan out.old }
+    ensures { Writes out.old 0 (span_list (spans (all s.entry.file.now s.entry.w.now s.entry.plan))) result out.new }
 {
-    let n = p.n;
-    let rows = p.rows;
-    let dlci = p.dlci;
     let mut at = 0;
-    for i in 0..n {
-        if get32(w, rows + 8 * i) == dlci {
-            at = write_piece(file, w, p, i, out, at);
+    for i in 0..s.plan.n {
+        if get32(s.w, s.plan.rows + 8 * i) == s.plan.dlci {
+            at = write_piece(s, i, out, at);
         }
     }
     at

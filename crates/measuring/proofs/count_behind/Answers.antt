@@ -1,4 +1,3 @@
-use Rattle.split.proofs.Fronts.{laid_lying}
 use Rattle.measuring.proofs.Counting.{behind_scan, behind_scanned}
 use Rattle.measuring.proofs.count_behind.Goals as goal
 
@@ -7,9 +6,3 @@ scan-requires c = search behind_scan
 
 pub returns-then-is_known : goal.returns-then-is_known
 returns-then-is_known c = search behind_scanned
-
-pub count_joined-requires : goal.count_joined-requires
-count_joined-requires c = record { pre = c.requires; some = c.is_known.ensures.no c.if-is_known.false }
-
-pub piece-requires : goal.piece-requires
-piece-requires c = record { lying = laid_lying _ _ _ c.requires.laid; row = c.requires.row }

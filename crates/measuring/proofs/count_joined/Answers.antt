@@ -1,4 +1,3 @@
-use Rattle.split.proofs.Fronts.{laid_lying}
 use Rattle.measuring.proofs.Counting.{behind_none, behind_room, behind_counted}
 use Rattle.measuring.proofs.count_joined.Goals as goal
 
@@ -10,6 +9,3 @@ count_part-c-requires c = search behind_room
 
 pub returns : goal.returns
 returns c = search behind_counted
-
-pub piece-requires : goal.piece-requires
-piece-requires c = record { lying = laid_lying _ _ _ c.requires.pre.laid; row = c.requires.pre.row }

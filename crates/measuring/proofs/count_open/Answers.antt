@@ -1,9 +1,6 @@
-use Rattle.measuring.proofs.Counts.{sign_from, sign_le}
+use Rattle.measuring.proofs.Counts.{sign_from}
 use native.Mathlib.Omega.{arith}
 use Rattle.measuring.proofs.count_open.Goals as goal
-
-pub overflow_add-result : goal.overflow_add-result
-overflow_add-result c = omega (arith, c.requires.few, sign_from _ _ c.from-after.ensures, sign_le c.args.r)
 
 pub overflow_sub-result : goal.overflow_sub-result
 overflow_sub-result c = omega (arith, c.requires.less, sign_from _ _ c.from-after.ensures, sign_from _ _ c.from-before.ensures)

@@ -1,12 +1,9 @@
-use Rattle.measuring.proofs.Counting.{counting_start, counting_pre, counting_turn, counting_skip, counting_end}
+use Rattle.measuring.proofs.Counting.{counting_start, counting_turn, counting_skip, counting_end}
 use Rattle.measuring.proofs.count_spans.Goals as goal
 use Rattle.measuring.proofs.count_spans.Goals.{then-get32-dlci, else-get32-dlci}
 
 pub loop-i-init : goal.loop-i-init
 loop-i-init c = counting_start _ _ _ c.requires
-
-pub count_piece-s-requires : goal.count_piece-s-requires
-count_piece-s-requires c = counting_pre _ _ _ _ _ _ c.loop-i.invariant c.loop-i-test.true _ c.get32.ensures c.if-get32-dlci.true
 
 pub loop-i-preserved : goal.loop-i-preserved
 loop-i-preserved c =

@@ -7,7 +7,7 @@ pub put32-requires : goal.put32-requires
 put32-requires c = search back_room
 
 pub overflow_add-p-in-Some : goal.overflow_add-p-in-Some
-overflow_add-p-in-Some c = let h = before_less _ _ _ _ c.earlier.ensures _ c.in-Some.is in omega (arith, c.well_formed, c.ranges, c.requires.row.row, c.requires.row.ends, c.requires.row.words)
+overflow_add-p-in-Some c = let h = before_less _ _ _ _ c.earlier.ensures _ c.in-Some.is in omega (arith, c.well_formed, c.ranges, c.requires.row, c.requires.chained.ends, c.requires.chained.words)
 
 pub returns-in-Some : goal.returns-in-Some
 returns-in-Some c = search handed

@@ -1,4 +1,4 @@
-use Rattle.stretches.proofs.Listing.{listing_start, listing_pre, listing_turn, listing_end}
+use Rattle.stretches.proofs.Listing.{listing_start, listing_pre, listing_turn}
 use Rattle.stretches.proofs.list_spread.Goals as goal
 
 pub loop-i-init : goal.loop-i-init
@@ -9,6 +9,3 @@ add_open-k-requires c = search listing_pre
 
 pub loop-i-preserved : goal.loop-i-preserved
 loop-i-preserved c = search listing_turn
-
-pub returns : goal.returns
-returns c = search listing_end

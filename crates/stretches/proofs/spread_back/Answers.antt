@@ -1,4 +1,4 @@
-use Rattle.stretches.proofs.Spreading.{spreading_start, spreading_pre, spreading_turn, spreading_end}
+use Rattle.stretches.proofs.Spreading.{spreading_start, spreading_pre, spreading_turn}
 use Rattle.stretches.proofs.spread_back.Goals as goal
 
 pub loop-i-init : goal.loop-i-init
@@ -9,6 +9,3 @@ hand_back-requires c = search spreading_pre
 
 pub loop-i-preserved : goal.loop-i-preserved
 loop-i-preserved c = search spreading_turn
-
-pub returns : goal.returns
-returns c = search spreading_end

@@ -3,19 +3,19 @@ use native.Mathlib.Omega.{arith}
 use Rattle.writing.proofs.write_closed.Goals as goal
 
 pub put_le-body-requires : goal.put_le-body-requires
-put_le-body-requires c = close_time _ _ _ _ _ _ _ _ c.requires _ _ _ c.put_head-time.ensures
+put_le-body-requires c = close_time _ _ _ c.args.s.lying _ _ _ _ _ c.requires _ _ _ c.put_head-time.ensures
 
 pub gather-requires : goal.gather-requires
-gather-requires c = close_gather _ _ _ _ _ _ _ _ c.requires _ _ _ c.put_head-time.ensures _ _ _ c.put_le-body.ensures
+gather-requires c = close_gather _ _ _ c.args.s.lying _ _ _ _ _ c.requires _ _ _ c.put_head-time.ensures _ _ _ c.put_le-body.ensures
 
 pub overflow_add-rest : goal.overflow_add-rest
-overflow_add-rest c = omega (arith, c.well_formed, c.ranges, close_sum _ _ _ _ _ _ _ _ c.requires _ _ _ c.put_head-time.ensures _ _ _ c.put_le-body.ensures)
+overflow_add-rest c = omega (arith, c.well_formed, c.ranges, close_sum _ _ _ c.args.s.lying _ _ _ _ _ c.requires _ _ _ c.put_head-time.ensures _ _ _ c.put_le-body.ensures)
 
 pub put_part-requires : goal.put_part-requires
-put_part-requires c = close_put _ _ _ _ _ _ _ _ c.requires _ _ _ c.put_head-time.ensures _ _ _ c.put_le-body.ensures _ c.gather.ensures
+put_part-requires c = close_put _ _ _ c.args.s.lying _ _ _ _ _ c.requires _ _ _ c.put_head-time.ensures _ _ _ c.put_le-body.ensures _ c.gather.ensures
 
 pub overflow_add-result : goal.overflow_add-result
-overflow_add-result c = omega (arith, c.well_formed, c.ranges, close_sum _ _ _ _ _ _ _ _ c.requires _ _ _ c.put_head-time.ensures _ _ _ c.put_le-body.ensures)
+overflow_add-result c = omega (arith, c.well_formed, c.ranges, close_sum _ _ _ c.args.s.lying _ _ _ _ _ c.requires _ _ _ c.put_head-time.ensures _ _ _ c.put_le-body.ensures)
 
 pub returns : goal.returns
-returns c = close_written _ _ _ _ _ _ _ _ c.requires _ _ _ c.get32.ensures (rw c.in_side-direction.ensures at c.kind.ensures) c.get64-ms.ensures _ _ c.put_head-time.ensures _ _ c.put_le-body.ensures _ c.gather.ensures _ c.put_part.ensures
+returns c = close_written _ _ _ c.args.s.lying _ _ _ _ _ c.requires _ _ _ c.get32.ensures (rw c.in_side-direction.ensures at c.kind.ensures) c.get64-ms.ensures _ _ c.put_head-time.ensures _ _ c.put_le-body.ensures _ c.gather.ensures _ c.put_part.ensures

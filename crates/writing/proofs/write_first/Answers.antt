@@ -1,4 +1,3 @@
-use Rattle.split.proofs.Fronts.{laid_lying}
 use Rattle.writing.proofs.Writing.{first_some, first_pre, first_wrote, first_none}
 use Rattle.writing.proofs.write_first.Goals as goal
 
@@ -13,6 +12,3 @@ returns-then-begins c = search first_wrote
 
 pub returns : goal.returns
 returns c = search first_none
-
-pub piece-requires : goal.piece-requires
-piece-requires c = record { lying = laid_lying _ _ _ c.requires.pre.laid; row = c.requires.pre.row }

@@ -7,8 +7,5 @@ returns-then-e-length_of c = search write_none
 pub write_first-f-requires : goal.write_first-f-requires
 write_first-f-requires c = search write_first
 
-pub write_rest-requires : goal.write_rest-requires
-write_rest-requires c = search write_rest
-
 pub returns : goal.returns
 returns c = search write_wrote

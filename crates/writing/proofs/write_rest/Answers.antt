@@ -1,4 +1,3 @@
-use Rattle.split.proofs.Fronts.{laid_lying}
 use Rattle.writing.proofs.Writing.{rest_none, rest_part, rest_pre, rest_wrote}
 use Rattle.writing.proofs.write_rest.Goals as goal
 
@@ -13,6 +12,3 @@ write_part-c-requires c = search rest_pre
 
 pub returns : goal.returns
 returns c = search rest_wrote
-
-pub piece-requires : goal.piece-requires
-piece-requires c = record { lying = laid_lying _ _ _ c.requires.laid; row = c.requires.row }

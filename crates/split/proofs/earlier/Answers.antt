@@ -1,6 +1,0 @@
-use Rattle.split.proofs.Tables.{earlier_is, less_one}
-use mathlib.Core.Path.{◌∙◌}
-use Rattle.split.proofs.earlier.Goals as goal
-
-pub returns : goal.returns
-returns c = earlier_is _ _ _ c.requires _ (less_one _ _ c.checked_sub.ensures ∙ c.get32.ensures)
