@@ -16,7 +16,8 @@ use Rattle.table.specs.Table.{Slot, none, some, lookup, upd, find_in}
 use Rattle.table.proofs.Table.{lookup_found, lookup_nothing}
 use Rattle.tree.specs.Tree.{EnterPre, Entered}
 use Rattle.tree.specs.Seats.{seat_of, Seated}
-use Rattle.tree.specs.declared.Tree.{Tree}
+use Rattle.table.specs.declared.Row.{Row}
+use Rattle.tree.specs.declared.Table.{Table}
 use Rattle.tree.specs.declared.Seating.{Seating}
 use Rattle.tree.proofs.Seats.{seated_value, seat_first}
 use Rattle.items.specs.Items.{rx_of}
@@ -112,32 +113,32 @@ module _ (ok : Bool) (s : Slot) where
 
 -- ---- a grade raised
 
-module _ (w : List ℕ) (x : Tree) (n k v : ℕ) (p : EnterPre w x n) (u : List ℕ) (r : Seating) (s : Seated w x n k v 0 u r) where
+module _ (w : List ℕ) (t : Table) (k v : ℕ) (p : EnterPre w t) (u : List ℕ) (r : Seating) (s : Seated w t (record { key = k; a = v; b = 0 }) u r) where
   -- the grade in the row of the channel
-  row_grade : (g : ℕ) → g ≡ word u (x.rows + 4 * r.at + 2) → grade_of (seat_of v 0 (lookup w x.rows n k)) ≡ g
+  row_grade : (g : ℕ) → g ≡ word u (t.at.rows + 4 * r.at + 2) → grade_of (seat_of v 0 (lookup w t.at.rows t.count k)) ≡ g
   unfolding grade_of
-  row_grade g e = rw e (ap grade_of (sym (seated_value w x n k v 0 u r s)))
+  row_grade g e = rw e (ap grade_of (sym (seated_value w t (record { key = k; a = v; b = 0 }) u r s)))
 
   -- a grade that is high enough stays
-  most : (g : ℕ) → grade_of (seat_of v 0 (lookup w x.rows n k)) ≡ g → v ≤ g → max (grade_of (lookup w x.rows n k)) v ≡ g
+  most : (g : ℕ) → grade_of (seat_of v 0 (lookup w t.at.rows t.count k)) ≡ g → v ≤ g → max (grade_of (lookup w t.at.rows t.count k)) v ≡ g
   unfolding grade_of seat_of
-  most g e h = go (lookup w x.rows n k) e where
-    go : (t : Slot) → grade_of (seat_of v 0 t) ≡ g → max (grade_of t) v ≡ g
+  most g e h = go (lookup w t.at.rows t.count k) e where
+    go : (q : Slot) → grade_of (seat_of v 0 q) ≡ g → max (grade_of q) v ≡ g
     go none e = omega (arith, e)
     go (some a z) e = omega (arith, e)
 
-  named_seat : (t : Slot) → says_named (seat_of v 0 t) ≡ true
+  named_seat : (q : Slot) → says_named (seat_of v 0 q) ≡ true
   unfolding says_named seat_of
   named_seat none = refl
   named_seat (some a z) = refl
 
-  pub raised_kept : (g : ℕ) → g ≡ word u (x.rows + 4 * r.at + 2) → v ≤ g → RaisedIn w x n k v u r.rows
+  pub raised_kept : (g : ℕ) → g ≡ word u (t.at.rows + 4 * r.at + 2) → v ≤ g → RaisedIn w t k v u r.rows
   unfolding upd
   raised_kept g e h = record {
     raised = record {
       named = λ j. rw (s.says j) (split≡ k j
-          (λ d. rw (eq-eqb k j d, named_seat (lookup w x.rows n k)) (sym (or-true (says_named (lookup w x.rows n j)))))
-          (λ d. rw (ne_eqb k j d) (sym (or-false (says_named (lookup w x.rows n j))))));
+          (λ d. rw (eq-eqb k j d, named_seat (lookup w t.at.rows t.count k)) (sym (or-true (says_named (lookup w t.at.rows t.count j)))))
+          (λ d. rw (ne_eqb k j d) (sym (or-false (says_named (lookup w t.at.rows t.count j))))));
       grade = λ j. rw (s.says j) (split≡ k j
           (λ d. rw (eq-eqb k j d, ← d) (row_grade g e ∙ sym (most g (row_grade g e) h)))
           (λ d. rw (ne_eqb k j d)));
@@ -149,22 +150,22 @@ module _ (w : List ℕ) (x : Tree) (n k v : ℕ) (p : EnterPre w x n) (u : List 
   }
 
   -- a lower one is replaced
-  least : (g : ℕ) → grade_of (seat_of v 0 (lookup w x.rows n k)) ≡ g → g < v → max (grade_of (lookup w x.rows n k)) v ≡ v
+  least : (g : ℕ) → grade_of (seat_of v 0 (lookup w t.at.rows t.count k)) ≡ g → g < v → max (grade_of (lookup w t.at.rows t.count k)) v ≡ v
   unfolding grade_of seat_of
-  least g e h = go (lookup w x.rows n k) e where
-    go : (t : Slot) → grade_of (seat_of v 0 t) ≡ g → max (grade_of t) v ≡ v
+  least g e h = go (lookup w t.at.rows t.count k) e where
+    go : (q : Slot) → grade_of (seat_of v 0 q) ≡ g → max (grade_of q) v ≡ v
     go none e = omega (arith, e)
     go (some a z) e = omega (arith, e)
 
-  pub raised_more : (g : ℕ) → g ≡ word u (x.rows + 4 * r.at + 2) → g < v → (t : List ℕ) → t ≡ put_word u (x.rows + 4 * r.at + 2) v → RaisedIn w x n k v t r.rows
+  pub raised_more : (g : ℕ) → g ≡ word u (t.at.rows + 4 * r.at + 2) → g < v → (m : List ℕ) → m ≡ put_word u (t.at.rows + 4 * r.at + 2) v → RaisedIn w t k v m r.rows
   unfolding upd says_named grade_of
-  raised_more g e h t et =
-      let q : Entered w x n k v (word u (x.rows + 4 * r.at + 3)) t r.rows = seat_first w x n k v 0 u r s p v t et in
+  raised_more g e h m em =
+      let q : Entered w t (record { key = k; a = v; b = word u (t.at.rows + 4 * r.at + 3) }) m r.rows = seat_first w t (record { key = k; a = v; b = 0 }) u r s p v m em in
       record {
         raised = record {
           named = λ j. rw (q.stored.says j) (split≡ k j
-              (λ d. rw (eq-eqb k j d) (sym (or-true (says_named (lookup w x.rows n j)))))
-              (λ d. rw (ne_eqb k j d) (sym (or-false (says_named (lookup w x.rows n j))))));
+              (λ d. rw (eq-eqb k j d) (sym (or-true (says_named (lookup w t.at.rows t.count j)))))
+              (λ d. rw (ne_eqb k j d) (sym (or-false (says_named (lookup w t.at.rows t.count j))))));
           grade = λ j. rw (q.stored.says j) (split≡ k j
               (λ d. rw (eq-eqb k j d, ← d) (sym (least g (row_grade g e) h)))
               (λ d. rw (ne_eqb k j d)));

@@ -3,7 +3,7 @@ use Rattle.std.specs.Prelude.{ℕ, ◌+◌, ◌*◌, ◌<◌, ◌≤◌, max, �
 use Rattle.words.specs.Front.{Front}
 use Rattle.table.specs.Table.{Slot, none, some, lookup}
 use Rattle.tree.specs.Tree.{Indexed}
-use Rattle.tree.specs.declared.Tree.{Tree}
+use Rattle.tree.specs.declared.Table.{Table}
 use Rattle.channels.specs.Signals.{Signal, triple}
 use Rattle.channels.specs.Channels.{any, named, asks_for, admitted, admitted_after}
 use Rattle.channels.specs.ChannelTable.{channel_key, says_named, says_admitted}
@@ -36,9 +36,9 @@ pub record Raised (w : List ℕ) (b n k v : ℕ) (u : List ℕ) (r : ℕ) : Type
   pub size : length u ≡ length w
 
 -- and the index knows of it
-pub record RaisedIn (w : List ℕ) (x : Tree) (n k v : ℕ) (u : List ℕ) (r : ℕ) : Type 0 where
-  pub raised : Raised w x.rows n k v u r
-  pub indexed : Indexed u x r
+pub record RaisedIn (w : List ℕ) (t : Table) (k v : ℕ) (u : List ℕ) (r : ℕ) : Type 0 where
+  pub raised : Raised w t.at.rows t.count k v u r
+  pub indexed : Indexed u t.at r
 
 -- what is said of every channel, with the signals still to come, is what all signals say of it
 pub record Telling (ss : List Signal) (says : ℕ → Slot) (rest : List Signal) : Type 0 where
@@ -55,6 +55,6 @@ pub record Noted (w : List ℕ) (b n : ℕ) (said : Said) (u : List ℕ) (r : �
   pub front : Front (4 * b) u w
   pub size : length u ≡ length w
 
-pub record NotedIn (w : List ℕ) (x : Tree) (n : ℕ) (said : Said) (u : List ℕ) (r : ℕ) : Type 0 where
-  pub noted : Noted w x.rows n said u r
-  pub indexed : Indexed u x r
+pub record NotedIn (w : List ℕ) (t : Table) (said : Said) (u : List ℕ) (r : ℕ) : Type 0 where
+  pub noted : Noted w t.at.rows t.count said u r
+  pub indexed : Indexed u t.at r
