@@ -2,6 +2,7 @@
 use Rattle.std.specs.Prelude.{Option, Some, None}
 use Prim.Native.Nat.{ℕ, ◌+◌, ◌-◌, ◌*◌, ◌/◌, ◌%◌, ◌<◌, ◌≤◌}
 use mathlib.Core.Path.{◌≡◌, refl, sym, ap, ◌∙◌}
+use denote.Enum.Bare.{sameb}
 use mathlib.Core.Bool.{Bool, true, false, cond, not, ◌&&◌, ◌||◌, and-true, and-false, or-false}
 use mathlib.Core.List.{List, [], ◌∷◌, ◌++◌, append_assoc}
 use native.Mathlib.Omega.{arith}
@@ -27,13 +28,16 @@ use Rattle.channels.specs.Signals.{Signal, commands, code, body, signal_of, sign
 use Rattle.channels.specs.Channels.{any, is_tried, asks_rfcomm, asks_session}
 use Rattle.channels.specs.ChannelTable.{channel_index, says_named, says_admitted}
 use Rattle.channels.specs.Reading.{command_bytes, told}
-use Rattle.channels.specs.Noting.{standing_of, Telling, Noted, NotedIn}
+use Rattle.channels.specs.Noting.{grade_of, standing_of, Telling, Noted, NotedIn}
 use Rattle.channels.specs.Passing.{StepIs, PduStepPre, NotePre, NotePreIn, PduNoted, PduNotedIn, NoneNoted, ReadChannels, Tries, Judged}
 use Rattle.channels.specs.declared.Signal.{Signal as Said}
 use Rattle.channels.specs.declared.Step.{Step}
+use Rattle.channels.specs.declared.Grade.{Grade}
+use Rattle.channels.specs.contracts.Grade.{the_type}
+use Rattle.channels.specs.declared.Grade.TheVariants.{Named}
 use Rattle.channels.proofs.Passing.{reassembled_own}
 use Rattle.channels.proofs.Commands.{body_room, command_first, command_more, command_within, commands_end}
-use Rattle.channels.proofs.Grades.{side_key, admits_grade, standing_unnamed, standing_named, telling_start, telling_end}
+use Rattle.channels.proofs.Grades.{side_key, admits_grade, standing_unnamed, standing_named, graded_admitted, telling_start, telling_end}
 
 -- ---- one step
 
@@ -313,29 +317,29 @@ module _ (w : List ℕ) (b n side cid : ℕ) where
         rw (l, x, c, ← (t.names (side / 2) (side % 2) cid (omega arith) h), ← (t.admits (side / 2) (side % 2) cid (omega arith) h), side_key side cid) e;
   }
 
-  module _ (g : Option ℕ) (p : g ≡ standing_of (lookup w b n (side * 65536 + cid))) where
+  module _ (g : Option Grade) (p : g ≡ standing_of (lookup w b n (side * 65536 + cid))) where
     tried_unnamed : g ≡ None → Judged w b n side cid (leb 0x40 cid)
     unfolding says_named says_admitted
     tried_unnamed q = tried_by_law (leb 0x40 cid) (rw (standing_unnamed (lookup w b n (side * 65536 + cid)) g p q) (sym (and-true (leb 0x40 cid))))
 
-    tried_named : (v : ℕ) → g ≡ Some v → Judged w b n side cid (ltb 0 v)
-    tried_named v q =
-        tried_by_law (ltb 0 v)
-        (rw (admits_grade (lookup w b n (side * 65536 + cid)), (standing_named (lookup w b n (side * 65536 + cid)) g p v q).0, (standing_named (lookup w b n (side * 65536 + cid)) g p v q).1, and-false (leb 0x40 cid))
-        (sym (or-false (ltb 0 v))))
+    tried_named : (v : Grade) → g ≡ Some v → (r : Bool) → r ≡ not (sameb the_type v Named) → Judged w b n side cid r
+    tried_named v q r e =
+        tried_by_law r
+        (rw (admits_grade (lookup w b n (side * 65536 + cid)), ← graded_admitted (grade_of (lookup w b n (side * 65536 + cid))), (standing_named (lookup w b n (side * 65536 + cid)) g p v q).0, (standing_named (lookup w b n (side * 65536 + cid)) g p v q).1, and-false (leb 0x40 cid))
+        (e ∙ sym (or-false (not (sameb the_type v Named)))))
 
 module _ (w : List ℕ) (q n side cid : ℕ) (t : Tries w q n) (x : Tree) (ex : x ≡ channel_index q) where
   pub tries_seek : SeekPre w (record { at = x; count = n })
   tries_seek = rw ex (record { stands = t.stands; indexed = t.indexed })
 
-  module _ (g : Option ℕ) (p : g ≡ standing_of (lookup w x.rows n (side * 65536 + cid))) where
+  module _ (g : Option Grade) (p : g ≡ standing_of (lookup w x.rows n (side * 65536 + cid))) where
     pub tries_unnamed : g ≡ None → Judged w (3 * q) n side cid (leb 0x40 cid)
     unfolding channel_index
     tries_unnamed e = tried_unnamed w (3 * q) n side cid g (rw ex at p) e
 
-    pub tries_named : (v : ℕ) → g ≡ Some v → Judged w (3 * q) n side cid (ltb 0 v)
+    pub tries_named : (v : Grade) → g ≡ Some v → (r : Bool) → r ≡ not (sameb the_type v Named) → Judged w (3 * q) n side cid r
     unfolding channel_index
-    tries_named v e = tried_named w (3 * q) n side cid g (rw ex at p) v e
+    tries_named v e r h = tried_named w (3 * q) n side cid g (rw ex at p) v e r h
 
 -- ---- the table empty, and then all PDUs
 

@@ -1,5 +1,5 @@
 -- The table of channels while signals are read: what a signal does to a row, and what the rows tell with some signals still to come.
-use Rattle.std.specs.Prelude.{ℕ, ◌+◌, ◌*◌, ◌<◌, ◌≤◌, max, ◌≡◌, Bool, cond, ◌&&◌, ◌||◌, List, ◌++◌, length, ltb, eqb, Option, Some, None}
+use Rattle.std.specs.Prelude.{ℕ, zero, suc, ◌+◌, ◌*◌, ◌<◌, ◌≤◌, max, ◌≡◌, Bool, cond, ◌&&◌, ◌||◌, List, ◌++◌, length, ltb, eqb, Option, Some, None}
 use Rattle.words.specs.Front.{Front}
 use Rattle.table.specs.Table.{Slot, none, some, lookup}
 use Rattle.tree.specs.Tree.{Indexed}
@@ -9,16 +9,29 @@ use Rattle.channels.specs.Channels.{any, named, asks_for, admitted, admitted_aft
 use Rattle.channels.specs.ChannelTable.{channel_key, says_named, says_admitted}
 use Rattle.channels.specs.Reading.{told}
 use Rattle.channels.specs.declared.Signal.{Signal as Said}
+use Rattle.channels.specs.declared.Grade.{Grade}
+use Rattle.channels.specs.declared.Grade.TheVariants.{Named, Answered, Asked}
 
 -- 2 if a PSM 3 request admitted the channel, 1 if a response did, else 0
 unfoldable pub grade_of : Slot → ℕ
 grade_of none = 0
 grade_of (some v z) = v
 
+-- the grade that a word says, and the word of a grade
+unfoldable pub graded : ℕ → Grade
+graded zero = Named
+graded (suc zero) = Answered
+graded (suc (suc n)) = Asked
+
+unfoldable pub word_of : Grade → ℕ
+word_of Named = 0
+word_of Answered = 1
+word_of Asked = 2
+
 -- what the code reads of a row
-unfoldable pub standing_of : Slot → Option ℕ
+unfoldable pub standing_of : Slot → Option Grade
 standing_of none = None
-standing_of (some v z) = Some v
+standing_of (some v z) = Some (graded v)
 
 unfoldable pub request_grade : ℕ → ℕ
 request_grade psm = cond (eqb psm 3) 2 0

@@ -12,7 +12,7 @@ ghost use Rattle.channels.specs.Signals.{commands, body, opposite, signal_of};
 ghost use Rattle.channels.specs.Channels.{any, asks_rfcomm, asks_session};
 ghost use Rattle.channels.specs.ChannelTable.{channel_key, channel_index};
 ghost use Rattle.channels.specs.Reading.{command_bytes, told};
-ghost use Rattle.channels.specs.Noting.{standing_of, request_grade, response_grade, RaisedIn, NotedIn};
+ghost use Rattle.channels.specs.Noting.{graded, word_of, standing_of, request_grade, response_grade, RaisedIn, NotedIn};
 ghost use Rattle.channels.specs.Passing.{StepIs, PduStepPre, NotePreIn, PduNotedIn, NoneNoted, ReadChannels, Tries, Judged};
 
 use items::Direction;
@@ -171,11 +171,37 @@ fn key_of(t: Triple) -> u64
     }
 }
 
-// The grade of a channel, a word of its row: 0, or one of these if a response admitted it or a PSM 3 request did.
-// Stays: grades are words that are compared and raised; an enum for them adds a conversion each way, and says no more.
-const ANSWERED: u32 = 1;
+// The grade of a channel: it is named and no more, or a response admitted it, or a PSM 3 request did. A row has it as a word.
+#[derive(Clone, Copy, PartialEq, Eq)]
+enum Grade {
+    Named,
+    Answered,
+    Asked,
+}
 
-const ASKED: u32 = 2;
+impl From<u32> for Grade {
+    ghost from_gives = { λ n g. g ≡ graded n };
+
+    fn from(n: u32) -> Grade {
+        match n {
+            0 => Grade::Named,
+            1 => Grade::Answered,
+            _ => Grade::Asked,
+        }
+    }
+}
+
+impl From<Grade> for u32 {
+    ghost from_gives = { λ g n. n ≡ word_of g };
+
+    fn from(g: Grade) -> u32 {
+        match g {
+            Grade::Named => 0,
+            Grade::Answered => 1,
+            Grade::Asked => 2,
+        }
+    }
+}
 
 // The row last but one: a channel that is named or asked for is often one of the last two.
 fn last_but_one(rows: usize) -> usize {
@@ -183,47 +209,52 @@ fn last_but_one(rows: usize) -> usize {
 }
 
 // The grade of the channel of this key, if anything names it.
-fn look(f: Forest, key: u64) -> Option<u32>
+fn look(f: Forest, key: u64) -> Option<Grade>
     ensures { result ≡ standing_of (lookup f.entry.w.now f.entry.table.at.rows f.entry.table.count key) }
 {
     let t = f.table;
     let i = f.seek_near(key, last_but_one(t.count))?;
-    Some(get32(f.w, t.at.rows + 4 * i + 2))
+    Some(Grade::from(get32(f.w, t.at.rows + 4 * i + 2)))
 }
 
 // The grade that a request gives the channel that it names.
-fn request_grade(psm: u16) -> u32
-    ensures { result ≡ request_grade psm }
+fn request_grade(psm: u16) -> Grade
+    ensures { word_of result ≡ request_grade psm }
 {
-    if psm == RFCOMM { ASKED } else { 0 }
+    if psm == RFCOMM {
+        Grade::Asked
+    } else {
+        Grade::Named
+    }
 }
 
 // The grade that a response gives, of a success or not, to a request that named the channel of this key.
-fn response_grade(f: Forest, asked: u64, ok: bool) -> u32
-    ensures { result ≡ response_grade ok (lookup f.entry.w.now f.entry.table.at.rows f.entry.table.count asked) }
+fn response_grade(f: Forest, asked: u64, ok: bool) -> Grade
+    ensures { word_of result ≡ response_grade ok (lookup f.entry.w.now f.entry.table.at.rows f.entry.table.count asked) }
 {
     if ok {
         let Some(grade) = look(f, asked) else {
-            return 0;
+            return Grade::Named;
         };
-        if ANSWERED < grade {
-            return ANSWERED;
+        if grade == Grade::Asked {
+            return Grade::Answered;
         }
     }
-    0
+    Grade::Named
 }
 
 // Notes that a channel is named, with a grade; its grade never falls. Returns the count of rows.
-fn raise(w: &mut [u8], t: Table, key: u64, v: u32) -> usize
+fn raise(w: &mut [u8], t: Table, key: u64, grade: Grade) -> usize
     requires { EnterPre w.old t }
-    ensures { RaisedIn w.old t key v w.new result }
+    ensures { RaisedIn w.old t key (word_of grade) w.new result }
 {
+    let v = u32::from(grade);
     let s = seat(w, t, Row { key, a: v, b: 0 }, last_but_one(t.count));
-    let grade = t.at.rows + 4 * s.at + 2;
-    if v <= get32(w, grade) {
+    let at = t.at.rows + 4 * s.at + 2;
+    if v <= get32(w, at) {
         return s.rows;
     }
-    put32(w, grade, v);
+    put32(w, at, v);
     s.rows
 }
 
@@ -244,9 +275,9 @@ fn note(w: &mut [u8], t: Table, said: Signal) -> usize
                 direction: asker,
                 cid: source,
             });
-            let v = response_grade(Forest { w, table: t }, asked, ok);
+            let grade = response_grade(Forest { w, table: t }, asked, ok);
             let key = key_of(c);
-            raise(w, t, key, v)
+            raise(w, t, key, grade)
         }
         Signal::Other => t.count,
     }
@@ -372,5 +403,5 @@ pub fn is_tried(w: &[u8], q: usize, rows: usize, side: u32, cid: u32) -> bool
     let Some(grade) = look(f, (side as u64) * 65536 + (cid as u64)) else {
         return 0x40 <= cid;
     };
-    0 < grade
+    grade != Grade::Named
 }

@@ -1,4 +1,4 @@
-use Rattle.channels.proofs.Walk.{tries_seek, tries_unnamed, tries_named}
+use Rattle.channels.proofs.Walk.{tries_unnamed, tries_named}
 use Rattle.channels.proofs.is_tried.Goals as goal
 
 pub returns-in_default : goal.returns-in_default

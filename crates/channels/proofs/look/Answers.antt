@@ -20,4 +20,4 @@ pub get32-requires : goal.get32-requires
 get32-requires c = omega (arith, found_below _ _ _ _ _ _ c.seek_near.ensures c.in_ok-i.was, c.args.f.ready.stands.rows, c.args.f.ready.stands.room)
 
 pub returns : goal.returns
-returns c = standing_row _ _ _ _ _ _ c.seek_near.ensures c.in_ok-i.was _ c.get32.ensures
+returns c = standing_row _ _ _ _ _ _ c.seek_near.ensures c.in_ok-i.was _ c.get32.ensures _ c.from.ensures
