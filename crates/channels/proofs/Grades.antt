@@ -1,8 +1,9 @@
 -- Rows of the table of channels: what a raised grade does, and that what a signal says is told.
 use Rattle.std.specs.Prelude.{Option, Some, None}
-use Prim.Native.Nat.{ℕ, suc, ◌+◌, ◌*◌, ◌/◌, ◌%◌, ◌<◌, ◌≤◌, max}
+use Prim.Native.Nat.{ℕ, zero, suc, ◌+◌, ◌*◌, ◌/◌, ◌%◌, ◌<◌, ◌≤◌, max}
 use mathlib.Core.Path.{◌≡◌, refl, sym, ap, ◌∙◌}
-use mathlib.Core.Bool.{Bool, true, false, cond, ◌&&◌, ◌||◌, or-true, or-false, or_assoc, or_comm}
+use denote.Enum.Bare.{sameb}
+use mathlib.Core.Bool.{Bool, true, false, not, cond, ◌&&◌, ◌||◌, or-true, or-false, or_assoc, or_comm}
 use mathlib.Core.List.{List, [], ◌∷◌}
 use native.Mathlib.Omega.{arith}
 use lib.Dec.{ltb, eqb}
@@ -16,7 +17,8 @@ use Rattle.table.specs.Table.{Slot, none, some, lookup, upd, find_in}
 use Rattle.table.proofs.Table.{lookup_found, lookup_nothing}
 use Rattle.tree.specs.Tree.{EnterPre, Entered}
 use Rattle.tree.specs.Seats.{seat_of, Seated}
-use Rattle.tree.specs.declared.Tree.{Tree}
+use Rattle.table.specs.declared.Row.{Row}
+use Rattle.tree.specs.declared.Table.{Table}
 use Rattle.tree.specs.declared.Seating.{Seating}
 use Rattle.tree.proofs.Seats.{seated_value, seat_first}
 use Rattle.items.specs.Items.{rx_of}
@@ -25,8 +27,11 @@ use Rattle.channels.specs.Signals.{Signal, request, response, triple, opposite}
 use Rattle.channels.specs.Channels.{any, names, named, asks_for, admits, admitted, admitted_after}
 use Rattle.channels.specs.ChannelTable.{channel_key, says_named, says_admitted, Tells}
 use Rattle.channels.specs.Reading.{triple_of, told}
-use Rattle.channels.specs.Noting.{grade_of, standing_of, request_grade, response_grade, Raised, RaisedIn, Telling, Noted}
+use Rattle.channels.specs.Noting.{graded, word_of, grade_of, standing_of, request_grade, response_grade, Raised, RaisedIn, Telling, Noted}
 use Rattle.channels.specs.declared.Triple.{Triple}
+use Rattle.channels.specs.declared.Grade.{Grade}
+use Rattle.channels.specs.contracts.Grade.{the_type}
+use Rattle.channels.specs.declared.Grade.TheVariants.{Named, Answered, Asked}
 use Rattle.channels.specs.declared.Signal.{Signal as Said}
 use Rattle.channels.specs.declared.Signal.TheVariants.{Request, Response, Other}
 use Rattle.channels.proofs.Commands.{rx_one}
@@ -64,12 +69,40 @@ pub standing_none : (w : List ℕ) (b k n : ℕ) (f : Option ℕ) → f ≡ find
 unfolding standing_of
 standing_none w b k n f p q = rw (lookup_nothing w b k n (sym p ∙ q))
 
-pub standing_row : (w : List ℕ) (b k n i : ℕ) (f : Option ℕ) → f ≡ find_in w b k n → f ≡ Some i → (x : ℕ) → x ≡ word w (b + 4 * i + 2) → Some x ≡ standing_of (lookup w b n k)
+pub standing_row : (w : List ℕ) (b k n i : ℕ) (f : Option ℕ) → f ≡ find_in w b k n → f ≡ Some i → (x : ℕ) → x ≡ word w (b + 4 * i + 2) → (g : Grade) → g ≡ graded x → Some g ≡ standing_of (lookup w b n k)
 unfolding standing_of
-standing_row w b k n i f p q x e = rw (lookup_found w b k n i (sym p ∙ q), e)
+standing_row w b k n i f p q x e g d = rw (lookup_found w b k n i (sym p ∙ q), d, e)
+
+-- what a word says
+module _ (n : ℕ) where
+  pub graded_zero : n ≡ 0 → Named ≡ graded n
+  unfolding graded
+  graded_zero e = rw e
+
+  pub graded_one : n ≡ 1 → Answered ≡ graded n
+  unfolding graded
+  graded_one e = rw e
+
+pub graded_more : (n : ℕ) → (n ≡ 0 → ⊥) → (n ≡ 1 → ⊥) → Asked ≡ graded n
+unfolding graded
+graded_more zero p q = absurd (p refl)
+graded_more (suc zero) p q = absurd (q refl)
+graded_more (suc (suc n)) p q = refl
+
+pub graded_asked : (n : ℕ) → sameb the_type (graded n) Asked ≡ ltb 1 n
+unfolding graded
+graded_asked zero = refl
+graded_asked (suc zero) = refl
+graded_asked (suc (suc n)) = sym (lt-ltb 1 (suc (suc n)) (omega arith))
+
+pub graded_admitted : (n : ℕ) → not (sameb the_type (graded n) Named) ≡ ltb 0 n
+unfolding graded
+graded_admitted zero = refl
+graded_admitted (suc zero) = refl
+graded_admitted (suc (suc n)) = sym (lt-ltb 0 (suc (suc n)) (omega arith))
 
 -- what an answer says
-module _ (s : Slot) (g : Option ℕ) (p : g ≡ standing_of s) where
+module _ (s : Slot) (g : Option Grade) (p : g ≡ standing_of s) where
   pub standing_unnamed : g ≡ None → s ≡ none
   unfolding standing_of
   standing_unnamed q = go s (sym p ∙ q) where
@@ -77,67 +110,71 @@ module _ (s : Slot) (g : Option ℕ) (p : g ≡ standing_of s) where
     go none e = refl
     go (some v z) e = let y : ◌≡◌ {A = ℕ} 0 1 = cc in absurd (omega arith)
 
-  pub standing_named : (v : ℕ) → g ≡ Some v → (says_named s ≡ true) × (grade_of s ≡ v)
+  pub standing_named : (v : Grade) → g ≡ Some v → (says_named s ≡ true) × (graded (grade_of s) ≡ v)
   unfolding standing_of says_named grade_of
   standing_named v q = go s (sym p ∙ q) where
-    go : (x : Slot) → standing_of x ≡ Some v → (says_named x ≡ true) × (grade_of x ≡ v)
+    go : (x : Slot) → standing_of x ≡ Some v → (says_named x ≡ true) × (graded (grade_of x) ≡ v)
     go none e = let y : ◌≡◌ {A = ℕ} 0 1 = cc in absurd (omega arith)
     go (some x z) e = (refl, cc)
 
-pub request_three : (psm : ℕ) → psm ≡ 3 → 2 ≡ request_grade psm
-unfolding request_grade
+pub request_three : (psm : ℕ) → psm ≡ 3 → word_of Asked ≡ request_grade psm
+unfolding request_grade word_of
 request_three psm e = rw (eq-eqb psm 3 e)
 
-pub request_other : (psm : ℕ) → (psm ≡ 3 → ⊥) → 0 ≡ request_grade psm
-unfolding request_grade
+pub request_other : (psm : ℕ) → (psm ≡ 3 → ⊥) → word_of Named ≡ request_grade psm
+unfolding request_grade word_of
 request_other psm n = rw (ne_eqb psm 3 n)
 
 module _ (ok : Bool) (s : Slot) where
-  pub response_fails : ok ≡ false → 0 ≡ response_grade ok s
-  unfolding response_grade
+  pub response_fails : ok ≡ false → word_of Named ≡ response_grade ok s
+  unfolding response_grade word_of
   response_fails e = rw e
 
-  module _ (e : ok ≡ true) (g : Option ℕ) (p : g ≡ standing_of s) where
-    pub response_unnamed : g ≡ None → 0 ≡ response_grade ok s
-    unfolding response_grade grade_of
+  module _ (e : ok ≡ true) (g : Option Grade) (p : g ≡ standing_of s) where
+    pub response_unnamed : g ≡ None → word_of Named ≡ response_grade ok s
+    unfolding response_grade word_of grade_of
     response_unnamed q = rw (e, standing_unnamed s g p q)
 
-    pub response_admits : (v : ℕ) → g ≡ Some v → 1 < v → 1 ≡ response_grade ok s
-    unfolding response_grade
-    response_admits v q h = rw (e, (standing_named s g p v q).1, lt-ltb 1 v h)
+    module _ (v : Grade) (q : g ≡ Some v) (r : Bool) (er : r ≡ sameb the_type v Asked) where
+      asked : ltb 1 (grade_of s) ≡ r
+      asked = sym (graded_asked (grade_of s)) ∙ rw (er, (standing_named s g p v q).1)
 
-    pub response_unasked : (v : ℕ) → g ≡ Some v → v ≤ 1 → 0 ≡ response_grade ok s
-    unfolding response_grade
-    response_unasked v q h = rw (e, (standing_named s g p v q).1, le-ltb 1 v h)
+      pub response_admits : r ≡ true → word_of Answered ≡ response_grade ok s
+      unfolding response_grade word_of
+      response_admits h = rw (e, asked, h)
+
+      pub response_unasked : r ≡ false → word_of Named ≡ response_grade ok s
+      unfolding response_grade word_of
+      response_unasked h = rw (e, asked, h)
 
 -- ---- a grade raised
 
-module _ (w : List ℕ) (x : Tree) (n k v : ℕ) (p : EnterPre w x n) (u : List ℕ) (r : Seating) (s : Seated w x n k v 0 u r) where
+module _ (w : List ℕ) (t : Table) (k v : ℕ) (p : EnterPre w t) (u : List ℕ) (r : Seating) (s : Seated w t (record { key = k; a = v; b = 0 }) u r) (o : Grade) (eo : v ≡ word_of o) where
   -- the grade in the row of the channel
-  row_grade : (g : ℕ) → g ≡ word u (x.rows + 4 * r.at + 2) → grade_of (seat_of v 0 (lookup w x.rows n k)) ≡ g
+  row_grade : (g : ℕ) → g ≡ word u (t.at.rows + 4 * r.at + 2) → grade_of (seat_of v 0 (lookup w t.at.rows t.count k)) ≡ g
   unfolding grade_of
-  row_grade g e = rw e (ap grade_of (sym (seated_value w x n k v 0 u r s)))
+  row_grade g e = rw e (ap grade_of (sym (seated_value w t (record { key = k; a = v; b = 0 }) u r s)))
 
   -- a grade that is high enough stays
-  most : (g : ℕ) → grade_of (seat_of v 0 (lookup w x.rows n k)) ≡ g → v ≤ g → max (grade_of (lookup w x.rows n k)) v ≡ g
+  most : (g : ℕ) → grade_of (seat_of v 0 (lookup w t.at.rows t.count k)) ≡ g → v ≤ g → max (grade_of (lookup w t.at.rows t.count k)) v ≡ g
   unfolding grade_of seat_of
-  most g e h = go (lookup w x.rows n k) e where
-    go : (t : Slot) → grade_of (seat_of v 0 t) ≡ g → max (grade_of t) v ≡ g
+  most g e h = go (lookup w t.at.rows t.count k) e where
+    go : (q : Slot) → grade_of (seat_of v 0 q) ≡ g → max (grade_of q) v ≡ g
     go none e = omega (arith, e)
     go (some a z) e = omega (arith, e)
 
-  named_seat : (t : Slot) → says_named (seat_of v 0 t) ≡ true
+  named_seat : (q : Slot) → says_named (seat_of v 0 q) ≡ true
   unfolding says_named seat_of
   named_seat none = refl
   named_seat (some a z) = refl
 
-  pub raised_kept : (g : ℕ) → g ≡ word u (x.rows + 4 * r.at + 2) → v ≤ g → RaisedIn w x n k v u r.rows
+  pub raised_kept : (g : ℕ) → g ≡ word u (t.at.rows + 4 * r.at + 2) → v ≤ g → RaisedIn w t k (word_of o) u r.rows
   unfolding upd
-  raised_kept g e h = record {
+  raised_kept g e h = rw (← eo) (record {
     raised = record {
       named = λ j. rw (s.says j) (split≡ k j
-          (λ d. rw (eq-eqb k j d, named_seat (lookup w x.rows n k)) (sym (or-true (says_named (lookup w x.rows n j)))))
-          (λ d. rw (ne_eqb k j d) (sym (or-false (says_named (lookup w x.rows n j))))));
+          (λ d. rw (eq-eqb k j d, named_seat (lookup w t.at.rows t.count k)) (sym (or-true (says_named (lookup w t.at.rows t.count j)))))
+          (λ d. rw (ne_eqb k j d) (sym (or-false (says_named (lookup w t.at.rows t.count j))))));
       grade = λ j. rw (s.says j) (split≡ k j
           (λ d. rw (eq-eqb k j d, ← d) (row_grade g e ∙ sym (most g (row_grade g e) h)))
           (λ d. rw (ne_eqb k j d)));
@@ -146,25 +183,25 @@ module _ (w : List ℕ) (x : Tree) (n k v : ℕ) (p : EnterPre w x n) (u : List 
       size = s.size;
     };
     indexed = s.indexed;
-  }
+  })
 
   -- a lower one is replaced
-  least : (g : ℕ) → grade_of (seat_of v 0 (lookup w x.rows n k)) ≡ g → g < v → max (grade_of (lookup w x.rows n k)) v ≡ v
+  least : (g : ℕ) → grade_of (seat_of v 0 (lookup w t.at.rows t.count k)) ≡ g → g < v → max (grade_of (lookup w t.at.rows t.count k)) v ≡ v
   unfolding grade_of seat_of
-  least g e h = go (lookup w x.rows n k) e where
-    go : (t : Slot) → grade_of (seat_of v 0 t) ≡ g → max (grade_of t) v ≡ v
+  least g e h = go (lookup w t.at.rows t.count k) e where
+    go : (q : Slot) → grade_of (seat_of v 0 q) ≡ g → max (grade_of q) v ≡ v
     go none e = omega (arith, e)
     go (some a z) e = omega (arith, e)
 
-  pub raised_more : (g : ℕ) → g ≡ word u (x.rows + 4 * r.at + 2) → g < v → (t : List ℕ) → t ≡ put_word u (x.rows + 4 * r.at + 2) v → RaisedIn w x n k v t r.rows
+  pub raised_more : (g : ℕ) → g ≡ word u (t.at.rows + 4 * r.at + 2) → g < v → (m : List ℕ) → m ≡ put_word u (t.at.rows + 4 * r.at + 2) v → RaisedIn w t k (word_of o) m r.rows
   unfolding upd says_named grade_of
-  raised_more g e h t et =
-      let q : Entered w x n k v (word u (x.rows + 4 * r.at + 3)) t r.rows = seat_first w x n k v 0 u r s p v t et in
-      record {
+  raised_more g e h m em =
+      let q : Entered w t (record { key = k; a = v; b = word u (t.at.rows + 4 * r.at + 3) }) m r.rows = seat_first w t (record { key = k; a = v; b = 0 }) u r s p v m em in
+      rw (← eo) (record {
         raised = record {
           named = λ j. rw (q.stored.says j) (split≡ k j
-              (λ d. rw (eq-eqb k j d) (sym (or-true (says_named (lookup w x.rows n j)))))
-              (λ d. rw (ne_eqb k j d) (sym (or-false (says_named (lookup w x.rows n j))))));
+              (λ d. rw (eq-eqb k j d) (sym (or-true (says_named (lookup w t.at.rows t.count j)))))
+              (λ d. rw (ne_eqb k j d) (sym (or-false (says_named (lookup w t.at.rows t.count j))))));
           grade = λ j. rw (q.stored.says j) (split≡ k j
               (λ d. rw (eq-eqb k j d, ← d) (sym (least g (row_grade g e) h)))
               (λ d. rw (ne_eqb k j d)));
@@ -173,7 +210,7 @@ module _ (w : List ℕ) (x : Tree) (n k v : ℕ) (p : EnterPre w x n) (u : List 
           size = q.stored.size;
         };
         indexed = q.indexed;
-      }
+      })
 
 -- ---- what is told after a signal
 

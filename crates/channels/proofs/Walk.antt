@@ -2,6 +2,7 @@
 use Rattle.std.specs.Prelude.{Option, Some, None}
 use Prim.Native.Nat.{ℕ, ◌+◌, ◌-◌, ◌*◌, ◌/◌, ◌%◌, ◌<◌, ◌≤◌}
 use mathlib.Core.Path.{◌≡◌, refl, sym, ap, ◌∙◌}
+use denote.Enum.Bare.{sameb}
 use mathlib.Core.Bool.{Bool, true, false, cond, not, ◌&&◌, ◌||◌, and-true, and-false, or-false}
 use mathlib.Core.List.{List, [], ◌∷◌, ◌++◌, append_assoc}
 use native.Mathlib.Omega.{arith}
@@ -16,6 +17,7 @@ use Rattle.table.specs.Table.{lookup, Agree}
 use Rattle.tree.specs.Tree.{Indexed, Stands, SeekPre, EnterPre, ClearPre, Cleared}
 use Rattle.tree.proofs.Index.{stands_less, stands_same}
 use Rattle.tree.specs.declared.Tree.{Tree}
+use Rattle.tree.specs.declared.Table.{Table}
 use Rattle.items.specs.Items.{rx_of}
 use Rattle.items.specs.declared.Direction.{Direction}
 use Rattle.l2cap.specs.Pdus.{Pdu}
@@ -26,13 +28,16 @@ use Rattle.channels.specs.Signals.{Signal, commands, code, body, signal_of, sign
 use Rattle.channels.specs.Channels.{any, is_tried, asks_rfcomm, asks_session}
 use Rattle.channels.specs.ChannelTable.{channel_index, says_named, says_admitted}
 use Rattle.channels.specs.Reading.{command_bytes, told}
-use Rattle.channels.specs.Noting.{standing_of, Telling, Noted}
+use Rattle.channels.specs.Noting.{grade_of, standing_of, Telling, Noted, NotedIn}
 use Rattle.channels.specs.Passing.{StepIs, PduStepPre, NotePre, NotePreIn, PduNoted, PduNotedIn, NoneNoted, ReadChannels, Tries, Judged}
 use Rattle.channels.specs.declared.Signal.{Signal as Said}
 use Rattle.channels.specs.declared.Step.{Step}
+use Rattle.channels.specs.declared.Grade.{Grade}
+use Rattle.channels.specs.contracts.Grade.{the_type}
+use Rattle.channels.specs.declared.Grade.TheVariants.{Named}
 use Rattle.channels.proofs.Passing.{reassembled_own}
 use Rattle.channels.proofs.Commands.{body_room, command_first, command_more, command_within, commands_end}
-use Rattle.channels.proofs.Grades.{side_key, admits_grade, standing_unnamed, standing_named, telling_start, telling_end}
+use Rattle.channels.proofs.Grades.{side_key, admits_grade, standing_unnamed, standing_named, graded_admitted, telling_start, telling_end}
 
 -- ---- one step
 
@@ -153,16 +158,34 @@ module _ (f w₀ : List ℕ) (row b n₀ : ℕ) (p : NotePre f w₀ row b n₀) 
             tells = λ ss rest t. nt.tells ss _ (rw (s.says, append_assoc) at (v.tells ss rest t));
           }
 
--- and the index
-pub record NotingIn (f w₀ : List ℕ) (row : ℕ) (x : Tree) (n₀ : ℕ) (w : List ℕ) (n at : ℕ) : Type 0 where
-  pub noting : Noting f w₀ row x.rows n₀ w n at
-  pub indexed : Indexed w x n
+-- and the index, of a table that stays in its place
+pub record NotingIn (f w₀ : List ℕ) (row : ℕ) (t₀ : Table) (w : List ℕ) (t : Table) (at : ℕ) : Type 0 where
+  pub place : t.at ≡ t₀.at
+  pub noting : Noting f w₀ row t₀.at.rows t₀.count w t.count at
+  pub indexed : Indexed w t.at t.count
 
-pub noting_enter : (f w₀ : List ℕ) (row : ℕ) (x : Tree) (n₀ : ℕ) → NotePreIn f w₀ row x n₀ → (w : List ℕ) (n at : ℕ) → NotingIn f w₀ row x n₀ w n at → at < word w₀ (row + 4) → EnterPre w x n
-noting_enter f w₀ row x n₀ p w n at v h = record {
-  stands = stands_less w x (n₀ + word w₀ (row + 4) / 8 + 1) (n + 1) (omega (arith, v.noting.few)) (stands_same w w₀ x (n₀ + word w₀ (row + 4) / 8 + 1) v.noting.size p.stands);
-  indexed = v.indexed;
-}
+module _ (f w₀ : List ℕ) (row : ℕ) (t₀ : Table) (p : NotePreIn f w₀ row t₀) where
+  pub noting_begun : NotingIn f w₀ row t₀ w₀ t₀ 0
+  noting_begun = record { place = refl; noting = noting_start f w₀ row t₀.at.rows t₀.count p.pre; indexed = p.indexed }
+
+  module _ (w : List ℕ) (t : Table) (at : ℕ) (v : NotingIn f w₀ row t₀ w t at) where
+    pub noting_done : (c : ℕ) → c ≡ word w₀ (row + 1) → c ≡ 1 → word w₀ (row + 4) ≤ at → PduNotedIn f w₀ row t₀ w t.count
+    noting_done c e g h = record { noted = noting_end f w₀ row t₀.at.rows t₀.count p.pre w t.count at v.noting c e g h; indexed = rw v.place at v.indexed }
+
+    module _ (more : at < word w₀ (row + 4)) where
+      pub noting_enter : EnterPre w t
+      noting_enter = record {
+        stands = rw v.place (stands_less w t₀.at (t₀.count + word w₀ (row + 4) / 8 + 1) (t.count + 1) (omega (arith, v.noting.few)) (stands_same w w₀ t₀.at (t₀.count + word w₀ (row + 4) / 8 + 1) v.noting.size p.stands));
+        indexed = v.indexed;
+      }
+
+      pub noting_more : (r : Step) → StepIs (pdu_at f w row).payload at (pdu_at f w row).link (pdu_at f w row).rx r → (u : List ℕ) (m : ℕ) → NotedIn w t r.said u m →
+          NotingIn f w₀ row t₀ u (record { at = t.at; count = m }) r.next
+      noting_more r st u m n = record {
+        place = v.place;
+        noting = noting_turn f w₀ row t₀.at.rows t₀.count p.pre w t.count at v.noting more r st u m (rw v.place at n.noted);
+        indexed = n.indexed;
+      }
 
 -- ---- all PDUs
 
@@ -182,10 +205,11 @@ pub record Running (f w₀ : List ℕ) (made : ℕ) (w : List ℕ) (rows i : ℕ
   pub size : length w ≡ length w₀
   pub tells : Telling (signals (pdus_from f w₀ (2 * (length f / 4)) 0 made)) (lookup w (3 * (length f / 4)) rows) (signals (pdus_from f w₀ (2 * (length f / 4)) i (made - i)))
 
--- and the index
-pub record RunningIn (f w₀ : List ℕ) (made : ℕ) (x : Tree) (w : List ℕ) (rows i : ℕ) : Type 0 where
-  pub running : Running f w₀ made w rows i
-  pub indexed : Indexed w x rows
+-- and the index, of the channels' table
+pub record RunningIn (f w₀ : List ℕ) (made : ℕ) (w : List ℕ) (t : Table) (i : ℕ) : Type 0 where
+  pub place : t.at ≡ channel_index (length f / 4)
+  pub running : Running f w₀ made w t.count i
+  pub indexed : Indexed w t.at t.count
 
 pub running_start : (f w : List ℕ) (made : ℕ) → Running f w made w 0 0
 unfolding pays_of
@@ -236,19 +260,6 @@ module _ (f w₀ : List ℕ) (made : ℕ) (ps : List Pdu) (p : Reassembled f w�
           (rw (pdus_next f w₀ (2 * (length f / 4)) i made more) at v.tells));
     }
 
-    -- the same for the table with its index
-    pub running_note : (q : ℕ) → q ≡ length f / 4 → (x : Tree) → x ≡ channel_index q → Indexed w x rows → NotePreIn f w (2 * q + 7 * i) x rows
-    unfolding channel_index
-    running_note q eq x ex ix = rw (ex, eq) (record {
-      pre = running_pre;
-      indexed = rw (ex, eq) at ix;
-      stands = channel_stands f w (rows + word w (2 * (length f / 4) + 7 * i + 4) / 8 + 1) (omega (arith, p.few)) p.small (omega (arith, p.room, v.size)) (omega (arith, few_more, row_size));
-    })
-
-    pub running_noted : (q : ℕ) → q ≡ length f / 4 → (x : Tree) → x ≡ channel_index q → (u : List ℕ) (r : ℕ) → PduNotedIn f w (2 * q + 7 * i) x rows u r → Running f w₀ made u r (i + 1)
-    unfolding channel_index
-    running_noted q eq x ex u r n = running_turn u r (rw (ex, eq) at n.noted)
-
   pub running_end : made ≤ i → Indexed w (channel_index (length f / 4)) rows → ReadChannels f w₀ made w rows
   unfolding signals
   running_end h ix =
@@ -264,6 +275,28 @@ module _ (f w₀ : List ℕ) (made : ℕ) (ps : List Pdu) (p : Reassembled f w�
         front = v.front;
         size = v.size;
       }
+
+-- the same with the index
+pub running_begun : (f w : List ℕ) (made q : ℕ) → q ≡ length f / 4 → (x : Tree) → x ≡ channel_index q → Indexed w (channel_index q) 0 → RunningIn f w made w (record { at = x; count = 0 }) 0
+running_begun f w made q e x ex ix = record { place = rw (ex, e); running = running_start f w made; indexed = rw ex ix }
+
+module _ (f w₀ : List ℕ) (made : ℕ) (ps : List Pdu) (p : Reassembled f w₀ made ps) (w : List ℕ) (t : Table) (i : ℕ) (v : RunningIn f w₀ made w t i) where
+  pub running_done : made ≤ i → ReadChannels f w₀ made w t.count
+  running_done h = running_end f w₀ made ps p w t.count i v.running h (rw v.place at v.indexed)
+
+  module _ (more : i < made) (q : ℕ) (e : q ≡ length f / 4) where
+    pub running_note : NotePreIn f w (2 * q + 7 * i) t
+    unfolding channel_index
+    running_note = rw e (record {
+      pre = rw v.place (running_pre f w₀ made ps p w t.count i v.running more);
+      indexed = v.indexed;
+      stands = rw v.place (channel_stands f w (t.count + word w (2 * (length f / 4) + 7 * i + 4) / 8 + 1) (omega (arith, p.few)) p.small (omega (arith, p.room, v.running.size))
+          (omega (arith, few_more f w₀ made ps p w t.count i v.running more, row_size f w₀ made ps p w t.count i v.running more)));
+    })
+
+    pub running_noted : (u : List ℕ) (r : ℕ) → PduNotedIn f w (2 * q + 7 * i) t u r → RunningIn f w₀ made u (record { at = t.at; count = r }) (i + 1)
+    unfolding channel_index
+    running_noted u r n = record { place = v.place; running = running_turn f w₀ made ps p w t.count i v.running more u r (rw (v.place, e) at n.noted); indexed = n.indexed }
 
 -- ---- what becomes of a PDU
 
@@ -284,29 +317,29 @@ module _ (w : List ℕ) (b n side cid : ℕ) where
         rw (l, x, c, ← (t.names (side / 2) (side % 2) cid (omega arith) h), ← (t.admits (side / 2) (side % 2) cid (omega arith) h), side_key side cid) e;
   }
 
-  module _ (g : Option ℕ) (p : g ≡ standing_of (lookup w b n (side * 65536 + cid))) where
+  module _ (g : Option Grade) (p : g ≡ standing_of (lookup w b n (side * 65536 + cid))) where
     tried_unnamed : g ≡ None → Judged w b n side cid (leb 0x40 cid)
     unfolding says_named says_admitted
     tried_unnamed q = tried_by_law (leb 0x40 cid) (rw (standing_unnamed (lookup w b n (side * 65536 + cid)) g p q) (sym (and-true (leb 0x40 cid))))
 
-    tried_named : (v : ℕ) → g ≡ Some v → Judged w b n side cid (ltb 0 v)
-    tried_named v q =
-        tried_by_law (ltb 0 v)
-        (rw (admits_grade (lookup w b n (side * 65536 + cid)), (standing_named (lookup w b n (side * 65536 + cid)) g p v q).0, (standing_named (lookup w b n (side * 65536 + cid)) g p v q).1, and-false (leb 0x40 cid))
-        (sym (or-false (ltb 0 v))))
+    tried_named : (v : Grade) → g ≡ Some v → (r : Bool) → r ≡ not (sameb the_type v Named) → Judged w b n side cid r
+    tried_named v q r e =
+        tried_by_law r
+        (rw (admits_grade (lookup w b n (side * 65536 + cid)), ← graded_admitted (grade_of (lookup w b n (side * 65536 + cid))), (standing_named (lookup w b n (side * 65536 + cid)) g p v q).0, (standing_named (lookup w b n (side * 65536 + cid)) g p v q).1, and-false (leb 0x40 cid))
+        (e ∙ sym (or-false (not (sameb the_type v Named)))))
 
 module _ (w : List ℕ) (q n side cid : ℕ) (t : Tries w q n) (x : Tree) (ex : x ≡ channel_index q) where
-  pub tries_seek : SeekPre w x n
+  pub tries_seek : SeekPre w (record { at = x; count = n })
   tries_seek = rw ex (record { stands = t.stands; indexed = t.indexed })
 
-  module _ (g : Option ℕ) (p : g ≡ standing_of (lookup w x.rows n (side * 65536 + cid))) where
+  module _ (g : Option Grade) (p : g ≡ standing_of (lookup w x.rows n (side * 65536 + cid))) where
     pub tries_unnamed : g ≡ None → Judged w (3 * q) n side cid (leb 0x40 cid)
     unfolding channel_index
     tries_unnamed e = tried_unnamed w (3 * q) n side cid g (rw ex at p) e
 
-    pub tries_named : (v : ℕ) → g ≡ Some v → Judged w (3 * q) n side cid (ltb 0 v)
+    pub tries_named : (v : Grade) → g ≡ Some v → (r : Bool) → r ≡ not (sameb the_type v Named) → Judged w (3 * q) n side cid r
     unfolding channel_index
-    tries_named v e = tried_named w (3 * q) n side cid g (rw ex at p) v e
+    tries_named v e r h = tried_named w (3 * q) n side cid g (rw ex at p) v e r h
 
 -- ---- the table empty, and then all PDUs
 

@@ -4,7 +4,7 @@ use Rattle.words.specs.Words.{word}
 use Rattle.words.specs.Front.{Front}
 use Rattle.table.specs.Table.{lookup}
 use Rattle.tree.specs.Tree.{Indexed, Stands}
-use Rattle.tree.specs.declared.Tree.{Tree}
+use Rattle.tree.specs.declared.Table.{Table}
 use Rattle.l2cap.specs.Pdus.{Pdu}
 use Rattle.l2cap.specs.PduTable.{pdu_at, pdus_from, Inside, Reassembled}
 use Rattle.l2cap.specs.PduFrames.{Lent}
@@ -35,10 +35,10 @@ pub record NotePre (f w : List ℕ) (row b n : ℕ) : Type 0 where
   pub room : 4 * (b + 4 * n) + 2 * word w (row + 4) + 16 ≤ length w
 
 -- and the index has room for it too
-pub record NotePreIn (f w : List ℕ) (row : ℕ) (x : Tree) (n : ℕ) : Type 0 where
-  pub pre : NotePre f w row x.rows n
-  pub indexed : Indexed w x n
-  pub stands : Stands w x (n + word w (row + 4) / 8 + 1)
+pub record NotePreIn (f w : List ℕ) (row : ℕ) (t : Table) : Type 0 where
+  pub pre : NotePre f w row t.at.rows t.count
+  pub indexed : Indexed w t.at t.count
+  pub stands : Stands w t.at (t.count + word w (row + 4) / 8 + 1)
 
 pub record PduNoted (f w : List ℕ) (row b n : ℕ) (u : List ℕ) (r : ℕ) : Type 0 where
   pub tells : (ss rest : List Signal) → Telling ss (lookup w b n) (pdu_signals (pdu_at f w row) ++ rest) → Telling ss (lookup u b r) rest
@@ -46,9 +46,9 @@ pub record PduNoted (f w : List ℕ) (row b n : ℕ) (u : List ℕ) (r : ℕ) : 
   pub front : Front (4 * b) u w
   pub size : length u ≡ length w
 
-pub record PduNotedIn (f w : List ℕ) (row : ℕ) (x : Tree) (n : ℕ) (u : List ℕ) (r : ℕ) : Type 0 where
-  pub noted : PduNoted f w row x.rows n u r
-  pub indexed : Indexed u x r
+pub record PduNotedIn (f w : List ℕ) (row : ℕ) (t : Table) (u : List ℕ) (r : ℕ) : Type 0 where
+  pub noted : PduNoted f w row t.at.rows t.count u r
+  pub indexed : Indexed u t.at r
 
 -- ---- the pass
 

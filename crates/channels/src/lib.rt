@@ -4,7 +4,7 @@
 ghost use Rattle.std.specs.Prelude.{◌≡◌, ◌&&◌, ◌+◌, ◌*◌, ◌/◌, ◌%◌, ◌≤◌, ◌<◌, length, leb, eqb};
 ghost use Rattle.laws.specs.Numbers.{le16};
 ghost use Rattle.table.specs.Table.{lookup};
-ghost use Rattle.tree.specs.Tree.{SeekPre, EnterPre};
+ghost use Rattle.tree.specs.Tree.{EnterPre};
 ghost use Rattle.items.specs.Items.{rx_of};
 ghost use Rattle.l2cap.specs.PduTable.{pdu_at, pdus_from, Reassembled};
 ghost use Rattle.l2cap.specs.PduFrames.{Lent};
@@ -12,12 +12,13 @@ ghost use Rattle.channels.specs.Signals.{commands, body, opposite, signal_of};
 ghost use Rattle.channels.specs.Channels.{any, asks_rfcomm, asks_session};
 ghost use Rattle.channels.specs.ChannelTable.{channel_key, channel_index};
 ghost use Rattle.channels.specs.Reading.{command_bytes, told};
-ghost use Rattle.channels.specs.Noting.{standing_of, request_grade, response_grade, RaisedIn, NotedIn};
+ghost use Rattle.channels.specs.Noting.{graded, word_of, standing_of, request_grade, response_grade, RaisedIn, NotedIn};
 ghost use Rattle.channels.specs.Passing.{StepIs, PduStepPre, NotePreIn, PduNotedIn, NoneNoted, ReadChannels, Tries, Judged};
 
 use items::Direction;
 use l2cap::payload;
-use tree::{Tree, clear, seat, seek_near};
+use table::Row;
+use tree::{Forest, Table, Tree, clear, seat};
 use words::{field16, get32, put32};
 
 // A channel: data with this CID in this direction of a link.
@@ -170,11 +171,37 @@ fn key_of(t: Triple) -> u64
     }
 }
 
-// The grade of a channel, a word of its row: 0, or one of these if a response admitted it or a PSM 3 request did.
-// Stays: grades are words that are compared and raised; an enum for them adds a conversion each way, and says no more.
-const ANSWERED: u32 = 1;
+// The grade of a channel: it is named and no more, or a response admitted it, or a PSM 3 request did. A row has it as a word.
+#[derive(Clone, Copy, PartialEq, Eq)]
+enum Grade {
+    Named,
+    Answered,
+    Asked,
+}
 
-const ASKED: u32 = 2;
+impl From<u32> for Grade {
+    ghost from_gives = { λ n g. g ≡ graded n };
+
+    fn from(n: u32) -> Grade {
+        match n {
+            0 => Grade::Named,
+            1 => Grade::Answered,
+            _ => Grade::Asked,
+        }
+    }
+}
+
+impl From<Grade> for u32 {
+    ghost from_gives = { λ g n. n ≡ word_of g };
+
+    fn from(g: Grade) -> u32 {
+        match g {
+            Grade::Named => 0,
+            Grade::Answered => 1,
+            Grade::Asked => 2,
+        }
+    }
+}
 
 // The row last but one: a channel that is named or asked for is often one of the last two.
 fn last_but_one(rows: usize) -> usize {
@@ -182,73 +209,77 @@ fn last_but_one(rows: usize) -> usize {
 }
 
 // The grade of the channel of this key, if anything names it.
-fn look(w: &[u8], x: Tree, rows: usize, key: u64) -> Option<u32>
-    requires { SeekPre w.now x rows }
-    ensures { result ≡ standing_of (lookup w.now x.rows rows key) }
+fn look(f: Forest, key: u64) -> Option<Grade>
+    ensures { result ≡ standing_of (lookup f.entry.w.now f.entry.table.at.rows f.entry.table.count key) }
 {
-    let i = seek_near(w, x, rows, key, last_but_one(rows))?;
-    Some(get32(w, x.rows + 4 * i + 2))
+    let t = f.table;
+    let i = f.seek_near(key, last_but_one(t.count))?;
+    Some(Grade::from(get32(f.w, t.at.rows + 4 * i + 2)))
 }
 
 // The grade that a request gives the channel that it names.
-fn request_grade(psm: u16) -> u32
-    ensures { result ≡ request_grade psm }
+fn request_grade(psm: u16) -> Grade
+    ensures { word_of result ≡ request_grade psm }
 {
-    if psm == RFCOMM { ASKED } else { 0 }
+    if psm == RFCOMM {
+        Grade::Asked
+    } else {
+        Grade::Named
+    }
 }
 
 // The grade that a response gives, of a success or not, to a request that named the channel of this key.
-fn response_grade(w: &[u8], x: Tree, rows: usize, asked: u64, ok: bool) -> u32
-    requires { SeekPre w.now x rows }
-    ensures { result ≡ response_grade ok (lookup w.now x.rows rows asked) }
+fn response_grade(f: Forest, asked: u64, ok: bool) -> Grade
+    ensures { word_of result ≡ response_grade ok (lookup f.entry.w.now f.entry.table.at.rows f.entry.table.count asked) }
 {
     if ok {
-        let Some(grade) = look(w, x, rows, asked) else {
-            return 0;
+        let Some(grade) = look(f, asked) else {
+            return Grade::Named;
         };
-        if ANSWERED < grade {
-            return ANSWERED;
+        if grade == Grade::Asked {
+            return Grade::Answered;
         }
     }
-    0
+    Grade::Named
 }
 
 // Notes that a channel is named, with a grade; its grade never falls. Returns the count of rows.
-fn raise(w: &mut [u8], x: Tree, rows: usize, key: u64, v: u32) -> usize
-    requires { EnterPre w.old x rows }
-    ensures { RaisedIn w.old x rows key v w.new result }
+fn raise(w: &mut [u8], t: Table, key: u64, grade: Grade) -> usize
+    requires { EnterPre w.old t }
+    ensures { RaisedIn w.old t key (word_of grade) w.new result }
 {
-    let s = seat(w, x, rows, key, last_but_one(rows), v, 0);
-    let grade = x.rows + 4 * s.at + 2;
-    if v <= get32(w, grade) {
+    let v = u32::from(grade);
+    let s = seat(w, t, Row { key, a: v, b: 0 }, last_but_one(t.count));
+    let at = t.at.rows + 4 * s.at + 2;
+    if v <= get32(w, at) {
         return s.rows;
     }
-    put32(w, grade, v);
+    put32(w, at, v);
     s.rows
 }
 
 // Notes what a command says. Returns the count of rows.
-fn note(w: &mut [u8], x: Tree, rows: usize, said: Signal) -> usize
-    requires { EnterPre w.old x rows }
-    ensures { NotedIn w.old x rows said w.new result }
+fn note(w: &mut [u8], t: Table, said: Signal) -> usize
+    requires { EnterPre w.old t }
+    ensures { NotedIn w.old t said w.new result }
 {
     match said {
-        Signal::Request(t, psm) => {
-            let key = key_of(t);
-            raise(w, x, rows, key, request_grade(psm))
+        Signal::Request(c, psm) => {
+            let key = key_of(c);
+            raise(w, t, key, request_grade(psm))
         }
-        Signal::Response(t, source, ok) => {
-            let asker = flip(t.direction);
+        Signal::Response(c, source, ok) => {
+            let asker = flip(c.direction);
             let asked = key_of(Triple {
-                link: t.link,
+                link: c.link,
                 direction: asker,
                 cid: source,
             });
-            let v = response_grade(w, x, rows, asked, ok);
-            let key = key_of(t);
-            raise(w, x, rows, key, v)
+            let grade = response_grade(Forest { w, table: t }, asked, ok);
+            let key = key_of(c);
+            raise(w, t, key, grade)
         }
-        Signal::Other => rows,
+        Signal::Other => t.count,
     }
 }
 
@@ -289,23 +320,22 @@ fn pdu_step<'a>(file: &'a [u8], w: &'a [u8], row: usize, at: usize) -> Step
 }
 
 // Notes what the PDU whose row is at word row says. Returns the count of rows.
-fn note_pdu(file: &[u8], w: &mut [u8], row: usize, x: Tree, rows: usize) -> usize
-    requires { NotePreIn file.now w.old row x rows }
-    ensures { PduNotedIn file.now w.old row x rows w.new result }
+fn note_pdu(file: &[u8], w: &mut [u8], row: usize, mut t: Table) -> usize
+    requires { NotePreIn file.now w.old row t }
+    ensures { PduNotedIn file.now w.old row t w.new result }
 {
     if get32(w, row + 1) != 1 {
-        return rows;
+        return t.count;
     }
     let size = get32(w, row + 4) as usize;
-    let mut n = rows;
     let mut at = 0;
     while at < size {
         let step = pdu_step(file, w, row, at);
         let said = step.said;
         at = step.next;
-        n = note(w, x, n, said);
+        t.count = note(w, t, said);
     }
-    n
+    t.count
 }
 
 // Where the channels stand in work: their rows in two areas; the roots of their trees in the last seventh of an area that counts
@@ -326,12 +356,14 @@ fn note_pdus(file: &[u8], w: &mut [u8], made: usize, q: usize) -> usize
     requires { NoneNoted file.now w.old made q }
     ensures { ReadChannels file.now w.old made w.new result }
 {
-    let x = index_of(q);
-    let mut rows = 0;
+    let mut t = Table {
+        at: index_of(q),
+        count: 0,
+    };
     for i in 0..made {
-        rows = note_pdu(file, w, 2 * q + 7 * i, x, rows);
+        t.count = note_pdu(file, w, 2 * q + 7 * i, t);
     }
-    rows
+    t.count
 }
 
 // Notes what all PDUs say, and returns the count of rows.
@@ -363,9 +395,13 @@ pub fn is_tried(w: &[u8], q: usize, rows: usize, side: u32, cid: u32) -> bool
     requires { Tries w.now q rows }
     ensures { Judged w.now (3 * q) rows side cid result }
 {
-    let x = index_of(q);
-    let Some(grade) = look(w, x, rows, (side as u64) * 65536 + (cid as u64)) else {
+    let at = index_of(q);
+    let f = Forest {
+        w,
+        table: Table { at, count: rows },
+    };
+    let Some(grade) = look(f, (side as u64) * 65536 + (cid as u64)) else {
         return 0x40 <= cid;
     };
-    0 < grade
+    grade != Grade::Named
 }

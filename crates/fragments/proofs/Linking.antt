@@ -21,17 +21,17 @@ use Rattle.tree.specs.Seats.{Seated}
 use Rattle.tree.proofs.Seats.{split_row}
 use Rattle.tree.specs.declared.Tree.{Tree}
 use Rattle.tree.specs.declared.Seating.{Seating}
-use Rattle.fragments.specs.Links.{soonest, tag_at, Blank, first_of, index_of, SeatKey, head_in, head_at, head_of, head_with, Head, noted, Note, LinkStep, LinkedStep, LinkRoom, LinkBegun, LinkedTo}
+use Rattle.fragments.specs.Links.{soonest, tag_at, Blank, first_of, index_of, open_in, blank_row, SeatKey, head_in, head_at, head_of, head_with, Head, noted, Note, LinkStep, LinkedStep, LinkRoom, LinkBegun, LinkedTo}
 use Rattle.fragments.proofs.Chains.{soonest_agree, tag_empty, tag_full}
 
 -- ---- the row of a key
 
 module _ (w : List ℕ) (q n : ℕ) (p : SeatKey w q n) (x : Tree) (ex : x ≡ index_of q) where
-  pub seat_pre : EnterPre w x n
+  pub seat_pre : EnterPre w (record { at = x; count = n })
   seat_pre = rw ex p.enter
 
-  pub seat_is : (key k y z : ℕ) → k ≡ key → (u : List ℕ) (r : Seating) → Seated w x n k y z u r → Seated w (index_of q) n key y z u r
-  seat_is key k y z e u r s = rw (ex, e) at s
+  pub seat_is : (key k : ℕ) → k ≡ key → (u : List ℕ) (r : Seating) → Seated w (record { at = x; count = n }) (blank_row k) u r → Seated w (open_in q n) (blank_row key) u r
+  seat_is key k e u r s = rw (ex, e) at s
 
 -- ---- what is noted of a packet
 
@@ -98,17 +98,17 @@ module _ (z i y : ℕ) where
 -- ---- one packet
 
 -- what stands in the new row is what stood in it
-blank_seated : (w : List ℕ) (x : Tree) (n k : ℕ) (u : List ℕ) (r : Seating) → Seated w x n k 0 0 u r → Blank w x.rows n → Blank u x.rows r.rows
+blank_seated : (w : List ℕ) (q n k : ℕ) (u : List ℕ) (r : Seating) → Seated w (open_in q n) (blank_row k) u r → Blank w (3 * q) n → Blank u (3 * q) r.rows
 unfolding first_of upd
-blank_seated w x n k u r s b = split_row (find_in w x.rows k n) old new where
-  old : (i : ℕ) → find_in w x.rows k n ≡ Some i → Blank u x.rows r.rows
+blank_seated w q n k u r s b = split_row (find_in w (3 * q) k n) old new where
+  old : (i : ℕ) → find_in w (3 * q) k n ≡ Some i → Blank u (3 * q) r.rows
   old i e = let h = s.known i e in rw (h.0, h.1.0) b
 
-  first : (j : ℕ) (t : Bool) → first_of (cond t (some 0 0) (lookup w x.rows n j)) ≡ 0
+  first : (j : ℕ) (t : Bool) → first_of (cond t (some 0 0) (lookup w (3 * q) n j)) ≡ 0
   first j true = refl
   first j false = b.says j
 
-  new : find_in w x.rows k n ≡ None → Blank u x.rows r.rows
+  new : find_in w (3 * q) k n ≡ None → Blank u (3 * q) r.rows
   new e =
       let h = s.fresh e in
       rw h.1.0 (record {
@@ -121,7 +121,7 @@ blank_agree u w b n a s = record { says = λ k. ap first_of (lookup_agree u w b 
 
 module _
     (w : List ℕ) (q n i x : ℕ) (p : LinkStep w q n i) (key : ℕ) (ek : key ≡ word w (6 * i))
-    (v : List ℕ) (t : Seating) (s : Seated w (index_of q) n key 0 0 v t) where
+    (v : List ℕ) (t : Seating) (s : Seated w (open_in q n) (blank_row key) v t) where
   pub link_head : Head v q t.at
   link_head = record { room = omega (arith, p.few, p.room, s.few, s.most, s.size); small = p.seat.small }
 
@@ -161,7 +161,7 @@ module _
       -- the key's own row
       own_head : head_at u q x t.rows key ≡ head_with z i (head_at w q x n key)
       unfolding head_in
-      own_head = ap (head_in u q x) (finds key ∙ s.row) ∙ noted_head v q i y t.at h link_note u eu ∙ eh ∙ ap (head_with z i) next_is_law
+      own_head = ap (head_in u q x) (finds key ∙ s.own) ∙ noted_head v q i y t.at h link_note u eu ∙ eh ∙ ap (head_with z i) next_is_law
 
       -- another row
       other_head : (k : ℕ) → (key ≡ k → ⊥) → head_at u q x t.rows k ≡ head_at w q x n k
@@ -173,7 +173,7 @@ module _
             below a e = omega (arith, find_below w (3 * q) k n a e, p.few)
 
             same : (a : ℕ) → find_in w (3 * q) k n ≡ Some a → t.at ≡ a → key ≡ k
-            same a e r = sym (found_key v (3 * q) key t.rows t.at s.row) ∙ rw r (found_key v (3 * q) k t.rows a (s.others k d ∙ e))
+            same a e r = sym (found_key v (3 * q) key t.rows t.at s.own) ∙ rw r (found_key v (3 * q) k t.rows a (s.others k d ∙ e))
 
       empty : (k : ℕ) → z ≡ 0 → tag_at w k i ≡ k → ⊥
       empty k o r = omega (arith, sym (tag_empty w k i (sym ez ∙ o)) ∙ r)
@@ -196,12 +196,12 @@ module _
       pub link_stepped : LinkedStep w q n i x u t
       link_stepped = record {
         link = noted_link v q i y t.at h link_note u eu ∙ next_is_law ∙ rw ek;
-        row = rw (← ek, noted_row v q i y t.at h link_note u eu) (finds key ∙ s.row);
+        row = rw (← ek, noted_row v q i y t.at h link_note u eu) (finds key ∙ s.own);
         kept = λ k a e. finds k ∙ split≡ key k
-            (λ g. let f : find_in w (3 * q) key n ≡ Some a = rw (← g) at e in rw (← g) s.row ∙ ap Some (s.known a f).1.1)
+            (λ g. let f : find_in w (3 * q) key n ≡ Some a = rw (← g) at e in rw (← g) s.own ∙ ap Some (s.known a f).1.1)
             (λ g. s.others k g ∙ e);
         heads = heads_are;
-        blank = λ b. blank_agree u v (3 * q) t.rows rows (blank_seated w (index_of q) n key v t s b);
+        blank = λ b. blank_agree u v (3 * q) t.rows rows (blank_seated w q n key v t s b);
         indexed = indexed_agree v (index_of q) t.rows s.indexed u keys (λ j a b. off j (omega (arith, p.few, s.most)));
         most = s.most;
         front = front_then (4 * (3 * q)) u v w (noted_front v q i y t.at h link_note u eu (4 * (3 * q)) (omega arith)) s.front;

@@ -5,7 +5,9 @@ use Rattle.words.specs.Words.{word, put_word}
 use Rattle.words.specs.Front.{Front}
 use Rattle.table.specs.Table.{Slot, none, some, find_in, lookup, sum_of}
 use Rattle.tree.specs.Tree.{Indexed, EnterPre}
+use Rattle.table.specs.declared.Row.{Row}
 use Rattle.tree.specs.declared.Tree.{Tree}
+use Rattle.tree.specs.declared.Table.{Table}
 use Rattle.tree.specs.declared.Seating.{Seating}
 
 -- the first of m rows from i on whose tag is h; i + m if there is none
@@ -43,8 +45,16 @@ pub record Blank (w : List ℕ) (b n : ℕ) : Type 0 where
 abbrev pub index_of : ℕ → Tree
 index_of q = record { rows = 3 * q; links = 5 * q; roots = q / 64 + 1 }
 
+-- n of them
+abbrev pub open_in : ℕ → ℕ → Table
+open_in q n = record { at = index_of q; count = n }
+
+-- the row of a key with nothing open
+abbrev pub blank_row : ℕ → Row
+blank_row k = record { key = k; a = 0; b = 0 }
+
 pub record SeatKey (w : List ℕ) (q n : ℕ) : Type 0 where
-  pub enter : EnterPre w (index_of q) n
+  pub enter : EnterPre w (open_in q n)
   pub small : q ≤ 1048576
 
 -- The first packet under a key, plus one, of those linked so far that bring bytes: a word for each row, from word 6 * q on. x if the key has no row.

@@ -8,10 +8,11 @@ ghost use Rattle.laws.specs.Stores.{Writes};
 ghost use Rattle.words.specs.Words.{word};
 ghost use Rattle.tree.specs.Seats.{Seated};
 ghost use Rattle.packets.specs.PacketTable.{packet_at};
-ghost use Rattle.fragments.specs.Links.{index_of, head_of, head_with, Head, noted, Note, SeatKey, LinkStep, LinkedStep, LinkRoom, LinkBegun, LinkedTo};
+ghost use Rattle.fragments.specs.Links.{index_of, open_in, blank_row, head_of, head_with, Head, noted, Note, SeatKey, LinkStep, LinkedStep, LinkRoom, LinkBegun, LinkedTo};
 ghost use Rattle.fragments.specs.Bytes.{begun, Next, Walk, Paste, Gather};
 
-use tree::{Seating, Tree, clear, seat};
+use table::Row;
+use tree::{Seating, Table, Tree, clear, seat};
 use words::{copy_to, get32, part, put32};
 
 // Where the open PDUs stand and their index, with q a quarter of the file's length.
@@ -29,10 +30,15 @@ fn index_of(q: usize) -> Tree
 // The row of a key among the open PDUs, a new one with nothing open if there is none.
 fn seat_key(w: &mut [u8], q: usize, rows: usize, key: u32, near: usize) -> Seating
     requires { SeatKey w.old q rows }
-    ensures { Seated w.old (index_of q) rows key 0 0 w.new result }
+    ensures { Seated w.old (open_in q rows) (blank_row key) w.new result }
 {
-    let x = index_of(q);
-    seat(w, x, rows, u64::from(key), near, 0, 0)
+    let at = index_of(q);
+    let row = Row {
+        key: u64::from(key),
+        a: 0,
+        b: 0,
+    };
+    seat(w, Table { at, count: rows }, row, near)
 }
 
 // The packet that comes next under the key of row at, plus one. There were so many rows: if it is new, none comes.

@@ -15,14 +15,13 @@ use Rattle.laws.specs.Keyed.{put}
 use Rattle.words.specs.Words.{word, put_word}
 use Rattle.table.specs.Table.{Slot, none, some, lookup, upd, Stored, Agree, find_in}
 use Rattle.table.proofs.Table.{find_below, lookup_found, lookup_nothing, lookup_agree}
-use Rattle.tree.specs.Tree.{SeekPre, EnterPre}
-use Rattle.tree.proofs.Index.{stands_less}
+use Rattle.tree.specs.Tree.{SeekPre, Entered}
 use Rattle.tree.specs.Seats.{seat_of, Seated}
-use Rattle.tree.specs.declared.Tree.{Tree}
+use Rattle.tree.specs.declared.Table.{Table}
 use Rattle.tree.specs.declared.Seating.{Seating}
 use Rattle.tree.proofs.Seats.{seated_value, seated_room, seat_first}
 use Rattle.rfcomm.specs.Pieces.{Counts, Kind, counted, no_counts}
-use Rattle.gathering.specs.CountTable.{value_of, count_index, CountPre, UpPre, CountedUp, Counted}
+use Rattle.gathering.specs.CountTable.{value_of, count_index, UpPre, CountedUp, Counted}
 
 pub count_found : (w : List ℕ) (b k n i : ℕ) (f : Option ℕ) (v : ℕ) → f ≡ find_in w b k n → f ≡ Some i → v ≡ word w (b + 4 * i + 2) → v ≡ value_of (lookup w b n k)
 unfolding value_of
@@ -32,63 +31,35 @@ pub count_none : (w : List ℕ) (b k n : ℕ) (f : Option ℕ) → f ≡ find_in
 unfolding value_of
 count_none w b k n f p q = sym (ap value_of (lookup_nothing w b k n (sym p ∙ q)))
 
-pub up_count : (w : List ℕ) (b n k : ℕ) → UpPre w b n k → CountPre w b n
-up_count w b n k p = record { seek = record { stands = stands_less w (count_index b) (n + 1) n (omega arith) p.enter.stands; indexed = p.enter.indexed }; base = p.base }
-
 pub index_is : (b : ℕ) → record { rows = b; links = b + 4 * (b / 42); roots = b / 1536 + 1 } ≡ count_index b
 unfolding count_index
 index_is b = refl
 
-module _ (w : List ℕ) (b n k : ℕ) (x : Tree) (ex : x ≡ count_index b) where
-  pub count_seek : CountPre w b n → SeekPre w x n
-  count_seek p = rw ex p.seek
-
-  pub count_enter : UpPre w b n k → EnterPre w x n
-  count_enter p = rw ex p.enter
-
-  module _ (p : UpPre w b n k) (u : List ℕ) (r : Seating) (s : Seated w x n k 0 0 u r) where
-    x_rows : x.rows ≡ b
-    unfolding count_index
-    x_rows = rw ex
-
-    seat_value : (t : Slot) (y z : ℕ) → some y z ≡ seat_of 0 0 t → y ≡ value_of t
+module _ (w : List ℕ) (t : Table) (k : ℕ) where
+  module _ (p : UpPre w t k) (u : List ℕ) (r : Seating) (s : Seated w t (record { key = k; a = 0; b = 0 }) u r) where
+    seat_value : (q : Slot) (y z : ℕ) → some y z ≡ seat_of 0 0 q → y ≡ value_of q
     unfolding seat_of value_of
     seat_value none y z e = cc
     seat_value (some v a) y z e = cc
 
-    pub up_row : 4 * (b + 4 * r.at + 2) + 4 ≤ length u
-    up_row = omega (arith, seated_room w x n k 0 0 u r s (count_enter p), x_rows)
-
-    pub up_put : (v : ℕ) → v ≡ word u (b + 4 * r.at + 2) → 4 * (b + 4 * r.at + 2) + 4 ≤ length u
-    up_put v e = up_row
+    pub up_row : 4 * (t.at.rows + 4 * r.at + 2) + 4 ≤ length u
+    up_row = omega (arith, seated_room w t (record { key = k; a = 0; b = 0 }) u r s p.enter)
 
     -- the count before
-    pub up_value : (v : ℕ) → v ≡ word u (b + 4 * r.at + 2) → v ≡ value_of (lookup w b n k)
-    up_value v e = e ∙ rw x_rows at (seat_value (lookup w x.rows n k) _ _ (seated_value w x n k 0 0 u r s))
+    up_value : (v : ℕ) → v ≡ word u (t.at.rows + 4 * r.at + 2) → v ≡ value_of (lookup w t.at.rows t.count k)
+    up_value v e = e ∙ seat_value (lookup w t.at.rows t.count k) _ _ (seated_value w t (record { key = k; a = 0; b = 0 }) u r s)
 
-    pub up_fits : (v : ℕ) → v ≡ word u (b + 4 * r.at + 2) → v < 65536
+    pub up_fits : (v : ℕ) → v ≡ word u (t.at.rows + 4 * r.at + 2) → v < 65536
     up_fits v e = rw (up_value v e) p.small
 
-    pub counted_up : (v : ℕ) → v ≡ word u (b + 4 * r.at + 2) → (t : List ℕ) → t ≡ put_word u (b + 4 * r.at + 2) (v + 1) → CountedUp w b n k t r
-    counted_up v e t et = record {
-      other = word u ((count_index b).rows + 4 * r.at + 3);
-      entered = rw (ex, up_value v e) at (seat_first w x n k 0 0 u r s (count_enter p) (v + 1) t (rw x_rows et));
+    pub counted_up : (v : ℕ) → v ≡ word u (t.at.rows + 4 * r.at + 2) → (m : List ℕ) → m ≡ put_word u (t.at.rows + 4 * r.at + 2) (v + 1) → CountedUp w t k m r
+    counted_up v e m em = record {
+      other = word u (t.at.rows + 4 * r.at + 3);
+      entered = rw (up_value v e) at (seat_first w t (record { key = k; a = 0; b = 0 }) u r s p.enter (v + 1) m em);
     }
 
-  module _ (f : Option ℕ) (p : f ≡ find_in w x.rows k n) where
-    seen : f ≡ find_in w b k n
-    unfolding count_index
-    seen = rw ex at p
-
-    pub count_row : CountPre w b n → (i : ℕ) → f ≡ Some i → 4 * (b + 4 * i) + 16 ≤ length w
-    unfolding count_index
-    count_row c i d = omega (arith, find_below w b k n i (sym seen ∙ d), c.seek.stands.rows, c.seek.stands.room)
-
-    pub seek_found : (i v : ℕ) → f ≡ Some i → v ≡ word w (b + 4 * i + 2) → v ≡ value_of (lookup w b n k)
-    seek_found i v q e = count_found w b k n i f v seen q e
-
-    pub seek_nothing : f ≡ None → 0 ≡ value_of (lookup w b n k)
-    seek_nothing q = count_none w b k n f seen q
+  pub count_row : SeekPre w t → (f : Option ℕ) → f ≡ find_in w t.at.rows k t.count → (i : ℕ) → f ≡ Some i → 4 * (t.at.rows + 4 * i) + 16 ≤ length w
+  count_row p f e i d = omega (arith, find_below w t.at.rows k t.count i (sym e ∙ d), p.stands.rows, p.stands.room)
 
 pub counted_start : (w : List ℕ) (b : ℕ) → Counted no_counts w b 0 0
 unfolding lookup value_of

@@ -32,10 +32,11 @@ use Rattle.rfcomm.proofs.Pieces.{judged_is}
 use Rattle.rfcomm.specs.PieceTable.{piece_at, pieces_from, infos_of, Within, Pieced}
 use Rattle.tree.specs.Tree.{Indexed, Entered, Stands, ClearPre, Cleared}
 use Rattle.tree.specs.declared.Tree.{Tree}
-use Rattle.tree.proofs.Index.{indexed_agree}
+use Rattle.tree.specs.declared.Table.{Table}
+use Rattle.tree.proofs.Index.{indexed_agree, stands_less}
 use Rattle.tree.specs.declared.Seating.{Seating}
 use Rattle.gathering.specs.CountTable.{value_of, count_index, UpPre, CountedUp, Counted}
-use Rattle.gathering.proofs.CountTable.{up_count, counted_start, counted_agree, counted_none, counted_session, counted_link}
+use Rattle.gathering.proofs.CountTable.{counted_start, counted_agree, counted_none, counted_session, counted_link}
 use Rattle.rfcomm.specs.PieceRows.{row_of, PutPre, part_piece}
 use Rattle.rfcomm.proofs.PieceRows.{row_len, row_piece, row_within, row_long, within_front, pieces_front, infos_front, pieces_snoc}
 use Rattle.rfcomm.specs.Judging.{kind_shown, Carried, JudgePre, VerdictIs}
@@ -49,18 +50,18 @@ use Rattle.gathering.specs.declared.Gathered.{Gathered}
 use Rattle.rfcomm.specs.declared.Verdict.TheVariants.{Asks, Opens, Carries, Wrong, Passed}
 use Rattle.gathering.specs.Gathering.{part_of, TakePre, Ready, TakenIn, PiecesPre, PiecesBegun, ReadPieces, Gathering}
 
-pub part_is : (w : List ℕ) (row b n : ℕ) (i : Info) (side k₁ k₂ s l cid start len : ℕ) → side ≡ word w row → k₁ ≡ 64 * (side / 2) + 0 → s ≡ value_of (lookup w b n k₁) → k₂ ≡ 64 * (side / 2) + i.dlci → l ≡ value_of (lookup w b n k₂) →
-    cid ≡ word w (row + 1) → start ≡ i.start → len ≡ i.len →
-    record { dlci = i.dlci; way = side; cid = cid; sessions = s; links = l; start = start; len = len; joined = i.joined } ≡ part_of w row b n i
+pub part_is : (w : List ℕ) (row : ℕ) (t : Table) (i : Info) (side k₁ k₂ s l cid start len : ℕ) → side ≡ word w row → k₁ ≡ 64 * (side / 2) + 0 → s ≡ value_of (lookup w t.at.rows t.count k₁) →
+    k₂ ≡ 64 * (side / 2) + i.dlci → l ≡ value_of (lookup w t.at.rows t.count k₂) → cid ≡ word w (row + 1) → start ≡ i.start → len ≡ i.len →
+    record { dlci = i.dlci; way = side; cid = cid; sessions = s; links = l; start = start; len = len; joined = i.joined } ≡ part_of w row t i
 unfolding part_of
-part_is w row b n i side k₁ k₂ s l cid start len e e₁ es e₂ el ec et en = rw (es, e₁, el, e₂, ec, et, en, e)
+part_is w row t i side k₁ k₂ s l cid start len e e₁ es e₂ el ec et en = rw (es, e₁, el, e₂, ec, et, en, e)
 
-pub take_put : (w : List ℕ) (row b n : ℕ) (i : Info) (at : ℕ) (p : Part) → TakePre w row b n i at → p ≡ part_of w row b n i → PutPre w at p
+pub take_put : (w : List ℕ) (row : ℕ) (t : Table) (i : Info) (at : ℕ) (p : Part) → TakePre w row t i at → p ≡ part_of w row t i → PutPre w at p
 unfolding part_of
-take_put w row b n i at p t e = rw e (record { room = t.room; sessions = t.few (64 * (word w row / 2) + 0); links = t.few (64 * (word w row / 2) + i.dlci); len = t.piece.len })
+take_put w row t i at p h e = rw e (record { room = h.room; sessions = h.few (64 * (word w row / 2) + 0); links = h.few (64 * (word w row / 2) + i.dlci); len = h.piece.len })
 
-pub row_put : (w : List ℕ) (row b n : ℕ) (i : Info) (at : ℕ) (p : Part) (time : ℕ) (u : List ℕ) → p ≡ part_of w row b n i → time ≡ long w (row + 5) → u ≡ put_words w at (row_of p time) → u ≡ put_words w at (row_of (part_of w row b n i) (long w (row + 5)))
-row_put w row b n i at p time u ep et eu = eu ∙ rw (ep, et)
+pub row_put : (w : List ℕ) (row : ℕ) (t : Table) (i : Info) (at : ℕ) (p : Part) (time : ℕ) (u : List ℕ) → p ≡ part_of w row t i → time ≡ long w (row + 5) → u ≡ put_words w at (row_of p time) → u ≡ put_words w at (row_of (part_of w row t i) (long w (row + 5)))
+row_put w row t i at p time u ep et eu = eu ∙ rw (ep, et)
 
 pub judge_pre : (f w : List ℕ) (q rows : ℕ) (t : Taken) (j : ℕ) (a : List ℕ) → Ready f w q rows t j a → JudgePre f w (2 * q + 7 * j) q rows
 judge_pre f w q rows t j a r = record { lent = r.lent; tries = r.tries }
@@ -85,22 +86,19 @@ module _ (f w : List ℕ) (q rows : ℕ) (t : Taken) (j : ℕ) (a : List ℕ) (r
   unfolding count_index
   stands = record { rows = omega (arith, r.counts, r.few, r.quarter); room = omega (arith, r.counts, r.few, r.quarter, r.room); few = omega (arith, r.counts, r.few, r.small) }
 
-  pub up_pre : (k : ℕ) → UpPre w (6 * q) t.counts k
-  up_pre k = record {
-    enter = record { stands = stands; indexed = r.indexed };
-    base = omega (arith, r.quarter, r.small);
-    small = omega (arith, r.values k, r.few, r.small);
-  }
+  -- the table of the counts
+  abbrev table : Table
+  table = record { at = count_index (6 * q); count = t.counts }
 
-  take_pre : (i : Info) → Carried w (2 * q + 7 * j) i → TakePre w (2 * q + 7 * j) (6 * q) t.counts i (5 * q + 8 * t.pieces)
-  take_pre i c = record {
-    piece = record {
-      whole = r.lent.room;
-      counts = up_count w (6 * q) t.counts 0 (up_pre 0);
-      dlci = c.most;
-      start = start_small;
-      len = omega (arith, c.few);
-    };
+  up_here : (k : ℕ) → UpPre w table k
+  unfolding count_index
+  up_here k = record { enter = record { stands = stands; indexed = r.indexed }; small = omega (arith, r.values k, r.few, r.small) }
+
+  take_here : (i : Info) → Carried w (2 * q + 7 * j) i → TakePre w (2 * q + 7 * j) table i (5 * q + 8 * t.pieces)
+  unfolding count_index
+  take_here i c = record {
+    piece = record { whole = r.lent.room; dlci = c.most; start = start_small; len = omega (arith, c.few) };
+    seek = record { stands = stands_less w (count_index (6 * q)) (t.counts + 1) t.counts (omega arith) stands; indexed = r.indexed };
     room = omega (arith, r.table, c.less, r.quarter, r.room);
     few = λ k. omega (arith, r.values k, r.few, r.small);
   } where
@@ -111,8 +109,12 @@ module _ (f w : List ℕ) (q rows : ℕ) (t : Taken) (j : ℕ) (a : List ℕ) (r
     start_small : i.start < 4294967296
     start_small = go (eqb (word w (2 * q + 7 * j + 2)) 1) r.inside.inside
 
-  pub piece_pre : (fcs : Bool) (v : Verdict) (i : Info) → VerdictIs fcs f w (2 * q + 7 * j) (3 * q) rows v → v ≡ Carries i → TakePre w (2 * q + 7 * j) (6 * q) t.counts i (5 * q + 8 * t.pieces)
-  piece_pre fcs v i is e = take_pre i (carries_held fcs f w (2 * q + 7 * j) (3 * q) rows v is i e)
+  module _ (x : Tree) (ex : x ≡ count_index (6 * q)) where
+    pub up_pre : (k : ℕ) → UpPre w (record { at = x; count = t.counts }) k
+    up_pre k = rw ex (up_here k)
+
+    pub piece_pre : (fcs : Bool) (v : Verdict) (i : Info) → VerdictIs fcs f w (2 * q + 7 * j) (3 * q) rows v → v ≡ Carries i → TakePre w (2 * q + 7 * j) (record { at = x; count = t.counts }) i (5 * q + 8 * t.pieces)
+    piece_pre fcs v i is e = rw ex (take_here i (carries_held fcs f w (2 * q + 7 * j) (3 * q) rows v is i e))
 
   -- the counts of frames with a wrong FCS can grow
   pub wrong_small : (d : ℕ) → get_or a d 0 < 4294967295
@@ -154,13 +156,15 @@ module _ (f w : List ℕ) (q rows : ℕ) (t : Taken) (j : ℕ) (a : List ℕ) (r
     unfolding kind_shown counted brought
     taken_wrong d e a' ea = taken_nothing (Wrong d) (wrong d) e refl (λ c. refl) (λ c p. refl) a' (λ i h. rw ea (wrong_more a d i h))
 
-    module _ (side link : ℕ) (es : side ≡ word w (2 * q + 7 * j)) (el : link ≡ side / 2) (key : ℕ) (u : List ℕ) (sat : Seating) (up : CountedUp w (6 * q) t.counts key u sat) (near : Near) where
-      at : Entered w (count_index (6 * q)) t.counts key (value_of (lookup w (6 * q) t.counts key) + 1) up.other u sat.rows
-      at = up.entered
+    module _ (side link : ℕ) (es : side ≡ word w (2 * q + 7 * j)) (el : link ≡ side / 2) (key : ℕ) (u : List ℕ) (sat : Seating) (x : Tree) (ex : x ≡ count_index (6 * q))
+        (up : CountedUp w (record { at = x; count = t.counts }) key u sat) (near : Near) where
+      at : Entered w table (record { key = key; a = value_of (lookup w (6 * q) t.counts key) + 1; b = up.other }) u sat.rows
+      unfolding count_index
+      at = rw ex at up.entered
 
       s : Stored w (6 * q) t.counts key (value_of (lookup w (6 * q) t.counts key) + 1) up.other u sat.rows
       unfolding count_index
-      s = up.entered.stored
+      s = at.stored
 
       my_link : (pdu_at f w (2 * q + 7 * j)).link ≡ link
       my_link = link_is f w (2 * q + 7 * j) ∙ rw (el, es)
@@ -214,26 +218,26 @@ module _ (f w : List ℕ) (q rows : ℕ) (t : Taken) (j : ℕ) (a : List ℕ) (r
       taken_opens zero e ek = opens_zero zero refl e ek
       taken_opens (suc d) e ek = opens_more (suc d) d refl e ek
 
-    module _ (i : Info) (e : v ≡ Carries i) (u : List ℕ) (eu : u ≡ put_words w (5 * q + 8 * t.pieces) (row_of (part_of w (2 * q + 7 * j) (6 * q) t.counts i) (long w (2 * q + 7 * j + 5)))) where
+    module _ (i : Info) (e : v ≡ Carries i) (u : List ℕ) (eu : u ≡ put_words w (5 * q + 8 * t.pieces) (row_of (part_of w (2 * q + 7 * j) table i) (long w (2 * q + 7 * j + 5)))) where
       held : Carried w (2 * q + 7 * j) i
       held = rw e at is.borne
 
       part : Part
-      part = part_of w (2 * q + 7 * j) (6 * q) t.counts i
+      part = part_of w (2 * q + 7 * j) table i
 
       row_room : 4 * (5 * q + 8 * t.pieces) + 32 ≤ 24 * q
       row_room = omega (arith, r.table, held.less, r.quarter)
 
       pre : PutPre w (5 * q + 8 * t.pieces) part
       unfolding part
-      pre = take_put w (2 * q + 7 * j) (6 * q) t.counts i (5 * q + 8 * t.pieces) part (take_pre i held) refl
+      pre = take_put w (2 * q + 7 * j) table i (5 * q + 8 * t.pieces) part (take_here i held) refl
 
       eu' : u ≡ put_words w (5 * q + 8 * t.pieces) (row_of part (long w (2 * q + 7 * j + 5)))
       unfolding part
       eu' = eu
 
       front_row : Front (4 * (5 * q + 8 * t.pieces)) u w
-      front_row = rw eu (front_puts (4 * (5 * q + 8 * t.pieces)) (row_of (part_of w (2 * q + 7 * j) (6 * q) t.counts i) (long w (2 * q + 7 * j + 5))) w (5 * q + 8 * t.pieces) (omega arith))
+      front_row = rw eu (front_puts (4 * (5 * q + 8 * t.pieces)) (row_of (part_of w (2 * q + 7 * j) table i) (long w (2 * q + 7 * j + 5))) w (5 * q + 8 * t.pieces) (omega arith))
 
       inside : i.start + i.len ≤ cond i.joined (8 * q) (length f)
       inside = rw held.joined (go (eqb (word w (2 * q + 7 * j + 2)) 1) r.inside.inside) where
@@ -249,19 +253,19 @@ module _ (f w : List ℕ) (q rows : ℕ) (t : Taken) (j : ℕ) (a : List ℕ) (r
       counts_kept : Agree (6 * q) (6 * q + 4 * t.counts) u w
       counts_kept k lo hi =
           rw eu
-          (puts_above (row_of (part_of w (2 * q + 7 * j) (6 * q) t.counts i) (long w (2 * q + 7 * j + 5))) w (5 * q + 8 * t.pieces) k
-          (omega (arith, row_room, row_long (part_of w (2 * q + 7 * j) (6 * q) t.counts i) (long w (2 * q + 7 * j + 5)))))
+          (puts_above (row_of (part_of w (2 * q + 7 * j) table i) (long w (2 * q + 7 * j + 5))) w (5 * q + 8 * t.pieces) k
+          (omega (arith, row_room, row_long (part_of w (2 * q + 7 * j) table i) (long w (2 * q + 7 * j + 5)))))
 
       index_kept : Indexed u (count_index (6 * q)) t.counts
       unfolding count_index
       index_kept = indexed_agree w (count_index (6 * q)) t.counts r.indexed u
           (λ k h. long_agree u w (6 * q + 4 * k) (counts_kept (6 * q + 4 * k) (omega arith) (omega arith)) (counts_kept (6 * q + 4 * k + 1) (omega arith) (omega arith)))
-          (λ k lo hi. rw eu (puts_above (row_of (part_of w (2 * q + 7 * j) (6 * q) t.counts i) (long w (2 * q + 7 * j + 5))) w (5 * q + 8 * t.pieces) k (omega (arith, row_room, row_long (part_of w (2 * q + 7 * j) (6 * q) t.counts i) (long w (2 * q + 7 * j + 5))))))
+          (λ k lo hi. rw eu (puts_above (row_of (part_of w (2 * q + 7 * j) table i) (long w (2 * q + 7 * j + 5))) w (5 * q + 8 * t.pieces) k (omega (arith, row_room, row_long (part_of w (2 * q + 7 * j) table i) (long w (2 * q + 7 * j + 5))))))
 
       -- the row means the piece that is defined
       piece_as : (m : Key → Counts) → Counted m w (6 * q) t.counts j →
           part_piece f w part (long w (2 * q + 7 * j + 5)) ≡ piece_of (m ((pdu_at f w (2 * q + 7 * j)).link ∷ [])) (pdu_at f w (2 * q + 7 * j)) i.dlci (take i.len (drop i.start (cond i.joined w f)))
-      unfolding part_piece piece_of part_of part pdu_at
+      unfolding part_piece piece_of part_of part pdu_at count_index
       piece_as m c =
           let z : 64 * (word w (2 * q + 7 * j) / 2) + 0 ≡ 64 * (word w (2 * q + 7 * j) / 2) = omega arith in
           rw (z, c.sessions (word w (2 * q + 7 * j) / 2), c.links (word w (2 * q + 7 * j) / 2) i.dlci held.least held.most)
@@ -281,9 +285,9 @@ module _ (f w : List ℕ) (q rows : ℕ) (t : Taken) (j : ℕ) (a : List ℕ) (r
       unfolding part part_of
       row_in = row_within f w (5 * q + 8 * t.pieces) part (long w (2 * q + 7 * j + 5)) pre u eu' (8 * q) inside held.least held.most
 
-      pub taken_piece : (near : Near) → TakenIn fcs f w q rows t j a u (record { counts = t.counts; pieces = t.pieces + 1; near = near }) a
+      taken_row : (near : Near) → TakenIn fcs f w q rows t j a u (record { counts = t.counts; pieces = t.pieces + 1; near = near }) a
       unfolding kind_shown counted brought infos_of is_wrong
-      taken_piece near = record {
+      taken_row near = record {
         wrongs = none_wrong (Carries i) (kind_shown f w (Carries i)) e refl (λ d. refl);
         counts = λ m ss x c.
             rw (kind_as (Carries i) e ss x)
@@ -298,9 +302,14 @@ module _ (f w : List ℕ) (q rows : ℕ) (t : Taken) (j : ℕ) (a : List ℕ) (r
         more = omega arith;
         most = omega arith;
         front = front_less (20 * q) (4 * (5 * q + 8 * t.pieces)) u w (omega arith) front_row;
-        above = λ n h. rw eu (puts_above (row_of (part_of w (2 * q + 7 * j) (6 * q) t.counts i) (long w (2 * q + 7 * j + 5))) w (5 * q + 8 * t.pieces) n (omega (arith, row_room, row_long (part_of w (2 * q + 7 * j) (6 * q) t.counts i) (long w (2 * q + 7 * j + 5)))));
-        size = rw eu (length_puts (row_of (part_of w (2 * q + 7 * j) (6 * q) t.counts i) (long w (2 * q + 7 * j + 5))) w (5 * q + 8 * t.pieces));
+        above = λ n h. rw eu (puts_above (row_of (part_of w (2 * q + 7 * j) table i) (long w (2 * q + 7 * j + 5))) w (5 * q + 8 * t.pieces) n (omega (arith, row_room, row_long (part_of w (2 * q + 7 * j) table i) (long w (2 * q + 7 * j + 5)))));
+        size = rw eu (length_puts (row_of (part_of w (2 * q + 7 * j) table i) (long w (2 * q + 7 * j + 5))) w (5 * q + 8 * t.pieces));
       }
+
+    pub taken_piece : (i : Info) → v ≡ Carries i → (x : Tree) → x ≡ count_index (6 * q) →
+        (u : List ℕ) → u ≡ put_words w (5 * q + 8 * t.pieces) (row_of (part_of w (2 * q + 7 * j) (record { at = x; count = t.counts }) i) (long w (2 * q + 7 * j + 5))) →
+        (near : Near) → TakenIn fcs f w q rows t j a u (record { counts = t.counts; pieces = t.pieces + 1; near = near }) a
+    taken_piece i e x ex u eu near = taken_row i e u (rw ex at eu) near
 
 pub gather_start : (fcs : Bool) (f w : List ℕ) (made rows : ℕ) (near : Near) → PiecesBegun f w made rows →
     Gathering fcs f (pdus_from f w (2 * (length f / 4)) 0 made) w w made rows (record { counts = 0; pieces = 0; near = near }) 0 (replicate {0} {A = ℕ} 64 0)

@@ -2,8 +2,9 @@
 use Rattle.std.specs.Prelude.{ℕ, ◌+◌, ◌*◌, ◌/◌, ◌<◌, ◌≤◌, ◌≡◌, List, [], ◌∷◌}
 use Rattle.laws.specs.Keys.{Key}
 use Rattle.table.specs.Table.{Slot, none, some, lookup}
-use Rattle.tree.specs.Tree.{SeekPre, EnterPre, Entered}
+use Rattle.tree.specs.Tree.{EnterPre, Entered}
 use Rattle.tree.specs.declared.Tree.{Tree}
+use Rattle.tree.specs.declared.Table.{Table}
 use Rattle.tree.specs.declared.Seating.{Seating}
 use Rattle.rfcomm.specs.Pieces.{Counts}
 
@@ -15,19 +16,14 @@ value_of (some v z) = v
 unfoldable pub count_index : ℕ → Tree
 count_index b = record { rows = b; links = b + 4 * (b / 42); roots = b / 1536 + 1 }
 
-pub record CountPre (w : List ℕ) (b n : ℕ) : Type 0 where
-  pub seek : SeekPre w (count_index b) n
-  pub base : b ≤ 8388608
-
-pub record UpPre (w : List ℕ) (b n k : ℕ) : Type 0 where
-  pub enter : EnterPre w (count_index b) n
-  pub base : b ≤ 8388608
-  pub small : value_of (lookup w b n k) < 65536
+pub record UpPre (w : List ℕ) (t : Table) (k : ℕ) : Type 0 where
+  pub enter : EnterPre w t
+  pub small : value_of (lookup w t.at.rows t.count k) < 65536
 
 -- a key is counted once more; the second value of a row says nothing
-pub record CountedUp (w : List ℕ) (b n k : ℕ) (u : List ℕ) (r : Seating) : Type 0 where
+pub record CountedUp (w : List ℕ) (t : Table) (k : ℕ) (u : List ℕ) (r : Seating) : Type 0 where
   pub other : ℕ
-  pub entered : Entered w (count_index b) n k (value_of (lookup w b n k) + 1) other u r.rows
+  pub entered : Entered w t (record { key = k; a = value_of (lookup w t.at.rows t.count k) + 1; b = other }) u r.rows
 
 -- the counts that n rows at word b hold, after at most so many steps
 pub record Counted (m : Key → Counts) (w : List ℕ) (b n most : ℕ) : Type 0 where

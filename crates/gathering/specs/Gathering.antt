@@ -13,8 +13,9 @@ use Rattle.channels.specs.ChannelTable.{Tells}
 use Rattle.channels.specs.Passing.{Signalled, Tries}
 use Rattle.rfcomm.specs.Pieces.{kind_of, judged, told, kinds, is_wrong, wrong_on, Counts, counted, brought, counting, pieces}
 use Rattle.rfcomm.specs.PieceTable.{pieces_from, infos_of, Within, Pieced}
-use Rattle.tree.specs.Tree.{Indexed}
-use Rattle.gathering.specs.CountTable.{value_of, count_index, CountPre, Counted}
+use Rattle.tree.specs.Tree.{Indexed, SeekPre}
+use Rattle.tree.specs.declared.Table.{Table}
+use Rattle.gathering.specs.CountTable.{value_of, count_index, Counted}
 use Rattle.rfcomm.specs.declared.Part.{Part}
 use Rattle.rfcomm.specs.declared.Info.{Info}
 use Rattle.gathering.specs.declared.Taken.{Taken}
@@ -22,29 +23,29 @@ use Rattle.gathering.specs.declared.Gathered.{Gathered}
 
 -- ---- the piece of a PDU's information
 
-unfoldable pub part_of : List ℕ → ℕ → ℕ → ℕ → Info → Part
-part_of w row b n i = record {
+unfoldable pub part_of : List ℕ → ℕ → Table → Info → Part
+part_of w row t i = record {
   dlci = i.dlci;
   way = word w row;
   cid = word w (row + 1);
-  sessions = value_of (lookup w b n (64 * (word w row / 2) + 0));
-  links = value_of (lookup w b n (64 * (word w row / 2) + i.dlci));
+  sessions = value_of (lookup w t.at.rows t.count (64 * (word w row / 2) + 0));
+  links = value_of (lookup w t.at.rows t.count (64 * (word w row / 2) + i.dlci));
   start = i.start;
   len = i.len;
   joined = i.joined;
 }
 
-pub record PiecePre (w : List ℕ) (row b n : ℕ) (i : Info) : Type 0 where
+pub record PiecePre (w : List ℕ) (row : ℕ) (i : Info) : Type 0 where
   pub whole : 4 * row + 28 ≤ length w
-  pub counts : CountPre w b n
   pub dlci : i.dlci < 64
   pub start : i.start < 4294967296
   pub len : i.len < 65536
 
-pub record TakePre (w : List ℕ) (row b n : ℕ) (i : Info) (at : ℕ) : Type 0 where
-  pub piece : PiecePre w row b n i
+pub record TakePre (w : List ℕ) (row : ℕ) (t : Table) (i : Info) (at : ℕ) : Type 0 where
+  pub piece : PiecePre w row i
+  pub seek : SeekPre w t
   pub room : 4 * at + 32 ≤ length w
-  pub few : (k : ℕ) → value_of (lookup w b n k) < 65536
+  pub few : (k : ℕ) → value_of (lookup w t.at.rows t.count k) < 65536
 
 -- ---- what is known before a PDU is taken in
 

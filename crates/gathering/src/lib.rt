@@ -2,7 +2,7 @@
 #![tactic(auto)]
 
 ghost use Rattle.std.specs.Prelude.{◌≡◌, ◌+◌, ◌*◌, ◌≤◌, ◌<◌, get_or, set};
-ghost use Rattle.gathering.specs.CountTable.{value_of, count_index, CountPre, UpPre, CountedUp};
+ghost use Rattle.gathering.specs.CountTable.{value_of, count_index, UpPre, CountedUp};
 ghost use Rattle.rfcomm.specs.PieceRows.{row_of};
 ghost use Rattle.table.specs.Table.{lookup};
 ghost use Rattle.words.specs.Rows.{put_words};
@@ -10,7 +10,8 @@ ghost use Rattle.words.specs.Words.{long};
 ghost use Rattle.gathering.specs.Gathering.{part_of, PiecePre, TakePre, Ready, TakenIn, PiecesPre, PiecesBegun, ReadPieces};
 
 use rfcomm::{Info, Part, Verdict, judge, put_piece};
-use tree::{Seating, Tree, clear, seat, seek_near};
+use table::Row;
+use tree::{Forest, Seating, Table, Tree, clear, seat};
 use words::{get32, get64, put32};
 
 // Where the counts from word base on have their links: base is 6 areas, and rows and links share the seventh, but for the last
@@ -34,13 +35,12 @@ struct Count {
 }
 
 // How often a key was counted. The rows from near on are looked at first.
-fn count_of(w: &[u8], base: usize, rows: usize, key: u64, near: usize) -> Count
-    requires { CountPre w.now base rows }
-    ensures { result.value ≡ value_of (lookup w.now base rows key) }
+fn count_of(counts: Forest, key: u64, near: usize) -> Count
+    ensures { result.value ≡ value_of (lookup counts.entry.w.now counts.entry.table.at.rows counts.entry.table.count key) }
 {
-    match seek_near(w, index_of(base), rows, key, near) {
+    match counts.seek_near(key, near) {
         Some(i) => Count {
-            value: get32(w, base + 4 * i + 2),
+            value: get32(counts.w, counts.table.at.rows + 4 * i + 2),
             row: i,
         },
         None => Count {
@@ -51,12 +51,12 @@ fn count_of(w: &[u8], base: usize, rows: usize, key: u64, near: usize) -> Count
 }
 
 // Counts a key once more, and returns the count of rows and its row.
-fn count_up(w: &mut [u8], base: usize, rows: usize, key: u64, near: usize) -> Seating
-    requires { UpPre w.old base rows key }
-    ensures { CountedUp w.old base rows key w.new result }
+fn count_up(w: &mut [u8], counts: Table, key: u64, near: usize) -> Seating
+    requires { UpPre w.old counts key }
+    ensures { CountedUp w.old counts key w.new result }
 {
-    let s = seat(w, index_of(base), rows, key, near, 0, 0);
-    let at = base + 4 * s.at + 2;
+    let s = seat(w, counts, Row { key, a: 0, b: 0 }, near);
+    let at = counts.at.rows + 4 * s.at + 2;
     let n = get32(w, at);
     put32(w, at, n + 1);
     s
@@ -93,18 +93,18 @@ struct Placed {
 }
 
 // The piece that a PDU's information makes, with the counts that stand.
-fn piece_of(w: &[u8], row: usize, base: usize, rows: usize, i: Info, near: Near) -> Placed
-    requires { PiecePre w.now row base rows i }
-    ensures { result.part ≡ part_of w.now row base rows i }
+fn piece_of(counts: Forest, row: usize, i: Info, near: Near) -> Placed
+    requires { PiecePre counts.w.now row i }
+    ensures { result.part ≡ part_of counts.entry.w.now row counts.entry.table i }
 {
-    let side = get32(w, row);
+    let side = get32(counts.w, row);
     let link = side / 2;
-    let sessions = count_of(w, base, rows, count_key(link, 0), near.sessions);
-    let links = count_of(w, base, rows, count_key(link, i.dlci), near.links);
+    let sessions = count_of(counts, count_key(link, 0), near.sessions);
+    let links = count_of(counts, count_key(link, i.dlci), near.links);
     let part = Part {
         dlci: i.dlci,
         way: side,
-        cid: get32(w, row + 1),
+        cid: get32(counts.w, row + 1),
         sessions: sessions.value,
         links: links.value,
         start: i.start as u32,
@@ -119,19 +119,11 @@ fn piece_of(w: &[u8], row: usize, base: usize, rows: usize, i: Info, near: Near)
 }
 
 // Takes in the piece of a PDU's information as the row at word at, and returns the rows of its counts.
-fn take_piece(
-    w: &mut [u8],
-    row: usize,
-    base: usize,
-    rows: usize,
-    i: Info,
-    near: Near,
-    at: usize,
-) -> Near
-    requires { TakePre w.old row base rows i at }
-    ensures { w.new ≡ put_words w.old at (row_of (part_of w.old row base rows i) (long w.old (row + 5))) }
+fn take_piece(w: &mut [u8], row: usize, counts: Table, i: Info, near: Near, at: usize) -> Near
+    requires { TakePre w.old row counts i at }
+    ensures { w.new ≡ put_words w.old at (row_of (part_of w.old row counts i) (long w.old (row + 5))) }
 {
-    let p = piece_of(w, row, base, rows, i, near);
+    let p = piece_of(Forest { w, table: counts }, row, i, near);
     let part = p.part;
     let time = get64(w, row + 5);
     put_piece(w, at, part, time);
@@ -164,14 +156,17 @@ fn take_pdu(
     ensures { TakenIn fcs file.now w.old q rows t j wrong.old w.new result wrong.new }
 {
     let row = 2 * q + 7 * j;
-    let counts = t.counts;
+    let counts = Table {
+        at: index_of(6 * q),
+        count: t.counts,
+    };
     let pieces = t.pieces;
     let near = t.near;
     let v = judge(file, w, row, q, rows, fcs);
     let link = get32(w, row) / 2;
     match v {
         Verdict::Asks => {
-            let s = count_up(w, 6 * q, counts, count_key(link, 0), near.sessions);
+            let s = count_up(w, counts, count_key(link, 0), near.sessions);
             Taken {
                 counts: s.rows,
                 pieces,
@@ -182,7 +177,7 @@ fn take_pdu(
             }
         }
         Verdict::Opens(d) => {
-            let s = count_up(w, 6 * q, counts, count_key(link, d), near.links);
+            let s = count_up(w, counts, count_key(link, d), near.links);
             Taken {
                 counts: s.rows,
                 pieces,
@@ -193,9 +188,9 @@ fn take_pdu(
             }
         }
         Verdict::Carries(i) => {
-            let found = take_piece(w, row, 6 * q, counts, i, near, 5 * q + 8 * pieces);
+            let found = take_piece(w, row, counts, i, near, 5 * q + 8 * pieces);
             Taken {
-                counts,
+                counts: t.counts,
                 pieces: pieces + 1,
                 near: found,
             }

@@ -2,14 +2,13 @@
 use Rattle.std.specs.Prelude.{Some, None}
 use mathlib.Core.Path.{◌≡◌, refl, sym, ap, ◌∙◌}
 use mathlib.Core.List.{List}
-use mathlib.Core.Logic.{inl, inr}
-use mathlib.Core.Bool.{cond}
+use mathlib.Core.Logic.{inl, inr, ∥∥₁_elim, ∥∥₁_map}
+use mathlib.Core.HLevel.{⊥_prop}
 use Prim.Native.Nat.{ℕ, zero, suc, ◌+◌, ◌-◌, ◌*◌, ◌/◌, ◌%◌, ◌<◌, ◌≤◌}
 use native.Mathlib.Omega.{arith}
 use native.Mathlib.Numerals.{add-one}
 use native.Mathlib.Nat.{div-lt_iff_lt-mul, mul-le-mul, mul-lt-mul_of_pos_right}
 use lib.ListN.{length}
-use lib.Dec.{eqb}
 use borrow.Author.Tests.{eq-eqb, ne_eqb}
 use Rattle.laws.proofs.Choice.{split≡, split≤}
 use Rattle.words.specs.Words.{word, long, put_word}
@@ -20,8 +19,10 @@ use Rattle.table.specs.Table.{find_in, put_row, Stored, Agree}
 use Rattle.table.specs.Chain.{Filled}
 use Rattle.table.proofs.Table.{row_outside, row_key, length_row, long_agree, lookup_agree, sum_agree, store_new}
 use Rattle.tree.specs.Paths.{node_at, rest_at, Keeps}
-use Rattle.tree.specs.Tree.{mix_of, tree_of, key_at, links_in, root_in, path_to, Indexed, Stands, SeekPre, EnterPre, Added, Cleared, ClearPre, TreeIs, Vacant, SpotIs, Seeking, NewPre, put_new}
+use Rattle.tree.specs.Tree.{mix_of, tree_of, key_at, links_in, root_in, path_to, Leads, Indexed, Stands, SeekPre, EnterPre, Added, Cleared, ClearPre, TreeIs, Vacant, SpotIs, Seeking, NewPre, put_new}
+use Rattle.table.specs.declared.Row.{Row}
 use Rattle.tree.specs.declared.Tree.{Tree}
+use Rattle.tree.specs.declared.Table.{Table}
 use Rattle.tree.specs.declared.Spot.{Spot}
 use Rattle.tree.specs.declared.Spot.TheVariants.{Taken, Free}
 use Rattle.tree.proofs.Paths.{node_step, node_past, node_below, node_kept, Grew, grew_keeps, grew_slots, grew_apart, slots_agree, apart_agree}
@@ -98,97 +99,98 @@ found_key w b k (suc n) i e =
 
 -- ---- the search along the bits
 
-module _ (w : List ℕ) (x : Tree) (n k : ℕ) (p : SeekPre w x n) where
-  s : Indexed w x n
+module _ (w : List ℕ) (t : Table) (k : ℕ) (p : SeekPre w t) where
+  s : Indexed w t.at t.count
   s = p.indexed
 
-  pub seeking_start : (f t : ℕ) → f ≡ mix_of k → TreeIs f x.roots t → Seeking w x n k (x.links + t) f
+  pub seeking_start : (f h : ℕ) → f ≡ mix_of k → TreeIs f t.at.roots h → Seeking w t k (t.at.links + h) f
   unfolding node_at rest_at
-  seeking_start f t e i = record {
+  seeking_start f h e i = record {
     low = omega arith;
     high = omega (arith, i.few);
     depth = 0;
-    reads = λ u a. ap (λ (j : ℕ). word u (x.links + j)) (sym (i.is ∙ rw e));
+    reads = λ u a. ap (λ (j : ℕ). word u (t.at.links + j)) (sym (i.is ∙ rw e));
     bits = e;
     met = λ e l. absurd (omega arith);
     others = λ e j l. absurd (omega arith);
   }
 
-  module _ (at rest : ℕ) (q : Seeking w x n k at rest) (c v : ℕ) (ec : c ≡ word w at) (ev : v ≡ c) where
-    here : path_to w x k q.depth ≡ v
+  module _ (at rest : ℕ) (q : Seeking w t k at rest) (c v : ℕ) (ec : c ≡ word w at) (ev : v ≡ c) where
+    here : path_to w t.at k q.depth ≡ v
     here = q.reads w (record { same = λ at a b o. refl }) ∙ sym (ev ∙ ec)
 
-    pub seeking_end : v ≡ 0 → SpotIs w x n k (Free at)
+    pub seeking_end : v ≡ 0 → SpotIs w t k (Free at)
     seeking_end z = record {
-      taken = λ a t. let h : ◌≡◌ {A = ℕ} 0 1 = cc in absurd (omega arith);
-      free = λ a t. let h : at ≡ a = cc in rw (← h) vacant;
+      taken = λ a f. let h : ◌≡◌ {A = ℕ} 0 1 = cc in absurd (omega arith);
+      free = λ a f. let h : at ≡ a = cc in rw (← h) vacant;
     } where
-      gone : (r : ℕ) → r < n → key_at w x r ≡ k → ⊥
+      gone : (r : ℕ) → r < t.count → key_at w t.at r ≡ k → ⊥
       gone r l h =
-          let g : path_to w x k (s.depth r) ≡ suc r = rw h at (s.path r l) in
-          split≤ q.depth (s.depth r)
-          (λ a. no_zero r (sym (node_past w (links_in x) (root_in x k) (rest_at (mix_of k)) q.depth (s.depth r) a (here ∙ z)) ∙ g))
-          (λ a. q.others (s.depth r) r a g h)
+          ∥∥₁_elim (s.path r l) ⊥_prop (λ m.
+          let g : path_to w t.at k m.0 ≡ suc r = rw h at m.1 in
+          split≤ q.depth m.0
+          (λ a. no_zero r (sym (node_past w (links_in t.at) (root_in t.at k) (rest_at (mix_of k)) q.depth m.0 a (here ∙ z)) ∙ g))
+          (λ a. q.others m.0 r a g h))
 
-      vacant : Vacant w x n k at
-      vacant = record { none = find_no w x.rows k n gone; low = q.low; high = q.high; empty = sym (ev ∙ ec) ∙ z; depth = q.depth; reads = q.reads }
+      vacant : Vacant w t k at
+      vacant = record { none = find_no w t.at.rows k t.count gone; low = q.low; high = q.high; empty = sym (ev ∙ ec) ∙ z; depth = q.depth; reads = q.reads }
 
     module _ (z : v ≡ 0 → ⊥) where
       some : 0 < v
       some = split≡ v 0 (λ h. absurd (z h)) (λ h. omega arith)
 
-      pub seeking_row : v ≤ n
+      pub seeking_row : v ≤ t.count
       seeking_row = omega (arith, ec, ev, s.slots.below at q.low q.high)
 
       row : suc (v - 1) ≡ v
       row = omega (arith, some)
 
-      pub seeking_key : 4 * (x.rows + 4 * (v - 1)) + 8 ≤ length w
+      pub seeking_key : 4 * (t.at.rows + 4 * (v - 1)) + 8 ≤ length w
       seeking_key = omega (arith, seeking_row, some, p.stands.rows, p.stands.room)
 
-      module _ (y : ℕ) (e : y ≡ long w (x.rows + 4 * (v - 1))) where
-        pub seeking_hit : y ≡ k → SpotIs w x n k (Taken (v - 1))
+      module _ (y : ℕ) (e : y ≡ long w (t.at.rows + 4 * (v - 1))) where
+        pub seeking_hit : y ≡ k → SpotIs w t k (Taken (v - 1))
         seeking_hit d = record {
-          taken = λ i t. let z : v - 1 ≡ i = cc in rw (← z) (rw (sym e ∙ d) at (s.own (v - 1) (omega (arith, some, seeking_row))));
-          free = λ a t. let z : ◌≡◌ {A = ℕ} 0 1 = cc in absurd (omega arith);
+          taken = λ i f. let z : v - 1 ≡ i = cc in rw (← z) (rw (sym e ∙ d) at (s.own (v - 1) (omega (arith, some, seeking_row))));
+          free = λ a f. let z : ◌≡◌ {A = ℕ} 0 1 = cc in absurd (omega arith);
         }
 
         module _ (d : y ≡ k → ⊥) (bit : ℕ) (eb : bit ≡ rest % 2) where
-          after : at < links_in x + 2 * (v - 1)
+          after : at < links_in t.at + 2 * (v - 1)
           after = rw (← (ev ∙ ec)) at (s.slots.later at q.low q.high) some
 
-          pub seeking_less : links_in x + 2 * n - (links_in x + 2 * (v - 1) + bit) < links_in x + 2 * n - at
+          pub seeking_less : links_in t.at + 2 * t.count - (links_in t.at + 2 * (v - 1) + bit) < links_in t.at + 2 * t.count - at
           seeking_less = omega (arith, after, seeking_row, some)
 
-          pub seeking_turn : Seeking w x n k (links_in x + 2 * (v - 1) + bit) (rest / 2)
+          pub seeking_turn : Seeking w t k (links_in t.at + 2 * (v - 1) + bit) (rest / 2)
           unfolding rest_at
           seeking_turn = record {
             low = omega arith;
             high = omega (arith, eb, seeking_row, some);
             depth = suc q.depth;
-            reads = λ u a. node_step u (links_in x) (root_in x k) (rest_at (mix_of k)) q.depth (v - 1) (leads u a) ∙ rw (eb, q.bits);
+            reads = λ u a. node_step u (links_in t.at) (root_in t.at k) (rest_at (mix_of k)) q.depth (v - 1) (leads u a) ∙ rw (eb, q.bits);
             bits = rw q.bits;
             met = λ a l. split≡ a q.depth (λ o. rw (o, here) some) (λ o. q.met a (earlier a q.depth (omega arith) o));
             others = passed;
           } where
-            leads : (u : List ℕ) → Keeps w x.links (links_in x) n u → path_to u x k q.depth ≡ suc (v - 1)
+            leads : (u : List ℕ) → Keeps w t.at.links (links_in t.at) t.count u → path_to u t.at k q.depth ≡ suc (v - 1)
             leads u a = q.reads u a ∙ a.same at q.low q.high (omega (arith, ec, ev, some)) ∙ sym (ev ∙ ec) ∙ sym row
 
-            passed : (a r : ℕ) → a < suc q.depth → path_to w x k a ≡ suc r → key_at w x r ≡ k → ⊥
+            passed : (a r : ℕ) → a < suc q.depth → path_to w t.at k a ≡ suc r → key_at w t.at r ≡ k → ⊥
             passed a r l h z =
                 split≡ a q.depth
                 (λ o. let g : suc r ≡ v = sym h ∙ rw o here in let f : r ≡ v - 1 = omega (arith, g) in d (e ∙ rw f at z))
                 (λ o. q.others a r (earlier a q.depth (omega arith) o) h z)
 
-module _ (w : List ℕ) (x : Tree) (n k : ℕ) where
-  pub seek_none : n ≡ 0 → None ≡ find_in w x.rows k n
+module _ (w : List ℕ) (t : Table) (k : ℕ) where
+  pub seek_none : t.count ≡ 0 → None ≡ find_in w t.at.rows k t.count
   unfolding find_in
   seek_none e = rw e
 
-  pub seek_taken : (r : Spot) → SpotIs w x n k r → (i : ℕ) → r ≡ Taken i → Some i ≡ find_in w x.rows k n
+  pub seek_taken : (r : Spot) → SpotIs w t k r → (i : ℕ) → r ≡ Taken i → Some i ≡ find_in w t.at.rows k t.count
   seek_taken r s i e = sym (s.taken i e)
 
-  pub seek_free : (r : Spot) → SpotIs w x n k r → (at : ℕ) → r ≡ Free at → None ≡ find_in w x.rows k n
+  pub seek_free : (r : Spot) → SpotIs w t k r → (at : ℕ) → r ≡ Free at → None ≡ find_in w t.at.rows k t.count
   seek_free r s at e = sym (s.free at e).none
 
 -- ---- an empty table
@@ -199,7 +201,6 @@ indexed_none w x p e = record {
   many = p.many;
   slots = record { below = λ at a b. omega (arith, e at a (omega arith)); later = λ at a b c. absurd (omega (arith, e at a (omega arith))) };
   apart = record { one = λ p q a b c d s. absurd (omega (arith, e p a (omega arith))) };
-  depth = λ i. 0;
   path = λ i l. absurd (omega arith);
   own = λ i l. absurd (omega arith);
 }
@@ -233,18 +234,17 @@ module _ (w : List ℕ) (x : Tree) (n : ℕ) (s : Indexed w x n) where
     many = s.many;
     slots = slots_agree u w x.links (links_in x) n g s.slots;
     apart = apart_agree u w x.links (links_in x) n g s.apart;
-    depth = s.depth;
-    path = λ i l. rw (e i l) (path_kept u (record { same = λ at a b o. g at a b }) (key_at w x i) (s.depth i) i (s.path i l));
+    path = λ i l. ∥∥₁_map (s.path i l) (λ m. (m.0, rw (e i l) (path_kept u (record { same = λ at a b o. g at a b }) (key_at w x i) m.0 i m.1)));
     own = λ i l. rw (e i l) (find_agree u w x.rows (key_at w x i) n e ∙ s.own i l);
   }
 
 -- ---- one row more
 
-pub new_put : (w : List ℕ) (x : Tree) (i k y z : ℕ) → (v : List ℕ) → v ≡ put_row w (x.rows + 4 * i) k y z →
-    (t : List ℕ) → t ≡ put_word v (x.links + x.roots + 2 * i) 0 →
-    (u : List ℕ) → u ≡ put_word t (x.links + x.roots + 2 * i + 1) 0 → u ≡ put_new w x i k y z
+pub new_put : (w : List ℕ) (t : Table) (row : Row) → (v : List ℕ) → v ≡ put_row w (t.at.rows + 4 * t.count) row.key row.a row.b →
+    (m : List ℕ) → m ≡ put_word v (t.at.links + t.at.roots + 2 * t.count) 0 →
+    (u : List ℕ) → u ≡ put_word m (t.at.links + t.at.roots + 2 * t.count + 1) 0 → u ≡ put_new w t row
 unfolding put_new
-new_put w x i k y z v ev t et u eu = rw (eu, et, ev)
+new_put w t row v ev m em u eu = rw (eu, em, ev)
 
 stored_agree : (w v u : List ℕ) (b n k y z r : ℕ) → Agree b (b + 4 * r) u v → Front (4 * b) u v → length u ≡ length v →
     Stored w b n k y z v r → Stored w b n k y z u r
@@ -257,23 +257,23 @@ stored_agree w v u b n k y z r a f l s = record {
   size = l ∙ s.size;
 }
 
-module _ (w : List ℕ) (x : Tree) (n k y z : ℕ) (p : EnterPre w x n) where
-  pub enter_fits : NewPre w x n
+module _ (w : List ℕ) (t : Table) (row : Row) (p : EnterPre w t) where
+  pub enter_fits : NewPre w t
   enter_fits = record { rows = omega (arith, p.stands.rows); room = omega (arith, p.stands.room); few = omega (arith, p.stands.few) }
 
   -- the row written, before its links are; where they are
   abbrev rowed : List ℕ
-  rowed = put_row w (x.rows + 4 * n) k y z
+  rowed = put_row w (t.at.rows + 4 * t.count) row.key row.a row.b
 
   abbrev first : ℕ
-  first = x.links + x.roots + 2 * n
+  first = t.at.links + t.at.roots + 2 * t.count
 
-  module _ (v : List ℕ) (ev : v ≡ put_new w x n k y z) where
-    room : 4 * (x.rows + 4 * n) + 16 ≤ length w
+  module _ (v : List ℕ) (ev : v ≡ put_new w t row) where
+    room : 4 * (t.at.rows + 4 * t.count) + 16 ≤ length w
     room = omega (arith, p.stands.rows, p.stands.room)
 
     rowed_long : length rowed ≡ length w
-    rowed_long = length_row w (x.rows + 4 * n) k y z
+    rowed_long = length_row w (t.at.rows + 4 * t.count) row.key row.a row.b
 
     v_off : (j : ℕ) → (first ≡ j → ⊥) → (first + 1 ≡ j → ⊥) → word v j ≡ word rowed j
     unfolding put_new
@@ -283,13 +283,13 @@ module _ (w : List ℕ) (x : Tree) (n k y z : ℕ) (p : EnterPre w x n) where
     unfolding put_new
     v_long = rw ev (length_put (put_word rowed first 0) (first + 1) 0 ∙ length_put rowed first 0 ∙ rowed_long)
 
-    v_front : Front (4 * x.rows) v rowed
+    v_front : Front (4 * t.at.rows) v rowed
     unfolding put_new
     v_front =
         rw ev
-        (front_then (4 * x.rows) _ _ _
-        (front_put (4 * x.rows) _ (first + 1) 0 (omega (arith, p.stands.rows)))
-        (front_put (4 * x.rows) _ first 0 (omega (arith, p.stands.rows))))
+        (front_then (4 * t.at.rows) _ _ _
+        (front_put (4 * t.at.rows) _ (first + 1) 0 (omega (arith, p.stands.rows)))
+        (front_put (4 * t.at.rows) _ first 0 (omega (arith, p.stands.rows))))
 
     v_left : word v first ≡ 0
     unfolding put_new
@@ -304,66 +304,65 @@ module _ (w : List ℕ) (x : Tree) (n k y z : ℕ) (p : EnterPre w x n) where
         rw ev
         (word_put_same (put_word rowed first 0) (first + 1) 0 (rw (length_put rowed first 0, rowed_long) (omega (arith, p.stands.room))))
 
-    v_ends : (j : ℕ) → links_in x + 2 * n ≤ j → j < links_in x + 2 * (n + 1) → word v j ≡ 0
+    v_ends : (j : ℕ) → links_in t.at + 2 * t.count ≤ j → j < links_in t.at + 2 * (t.count + 1) → word v j ≡ 0
     v_ends j a b = split≡ j first
         (λ e. rw e v_left)
         (λ e. let h : j ≡ first + 1 = last j e a b in rw h v_right) where
-          last : (j : ℕ) → (j ≡ links_in x + 2 * n → ⊥) → links_in x + 2 * n ≤ j → j < links_in x + 2 * (n + 1) → j ≡ first + 1
+          last : (j : ℕ) → (j ≡ links_in t.at + 2 * t.count → ⊥) → links_in t.at + 2 * t.count ≤ j → j < links_in t.at + 2 * (t.count + 1) → j ≡ first + 1
           last j e a b = split≤ j first (λ c. absurd (e (omega arith))) (λ c. omega arith)
 
-    pub enter_link : (at : ℕ) (r : Spot) → SpotIs w x n k r → r ≡ Free at → 4 * at + 4 ≤ length v
-    enter_link at r es er = let c : Vacant w x n k at = es.free at er in omega (arith, c.high, p.stands.room, v_long)
+    pub enter_link : (at : ℕ) (r : Spot) → SpotIs w t row.key r → r ≡ Free at → 4 * at + 4 ≤ length v
+    enter_link at r es er = let c : Vacant w t row.key at = es.free at er in omega (arith, c.high, p.stands.room, v_long)
 
-    pub enter_new : (at : ℕ) (r : Spot) → SpotIs w x n k r → r ≡ Free at → (u : List ℕ) → u ≡ put_word v at (n + 1) → Added w x n k y z u
+    pub enter_new : (at : ℕ) (r : Spot) → SpotIs w t row.key r → r ≡ Free at → (u : List ℕ) → u ≡ put_word v at (t.count + 1) → Added w t row u
     enter_new at r es er u eu = record {
       entered = record {
-        stored = stored_agree w rowed u x.rows n k y z (n + 1) (λ j a b. low j (omega (arith, p.stands.rows)))
-            (front_then (4 * x.rows) u v rowed front v_front)
+        stored = stored_agree w rowed u t.at.rows t.count row.key row.a row.b (t.count + 1) (λ j a b. low j (omega (arith, p.stands.rows)))
+            (front_then (4 * t.at.rows) u v rowed front v_front)
             (size ∙ v_long ∙ sym rowed_long)
-            (store_new w x.rows n k y z room None (sym c.none) refl rowed refl);
+            (store_new w t.at.rows t.count row.key row.a row.b room None (sym c.none) refl rowed refl);
         indexed = record {
           some = s.some;
           many = s.many;
-          slots = grew_slots w x.links (links_in x) n s.slots u grew;
-          apart = grew_apart w x.links (links_in x) n s.slots u grew at (λ j a b e. other j e ∙ old j a b) here s.apart;
-          depth = λ i. cond (eqb i n) c.depth (s.depth i);
+          slots = grew_slots w t.at.links (links_in t.at) t.count s.slots u grew;
+          apart = grew_apart w t.at.links (links_in t.at) t.count s.slots u grew at (λ j a b e. other j e ∙ old j a b) here s.apart;
           path = path_row;
           own = own_row;
         };
-        between = λ j a b. low j b ∙ row_outside w (x.rows + 4 * n) k y z j (inr (omega arith));
+        between = λ j a b. low j b ∙ row_outside w (t.at.rows + 4 * t.count) row.key row.a row.b j (inr (omega arith));
         beyond = λ j a.
             other j (λ e. omega (arith, c.high)) ∙ v_off j (λ e. omega arith) (λ e. omega arith)
-            ∙ row_outside w (x.rows + 4 * n) k y z j (inr (omega (arith, p.stands.rows)));
+            ∙ row_outside w (t.at.rows + 4 * t.count) row.key row.a row.b j (inr (omega (arith, p.stands.rows)));
       };
-      row = find_last u x.rows k n new_key;
-      others = λ j q. find_more u x.rows j n (λ e. q (sym new_key ∙ e)) ∙ find_agree u w x.rows j n new_keys;
+      last = find_last u t.at.rows row.key t.count new_key;
+      others = λ j q. find_more u t.at.rows j t.count (λ e. q (sym new_key ∙ e)) ∙ find_agree u w t.at.rows j t.count new_keys;
     } where
-      s : Indexed w x n
+      s : Indexed w t.at t.count
       s = p.indexed
 
-      c : Vacant w x n k at
+      c : Vacant w t row.key at
       c = es.free at er
 
       other : (j : ℕ) → (at ≡ j → ⊥) → word u j ≡ word v j
-      other j h = rw eu (word_put_other v at (n + 1) j h)
+      other j h = rw eu (word_put_other v at (t.count + 1) j h)
 
-      here : word u at ≡ suc n
-      here = rw (eu, ← add-one n) (word_put_same v at (n + 1) (enter_link at r es er))
+      here : word u at ≡ suc t.count
+      here = rw (eu, ← add-one t.count) (word_put_same v at (t.count + 1) (enter_link at r es er))
 
       size : length u ≡ length v
-      size = rw eu (length_put v at (n + 1))
+      size = rw eu (length_put v at (t.count + 1))
 
-      front : Front (4 * x.rows) u v
-      front = rw eu (front_put (4 * x.rows) v at (n + 1) (omega (arith, c.low, p.stands.rows)))
+      front : Front (4 * t.at.rows) u v
+      front = rw eu (front_put (4 * t.at.rows) v at (t.count + 1) (omega (arith, c.low, p.stands.rows)))
 
       -- the words before the index, and those of it that there were
-      low : (j : ℕ) → j < x.links → word u j ≡ word rowed j
+      low : (j : ℕ) → j < t.at.links → word u j ≡ word rowed j
       low j h = other j (λ e. omega (arith, c.low)) ∙ v_off j (λ e. omega arith) (λ e. omega arith)
 
-      old : (j : ℕ) → x.links ≤ j → j < links_in x + 2 * n → word v j ≡ word w j
-      old j a b = v_off j (λ e. omega arith) (λ e. omega arith) ∙ row_outside w (x.rows + 4 * n) k y z j (inr (omega (arith, p.stands.rows)))
+      old : (j : ℕ) → t.at.links ≤ j → j < links_in t.at + 2 * t.count → word v j ≡ word w j
+      old j a b = v_off j (λ e. omega arith) (λ e. omega arith) ∙ row_outside w (t.at.rows + 4 * t.count) row.key row.a row.b j (inr (omega (arith, p.stands.rows)))
 
-      grew : Grew w x.links (links_in x) n u
+      grew : Grew w t.at.links (links_in t.at) t.count u
       grew = record {
         ends = λ j a b. other j (λ e. omega (arith, c.high)) ∙ v_ends j a b;
         slots = λ j a b. split≡ at j
@@ -371,34 +370,34 @@ module _ (w : List ℕ) (x : Tree) (n k y z : ℕ) (p : EnterPre w x n) where
             (λ e. inl (other j e ∙ old j a b));
       }
 
-      keeps : Keeps w x.links (links_in x) n u
-      keeps = grew_keeps w x.links (links_in x) n s.slots u grew
+      keeps : Keeps w t.at.links (links_in t.at) t.count u
+      keeps = grew_keeps w t.at.links (links_in t.at) t.count s.slots u grew
 
-      new_keys : (i : ℕ) → i < n → key_at u x i ≡ key_at w x i
-      new_keys i l = long_agree u w (x.rows + 4 * i)
-          (low (x.rows + 4 * i) (omega (arith, p.stands.rows)) ∙ row_outside w (x.rows + 4 * n) k y z (x.rows + 4 * i) (inl (omega arith)))
-          (low (x.rows + 4 * i + 1) (omega (arith, p.stands.rows)) ∙ row_outside w (x.rows + 4 * n) k y z (x.rows + 4 * i + 1) (inl (omega arith)))
+      new_keys : (i : ℕ) → i < t.count → key_at u t.at i ≡ key_at w t.at i
+      new_keys i l = long_agree u w (t.at.rows + 4 * i)
+          (low (t.at.rows + 4 * i) (omega (arith, p.stands.rows)) ∙ row_outside w (t.at.rows + 4 * t.count) row.key row.a row.b (t.at.rows + 4 * i) (inl (omega arith)))
+          (low (t.at.rows + 4 * i + 1) (omega (arith, p.stands.rows)) ∙ row_outside w (t.at.rows + 4 * t.count) row.key row.a row.b (t.at.rows + 4 * i + 1) (inl (omega arith)))
 
-      new_key : key_at u x n ≡ k
+      new_key : key_at u t.at t.count ≡ row.key
       new_key =
-          long_agree u rowed (x.rows + 4 * n)
-          (low (x.rows + 4 * n) (omega (arith, p.stands.rows)))
-          (low (x.rows + 4 * n + 1) (omega (arith, p.stands.rows)))
-          ∙ row_key w (x.rows + 4 * n) k y z room
+          long_agree u rowed (t.at.rows + 4 * t.count)
+          (low (t.at.rows + 4 * t.count) (omega (arith, p.stands.rows)))
+          (low (t.at.rows + 4 * t.count + 1) (omega (arith, p.stands.rows)))
+          ∙ row_key w (t.at.rows + 4 * t.count) row.key row.a row.b room
 
-      differ : (i : ℕ) → i < n → k ≡ key_at w x i → ⊥
+      differ : (i : ℕ) → i < t.count → row.key ≡ key_at w t.at i → ⊥
       differ i l e = other_row i (sym c.none ∙ rw (← e) at (s.own i l))
 
-      own_row : (i : ℕ) → i < n + 1 → find_in u x.rows (key_at u x i) (n + 1) ≡ Some i
+      own_row : (i : ℕ) → i < t.count + 1 → find_in u t.at.rows (key_at u t.at i) (t.count + 1) ≡ Some i
       own_row i l =
-          split≡ i n
-          (λ q. rw q (find_last u x.rows (key_at u x n) n refl))
-          (λ q. let h : i < n = earlier i n l q in
-          rw (new_keys i h) (find_more u x.rows (key_at w x i) n (λ z. differ i h (sym new_key ∙ z)) ∙ find_agree u w x.rows (key_at w x i) n new_keys ∙ s.own i h))
+          split≡ i t.count
+          (λ q. rw q (find_last u t.at.rows (key_at u t.at t.count) t.count refl))
+          (λ q. let h : i < t.count = earlier i t.count l q in
+          rw (new_keys i h) (find_more u t.at.rows (key_at w t.at i) t.count (λ d. differ i h (sym new_key ∙ d)) ∙ find_agree u w t.at.rows (key_at w t.at i) t.count new_keys ∙ s.own i h))
 
-      path_row : (i : ℕ) → i < n + 1 → path_to u x (key_at u x i) (cond (eqb i n) c.depth (s.depth i)) ≡ suc i
+      path_row : (i : ℕ) → i < t.count + 1 → Leads u t.at (key_at u t.at i) i
       path_row i l =
-          split≡ i n
-          (λ q. rw (eq-eqb i n q, q, new_key) (c.reads u keeps ∙ here))
-          (λ q. let h : i < n = earlier i n l q in
-          rw (ne_eqb i n q, new_keys i h) (path_kept w x n s u keeps (key_at w x i) (s.depth i) i (s.path i h)))
+          split≡ i t.count
+          (λ q. ∣ (c.depth, rw (q, new_key) (c.reads u keeps ∙ here)) ∣₁)
+          (λ q. let h : i < t.count = earlier i t.count l q in
+          ∥∥₁_map (s.path i h) (λ m. (m.0, rw (new_keys i h) (path_kept w t.at t.count s u keeps (key_at w t.at i) m.0 i m.1))))

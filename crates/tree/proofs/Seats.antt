@@ -18,7 +18,8 @@ use Rattle.table.proofs.Table.{find_below, lookup_found, lookup_nothing, long_ag
 use Rattle.tree.specs.Tree.{Indexed, SeekPre, EnterPre, Entered, Added, SpotIs, put_new, key_at}
 use Rattle.tree.proofs.Index.{find_agree, indexed_agree, stands_less, stands_same, enter_new}
 use Rattle.tree.specs.Seats.{seat_of, Seated, Sits, Nearby}
-use Rattle.tree.specs.declared.Tree.{Tree}
+use Rattle.table.specs.declared.Row.{Row}
+use Rattle.tree.specs.declared.Table.{Table}
 use Rattle.tree.specs.declared.Seating.{Seating}
 use Rattle.tree.specs.declared.Spot.{Spot}
 use Rattle.tree.specs.declared.Spot.TheVariants.{Taken, Free}
@@ -44,32 +45,32 @@ module _ (s : ℕ → Slot) (k y z : ℕ) where
   unfolding seat_of
   says_new e j = rw e
 
-module _ (w : List ℕ) (x : Tree) (n k y z : ℕ) (p : EnterPre w x n) where
-  seated_known : (i : ℕ) → find_in w x.rows k n ≡ Some i → Seated w x n k y z w (record { rows = n; at = i })
+module _ (w : List ℕ) (t : Table) (row : Row) (p : EnterPre w t) where
+  seated_known : (i : ℕ) → find_in w t.at.rows row.key t.count ≡ Some i → Seated w t row w (record { rows = t.count; at = i })
   seated_known i e = record {
-    known = λ j f. (refl, (refl, same_row (find_in w x.rows k n) i j e f));
-    fresh = λ f. no_row (find_in w x.rows k n) i f e;
-    row = e;
+    known = λ j f. (refl, (refl, same_row (find_in w t.at.rows row.key t.count) i j e f));
+    fresh = λ f. no_row (find_in w t.at.rows row.key t.count) i f e;
+    own = e;
     others = λ j q. refl;
-    few = find_below w x.rows k n i e;
-    says = says_old (lookup w x.rows n) k y z (word w (x.rows + 4 * i + 2)) (word w (x.rows + 4 * i + 3)) (lookup_found w x.rows k n i e);
+    few = find_below w t.at.rows row.key t.count i e;
+    says = says_old (lookup w t.at.rows t.count) row.key row.a row.b (word w (t.at.rows + 4 * i + 2)) (word w (t.at.rows + 4 * i + 3)) (lookup_found w t.at.rows row.key t.count i e);
     indexed = p.indexed;
     least = omega arith;
     most = omega arith;
-    front = front_refl (4 * x.rows) w;
+    front = front_refl (4 * t.at.rows) w;
     size = refl;
     between = λ j a b. refl;
     beyond = λ j a. refl;
   }
 
-  seated_added : find_in w x.rows k n ≡ None → (u : List ℕ) → Added w x n k y z u → Seated w x n k y z u (record { rows = n + 1; at = n })
+  seated_added : find_in w t.at.rows row.key t.count ≡ None → (u : List ℕ) → Added w t row u → Seated w t row u (record { rows = t.count + 1; at = t.count })
   seated_added e u a = record {
-    known = λ j f. no_row (find_in w x.rows k n) j e f;
+    known = λ j f. no_row (find_in w t.at.rows row.key t.count) j e f;
     fresh = λ f. (a.entered, (refl, refl));
-    row = a.row;
+    own = a.last;
     others = a.others;
     few = omega arith;
-    says = λ j. a.entered.stored.says j ∙ says_new (lookup w x.rows n) k y z (lookup_nothing w x.rows k n e) j;
+    says = λ j. a.entered.stored.says j ∙ says_new (lookup w t.at.rows t.count) row.key row.a row.b (lookup_nothing w t.at.rows row.key t.count e) j;
     indexed = a.entered.indexed;
     least = omega arith;
     most = omega arith;
@@ -79,131 +80,131 @@ module _ (w : List ℕ) (x : Tree) (n k y z : ℕ) (p : EnterPre w x n) where
     beyond = a.entered.beyond;
   }
 
-  pub row_taken : (i : ℕ) (r : Spot) → SpotIs w x n k r → r ≡ Taken i → Seated w x n k y z w (record { rows = n; at = i })
+  pub row_taken : (i : ℕ) (r : Spot) → SpotIs w t row.key r → r ≡ Taken i → Seated w t row w (record { rows = t.count; at = i })
   row_taken i r s e = seated_known i (s.taken i e)
 
-  pub row_free : (at : ℕ) (r : Spot) → SpotIs w x n k r → r ≡ Free at → (v : List ℕ) → v ≡ put_new w x n k y z → (u : List ℕ) → u ≡ put_word v at (n + 1) → Seated w x n k y z u (record { rows = n + 1; at = n })
-  row_free at r s e v ev u eu = seated_added (s.free at e).none u (enter_new w x n k y z p v ev at r s e u eu)
+  pub row_free : (at : ℕ) (r : Spot) → SpotIs w t row.key r → r ≡ Free at → (v : List ℕ) → v ≡ put_new w t row → (u : List ℕ) → u ≡ put_word v at (t.count + 1) → Seated w t row u (record { rows = t.count + 1; at = t.count })
+  row_free at r s e v ev u eu = seated_added (s.free at e).none u (enter_new w t row p v ev at r s e u eu)
 
-  pub seat_near : (i : ℕ) (r : Option ℕ) → Nearby w x n k r → r ≡ Some i → Seated w x n k y z w (record { rows = n; at = i })
+  pub seat_near : (i : ℕ) (r : Option ℕ) → Nearby w t row.key r → r ≡ Some i → Seated w t row w (record { rows = t.count; at = i })
   seat_near i r s e = seated_known i (s.has i e)
 
-  pub enter_seek : SeekPre w x n
-  enter_seek = record { stands = stands_less w x (n + 1) n (omega arith) p.stands; indexed = p.indexed }
+  pub enter_seek : SeekPre w t
+  enter_seek = record { stands = stands_less w t.at (t.count + 1) t.count (omega arith) p.stands; indexed = p.indexed }
 
 -- ---- a row near another
 
-pub near_none : (w : List ℕ) (x : Tree) (n k : ℕ) → Nearby w x n k None
-near_none w x n k = record { has = λ i e. no_row None i refl e }
+pub near_none : (w : List ℕ) (t : Table) (k : ℕ) → Nearby w t k None
+near_none w t k = record { has = λ i e. no_row None i refl e }
 
-pub near_row : (w : List ℕ) (x : Tree) (n k i : ℕ) (t : Bool) → Sits w x n k i t → t ≡ true → Nearby w x n k (Some i)
-near_row w x n k i t s e = record { has = λ j f. rw (← same_row (Some i) i j refl f) (s.own e) }
+pub near_row : (w : List ℕ) (t : Table) (k i : ℕ) (b : Bool) → Sits w t k i b → b ≡ true → Nearby w t k (Some i)
+near_row w t k i b s e = record { has = λ j f. rw (← same_row (Some i) i j refl f) (s.own e) }
 
-pub sits_past : (w : List ℕ) (x : Tree) (n k i : ℕ) → n ≤ i → Sits w x n k i (ltb i n)
-sits_past w x n k i h = record { own = λ e. absurd (omega (arith, ltb-true i n e)) }
+pub sits_past : (w : List ℕ) (t : Table) (k i : ℕ) → t.count ≤ i → Sits w t k i (ltb i t.count)
+sits_past w t k i h = record { own = λ e. absurd (omega (arith, ltb-true i t.count e)) }
 
-pub sits_is : (w : List ℕ) (x : Tree) (n k i : ℕ) → SeekPre w x n → i < n → (y : ℕ) → y ≡ long w (x.rows + 4 * i) → Sits w x n k i (eqb y k)
-sits_is w x n k i p l y e = record { own = λ t. rw (sym e ∙ eqb-true y k t) at (p.indexed.own i l) }
+pub sits_is : (w : List ℕ) (t : Table) (k i : ℕ) → SeekPre w t → i < t.count → (y : ℕ) → y ≡ long w (t.at.rows + 4 * i) → Sits w t k i (eqb y k)
+sits_is w t k i p l y e = record { own = λ b. rw (sym e ∙ eqb-true y k b) at (p.indexed.own i l) }
 
-pub near_seek : (w : List ℕ) (x : Tree) (n k i : ℕ) (r : Option ℕ) → Nearby w x n k r → r ≡ Some i → Some i ≡ find_in w x.rows k n
-near_seek w x n k i r s e = sym (s.has i e)
+pub near_seek : (w : List ℕ) (t : Table) (k i : ℕ) (r : Option ℕ) → Nearby w t k r → r ≡ Some i → Some i ≡ find_in w t.at.rows k t.count
+near_seek w t k i r s e = sym (s.has i e)
 
 -- ---- the values of a row stored
 
--- row i of n rows, which is the key k's, gets the values y and z, and no other word changes
-pub record Valued (w : List ℕ) (x : Tree) (n k i y z : ℕ) (u : List ℕ) : Type 0 where
-  pub stored : Stored w x.rows n k y z u n
-  pub indexed : Indexed u x n
-  pub finds : (j : ℕ) → find_in u x.rows j n ≡ find_in w x.rows j n
-  pub others : (j : ℕ) → (x.rows + 4 * i + 2 ≡ j → ⊥) → (x.rows + 4 * i + 3 ≡ j → ⊥) → word u j ≡ word w j
+-- row i, which is the key k's, gets the values y and z, and no other word changes
+pub record Valued (w : List ℕ) (t : Table) (k i y z : ℕ) (u : List ℕ) : Type 0 where
+  pub stored : Stored w t.at.rows t.count k y z u t.count
+  pub indexed : Indexed u t.at t.count
+  pub finds : (j : ℕ) → find_in u t.at.rows j t.count ≡ find_in w t.at.rows j t.count
+  pub others : (j : ℕ) → (t.at.rows + 4 * i + 2 ≡ j → ⊥) → (t.at.rows + 4 * i + 3 ≡ j → ⊥) → word u j ≡ word w j
 
-module _ (w : List ℕ) (x : Tree) (n k i : ℕ) (p : SeekPre w x n) (e : find_in w x.rows k n ≡ Some i) where
-  less : i < n
-  less = find_below w x.rows k n i e
+module _ (w : List ℕ) (t : Table) (k i : ℕ) (p : SeekPre w t) (e : find_in w t.at.rows k t.count ≡ Some i) where
+  less : i < t.count
+  less = find_below w t.at.rows k t.count i e
 
-  valued : (y z : ℕ) (u : List ℕ) → word u (x.rows + 4 * i + 2) ≡ y → word u (x.rows + 4 * i + 3) ≡ z →
-      ((j : ℕ) → (x.rows + 4 * i + 2 ≡ j → ⊥) → (x.rows + 4 * i + 3 ≡ j → ⊥) → word u j ≡ word w j) → Front (4 * x.rows) u w → length u ≡ length w → Valued w x n k i y z u
+  valued : (y z : ℕ) (u : List ℕ) → word u (t.at.rows + 4 * i + 2) ≡ y → word u (t.at.rows + 4 * i + 3) ≡ z →
+      ((j : ℕ) → (t.at.rows + 4 * i + 2 ≡ j → ⊥) → (t.at.rows + 4 * i + 3 ≡ j → ⊥) → word u j ≡ word w j) → Front (4 * t.at.rows) u w → length u ≡ length w → Valued w t k i y z u
   valued y z u ey ez o f l = record {
-    stored = store_old w u x.rows n k i y z e (record {
+    stored = store_old w u t.at.rows t.count k i y z e (record {
       keys = keys;
       first = ey;
       last = ez;
-      firsts = λ j h q. o (x.rows + 4 * j + 2) (λ t. q (omega arith)) (λ t. omega arith);
-      lasts = λ j h q. o (x.rows + 4 * j + 3) (λ t. omega arith) (λ t. q (omega arith));
+      firsts = λ j h q. o (t.at.rows + 4 * j + 2) (λ d. q (omega arith)) (λ d. omega arith);
+      lasts = λ j h q. o (t.at.rows + 4 * j + 3) (λ d. omega arith) (λ d. q (omega arith));
     }) f l;
-    indexed = indexed_agree w x n p.indexed u keys (λ j a b. o j (λ t. omega (arith, less, p.stands.rows)) (λ t. omega (arith, less, p.stands.rows)));
-    finds = λ j. find_agree u w x.rows j n keys;
+    indexed = indexed_agree w t.at t.count p.indexed u keys (λ j a b. o j (λ d. omega (arith, less, p.stands.rows)) (λ d. omega (arith, less, p.stands.rows)));
+    finds = λ j. find_agree u w t.at.rows j t.count keys;
     others = o;
   } where
-    keys : (j : ℕ) → j < n → key_at u x j ≡ key_at w x j
-    keys j h = long_agree u w (x.rows + 4 * j) (o (x.rows + 4 * j) (λ t. omega arith) (λ t. omega arith)) (o (x.rows + 4 * j + 1) (λ t. omega arith) (λ t. omega arith))
+    keys : (j : ℕ) → j < t.count → key_at u t.at j ≡ key_at w t.at j
+    keys j h = long_agree u w (t.at.rows + 4 * j) (o (t.at.rows + 4 * j) (λ d. omega arith) (λ d. omega arith)) (o (t.at.rows + 4 * j + 1) (λ d. omega arith) (λ d. omega arith))
 
   -- the first value
-  pub valued_first : (y : ℕ) (u : List ℕ) → u ≡ put_word w (x.rows + 4 * i + 2) y → Valued w x n k i y (word w (x.rows + 4 * i + 3)) u
-  valued_first y u eu = rw eu (valued y (word w (x.rows + 4 * i + 3)) (put_word w (x.rows + 4 * i + 2) y)
-      (word_put_same w (x.rows + 4 * i + 2) y (omega (arith, less, p.stands.rows, p.stands.room)))
-      (word_put_other w (x.rows + 4 * i + 2) y (x.rows + 4 * i + 3) (λ t. omega arith))
-      (λ j a b. word_put_other w (x.rows + 4 * i + 2) y j a)
-      (front_put (4 * x.rows) w (x.rows + 4 * i + 2) y (omega arith))
-      (length_put w (x.rows + 4 * i + 2) y))
+  pub valued_first : (y : ℕ) (u : List ℕ) → u ≡ put_word w (t.at.rows + 4 * i + 2) y → Valued w t k i y (word w (t.at.rows + 4 * i + 3)) u
+  valued_first y u eu = rw eu (valued y (word w (t.at.rows + 4 * i + 3)) (put_word w (t.at.rows + 4 * i + 2) y)
+      (word_put_same w (t.at.rows + 4 * i + 2) y (omega (arith, less, p.stands.rows, p.stands.room)))
+      (word_put_other w (t.at.rows + 4 * i + 2) y (t.at.rows + 4 * i + 3) (λ d. omega arith))
+      (λ j a b. word_put_other w (t.at.rows + 4 * i + 2) y j a)
+      (front_put (4 * t.at.rows) w (t.at.rows + 4 * i + 2) y (omega arith))
+      (length_put w (t.at.rows + 4 * i + 2) y))
 
   -- both
-  pub valued_both : (y z : ℕ) (t u : List ℕ) → t ≡ put_word w (x.rows + 4 * i + 2) y → u ≡ put_word t (x.rows + 4 * i + 3) z → Valued w x n k i y z u
-  valued_both y z t u et eu = rw (eu, et) (valued y z (put_word v (x.rows + 4 * i + 3) z)
-      (word_put_other v (x.rows + 4 * i + 3) z (x.rows + 4 * i + 2) (λ q. omega arith) ∙ word_put_same w (x.rows + 4 * i + 2) y (omega (arith, less, p.stands.rows, p.stands.room)))
-      (word_put_same v (x.rows + 4 * i + 3) z (rw (length_put w (x.rows + 4 * i + 2) y) (omega (arith, less, p.stands.rows, p.stands.room))))
-      (λ j a b. word_put_other v (x.rows + 4 * i + 3) z j b ∙ word_put_other w (x.rows + 4 * i + 2) y j a)
-      (front_then (4 * x.rows) _ v w (front_put (4 * x.rows) v (x.rows + 4 * i + 3) z (omega arith)) (front_put (4 * x.rows) w (x.rows + 4 * i + 2) y (omega arith)))
-      (length_put v (x.rows + 4 * i + 3) z ∙ length_put w (x.rows + 4 * i + 2) y)) where
+  pub valued_both : (y z : ℕ) (m u : List ℕ) → m ≡ put_word w (t.at.rows + 4 * i + 2) y → u ≡ put_word m (t.at.rows + 4 * i + 3) z → Valued w t k i y z u
+  valued_both y z m u em eu = rw (eu, em) (valued y z (put_word v (t.at.rows + 4 * i + 3) z)
+      (word_put_other v (t.at.rows + 4 * i + 3) z (t.at.rows + 4 * i + 2) (λ q. omega arith) ∙ word_put_same w (t.at.rows + 4 * i + 2) y (omega (arith, less, p.stands.rows, p.stands.room)))
+      (word_put_same v (t.at.rows + 4 * i + 3) z (rw (length_put w (t.at.rows + 4 * i + 2) y) (omega (arith, less, p.stands.rows, p.stands.room))))
+      (λ j a b. word_put_other v (t.at.rows + 4 * i + 3) z j b ∙ word_put_other w (t.at.rows + 4 * i + 2) y j a)
+      (front_then (4 * t.at.rows) _ v w (front_put (4 * t.at.rows) v (t.at.rows + 4 * i + 3) z (omega arith)) (front_put (4 * t.at.rows) w (t.at.rows + 4 * i + 2) y (omega arith)))
+      (length_put v (t.at.rows + 4 * i + 3) z ∙ length_put w (t.at.rows + 4 * i + 2) y)) where
         v : List ℕ
-        v = put_word w (x.rows + 4 * i + 2) y
+        v = put_word w (t.at.rows + 4 * i + 2) y
 
 -- ---- after seat
 
-module _ (w : List ℕ) (x : Tree) (n k a b : ℕ) (u : List ℕ) (r : Seating) (s : Seated w x n k a b u r) where
+module _ (w : List ℕ) (t : Table) (row : Row) (u : List ℕ) (r : Seating) (s : Seated w t row u r) where
   -- what stands in the row
-  pub seated_value : some (word u (x.rows + 4 * r.at + 2)) (word u (x.rows + 4 * r.at + 3)) ≡ seat_of a b (lookup w x.rows n k)
+  pub seated_value : some (word u (t.at.rows + 4 * r.at + 2)) (word u (t.at.rows + 4 * r.at + 3)) ≡ seat_of row.a row.b (lookup w t.at.rows t.count row.key)
   unfolding upd
-  seated_value = sym (lookup_found u x.rows k r.rows r.at s.row) ∙ s.says k ∙ rw (eq-eqb k k refl)
+  seated_value = sym (lookup_found u t.at.rows row.key r.rows r.at s.own) ∙ s.says row.key ∙ rw (eq-eqb row.key row.key refl)
 
-  module _ (p : EnterPre w x n) where
-    pub seated_seek : SeekPre u x r.rows
-    seated_seek = record { stands = stands_less u x (n + 1) r.rows s.most (stands_same u w x (n + 1) s.size p.stands); indexed = s.indexed }
+  module _ (p : EnterPre w t) where
+    pub seated_seek : SeekPre u (record { at = t.at; count = r.rows })
+    seated_seek = record { stands = stands_less u t.at (t.count + 1) r.rows s.most (stands_same u w t.at (t.count + 1) s.size p.stands); indexed = s.indexed }
 
     -- the row's words
-    pub seated_room : 4 * (x.rows + 4 * r.at) + 16 ≤ length u
+    pub seated_room : 4 * (t.at.rows + 4 * r.at) + 16 ≤ length u
     seated_room = omega (arith, s.few, s.most, s.size, p.stands.rows, p.stands.room)
 
-    seated_sum : sum_of u x.rows r.rows + second (lookup w x.rows n k) ≡ sum_of w x.rows n + second (lookup u x.rows r.rows k)
+    seated_sum : sum_of u t.at.rows r.rows + second (lookup w t.at.rows t.count row.key) ≡ sum_of w t.at.rows t.count + second (lookup u t.at.rows r.rows row.key)
     unfolding upd second
-    seated_sum = split_row (find_in w x.rows k n)
-        (λ i e. let q : (u ≡ w) × ((r.rows ≡ n) × (r.at ≡ i)) = s.known i e in rw (q.0, q.1.0))
-        (λ e. let q : Entered w x n k a b u (n + 1) × ((r.rows ≡ n + 1) × (r.at ≡ n)) = s.fresh e in
+    seated_sum = split_row (find_in w t.at.rows row.key t.count)
+        (λ i e. let q : (u ≡ w) × ((r.rows ≡ t.count) × (r.at ≡ i)) = s.known i e in rw (q.0, q.1.0))
+        (λ e. let q : Entered w t row u (t.count + 1) × ((r.rows ≡ t.count + 1) × (r.at ≡ t.count)) = s.fresh e in
         rw (q.1.0, last q.0.stored) q.0.stored.sum) where
-          last : Stored w x.rows n k a b u (n + 1) → second (lookup u x.rows (n + 1) k) ≡ b
-          last t = rw (t.says k, eq-eqb k k refl)
+          last : Stored w t.at.rows t.count row.key row.a row.b u (t.count + 1) → second (lookup u t.at.rows (t.count + 1) row.key) ≡ row.b
+          last e = rw (e.says row.key, eq-eqb row.key row.key refl)
 
     -- and values put there
-    pub seated_valued : (y z : ℕ) (v : List ℕ) → Valued u x r.rows k r.at y z v → Entered w x n k y z v r.rows
+    pub seated_valued : (y z : ℕ) (v : List ℕ) → Valued u (record { at = t.at; count = r.rows }) row.key r.at y z v → Entered w t (record { key = row.key; a = y; b = z }) v r.rows
     unfolding upd
     seated_valued y z v c = record {
       stored = record {
-        says = λ j. c.stored.says j ∙ split≡ k j (λ q. rw (eq-eqb k j q)) (λ q. rw (ne_eqb k j q) (s.says j ∙ rw (ne_eqb k j q)));
+        says = λ j. c.stored.says j ∙ split≡ row.key j (λ q. rw (eq-eqb row.key j q)) (λ q. rw (ne_eqb row.key j q) (s.says j ∙ rw (ne_eqb row.key j q)));
         sum = omega (arith, c.stored.sum, seated_sum);
         least = s.least;
         most = s.most;
-        front = front_then (4 * x.rows) v u w c.stored.front s.front;
+        front = front_then (4 * t.at.rows) v u w c.stored.front s.front;
         size = c.stored.size ∙ s.size;
       };
       indexed = c.indexed;
       between = λ j l h. other j l ∙ s.between j l h;
       beyond = λ j l. other j (omega (arith, p.stands.rows)) ∙ s.beyond j l;
     } where
-      other : (j : ℕ) → x.rows + 4 * (n + 1) ≤ j → word v j ≡ word u j
+      other : (j : ℕ) → t.at.rows + 4 * (t.count + 1) ≤ j → word v j ≡ word u j
       other j l = c.others j (λ q. omega (arith, s.few, s.most)) (λ q. omega (arith, s.few, s.most))
 
-    pub seat_first : (y : ℕ) (v : List ℕ) → v ≡ put_word u (x.rows + 4 * r.at + 2) y → Entered w x n k y (word u (x.rows + 4 * r.at + 3)) v r.rows
-    seat_first y v e = seated_valued y (word u (x.rows + 4 * r.at + 3)) v (valued_first u x r.rows k r.at seated_seek s.row y v e)
+    pub seat_first : (y : ℕ) (v : List ℕ) → v ≡ put_word u (t.at.rows + 4 * r.at + 2) y → Entered w t (record { key = row.key; a = y; b = word u (t.at.rows + 4 * r.at + 3) }) v r.rows
+    seat_first y v e = seated_valued y (word u (t.at.rows + 4 * r.at + 3)) v (valued_first u (record { at = t.at; count = r.rows }) row.key r.at seated_seek s.own y v e)
 
-    pub seat_both : (y z : ℕ) (t v : List ℕ) → t ≡ put_word u (x.rows + 4 * r.at + 2) y → v ≡ put_word t (x.rows + 4 * r.at + 3) z → Entered w x n k y z v r.rows
-    seat_both y z t v et ev = seated_valued y z v (valued_both u x r.rows k r.at seated_seek s.row y z t v et ev)
+    pub seat_both : (m v : List ℕ) → m ≡ put_word u (t.at.rows + 4 * r.at + 2) row.a → v ≡ put_word m (t.at.rows + 4 * r.at + 3) row.b → Entered w t row v r.rows
+    seat_both m v em ev = seated_valued row.a row.b v (valued_both u (record { at = t.at; count = r.rows }) row.key r.at seated_seek s.own row.a row.b m v em ev)

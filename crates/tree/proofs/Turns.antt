@@ -1,7 +1,9 @@
 -- A walk is no longer than a key has bits: after 64 turns it has met the key's own row or has ended.
 use mathlib.Core.Path.{◌≡◌, refl, sym}
 use mathlib.Core.List.{List}
+use mathlib.Core.Logic.{∥∥₁_elim}
 use Prim.Native.Nat.{ℕ, zero, suc, ◌+◌, ◌-◌, ◌*◌, ◌/◌, ◌%◌, ◌<◌, ◌≤◌}
+use native.Mathlib.Nat.{ℕ_set}
 use native.Mathlib.Omega.{arith}
 use Rattle.laws.proofs.Choice.{split≤}
 use Rattle.tree.specs.Paths.{rest_at}
@@ -66,13 +68,14 @@ module _ (w : List ℕ) (x : Tree) (n : ℕ) (s : Indexed w x n) (keys : (i : �
     (k : ℕ) (small : k < 9223372036854775808) where
   -- a row that 64 turns or more lead to has the key
   pub far_row : (d i : ℕ) → 64 ≤ d → i < n → path_to w x k d ≡ suc i → key_at w x i ≡ k
-  far_row d i far l h = sym (bits_same k (key_at w x i) small (keys i l) (λ e b. way.1.1 e (omega arith))) where
-    way : (d ≡ s.depth i) × ((root_in x k ≡ root_in x (key_at w x i)) × ((c : ℕ) → c < d → rest_at (mix_of k) c % 2 ≡ rest_at (mix_of (key_at w x i)) c % 2))
-    way = one_way w x.links (links_in x) n s.slots s.apart (omega arith) (root_in x k) (root_in x (key_at w x i)) (rest_at (mix_of k)) (rest_at (mix_of (key_at w x i)))
-        (omega arith) (root_low w x n k s) (omega arith) (root_low w x n (key_at w x i) s) d (s.depth i) i h (s.path i l)
+  far_row d i far l h = ∥∥₁_elim (s.path i l) (ℕ_set (key_at w x i) k) (λ m. sym (bits_same k (key_at w x i) small (keys i l) (λ e b. (way m.0 m.1).1.1 e (omega arith)))) where
+    way : (c : ℕ) → path_to w x (key_at w x i) c ≡ suc i →
+        (d ≡ c) × ((root_in x k ≡ root_in x (key_at w x i)) × ((e : ℕ) → e < d → rest_at (mix_of k) e % 2 ≡ rest_at (mix_of (key_at w x i)) e % 2))
+    way c g = one_way w x.links (links_in x) n s.slots s.apart (omega arith) (root_in x k) (root_in x (key_at w x i)) (rest_at (mix_of k)) (rest_at (mix_of (key_at w x i)))
+        (omega arith) (root_low w x n k s) (omega arith) (root_low w x n (key_at w x i) s) d c i h g
 
   -- the loop of place, wherever it has come to, is at most 64 turns from the root
-  pub few_turns : (at rest : ℕ) (q : Seeking w x n k at rest) → q.depth ≤ 64
+  pub few_turns : (at rest : ℕ) (q : Seeking w (record { at = x; count = n }) k at rest) → q.depth ≤ 64
   few_turns at rest q = split≤ q.depth 64 (λ h. h) (λ h. absurd (far h (path_to w x k (q.depth - 1)) refl)) where
     far : 64 < q.depth → (v : ℕ) → path_to w x k (q.depth - 1) ≡ v → ⊥
     far h zero e = omega (arith, e, q.met (q.depth - 1) (omega arith))

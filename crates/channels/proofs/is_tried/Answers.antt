@@ -1,8 +1,5 @@
-use Rattle.channels.proofs.Walk.{tries_seek, tries_unnamed, tries_named}
+use Rattle.channels.proofs.Walk.{tries_unnamed, tries_named}
 use Rattle.channels.proofs.is_tried.Goals as goal
-
-pub look-requires : goal.look-requires
-look-requires c = tries_seek _ _ _ 0 0 c.requires _ c.index_of-x.ensures
 
 pub returns-in_default : goal.returns-in_default
 returns-in_default c = search tries_unnamed

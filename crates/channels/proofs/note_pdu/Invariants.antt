@@ -3,7 +3,7 @@ use Rattle.channels.proofs.Walk.{NotingIn}
 use Rattle.channels.proofs.note_pdu.Given as goal
 
 abbrev pub invariant-loop-at : goal.invariant-loop-at
-invariant-loop-at l = NotingIn l.file l.initial.w l.row l.x l.rows l.w l.n l.at
+invariant-loop-at l = NotingIn l.file l.initial.w l.row l.initial.t l.w l.t l.at
 
 abbrev pub decreases-loop-at : goal.decreases-loop-at
 decreases-loop-at l = l.size - l.at

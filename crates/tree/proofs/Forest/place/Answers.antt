@@ -1,5 +1,5 @@
 use Rattle.tree.proofs.Index.{seeking_start, seeking_end, seeking_key, seeking_hit, seeking_less, seeking_turn}
-use Rattle.tree.proofs.place.Goals as goal
+use Rattle.tree.proofs.Forest.place.Goals as goal
 
 pub loop-x-init : goal.loop-x-init
 loop-x-init c = search seeking_start
