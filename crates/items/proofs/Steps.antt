@@ -22,21 +22,6 @@ use Rattle.items.proofs.Walks.{end_past, good_fits, some_is, some_end, none_not}
 use Rattle.items.specs.declared.Step.{Step}
 use Rattle.items.specs.declared.Step.TheVariants.{Whole, Passes, End}
 
--- ---- whether a kind and a body may stand in a list
-
-module _ (kind : ℕ) (body : List ℕ) where
-  pub span_short : length body < 8 → false ≡ span_test kind body
-  unfolding span_test
-  span_short h = rw (lt-leb 8 (length body) h)
-
-  pub span_rx : 8 ≤ length body → kind ≡ 1 → true ≡ span_test kind body
-  unfolding span_test
-  span_rx h e = rw (le-leb 8 (length body) h, eq-eqb kind 1 e)
-
-  pub span_tx : 8 ≤ length body → (kind ≡ 1 → ⊥) → eqb kind 2 ≡ span_test kind body
-  unfolding span_test
-  span_tx h e = rw (le-leb 8 (length body) h, ne_eqb kind 1 e)
-
 -- ---- the item at a place
 
 module _ (l : List ℕ) (at : ℕ) where

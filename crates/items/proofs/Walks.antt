@@ -16,7 +16,7 @@ use Rattle.items.specs.Items.{span, rx_of, Item, item_at, end_at, Test, is_item,
 use Rattle.items.specs.Reading.{read_from}
 use Rattle.items.proofs.Reading.{read_good, read_bad, read_end, le32_drop}
 use Rattle.items.specs.declared.SpanPart.{SpanPart}
-use Rattle.items.specs.Walks.{pass_at, check_of, held, items_from, spans_from, names_from, Walks, Turn, Good, SpanTo, SpanIs, SpanHere, NextIs, direction_of, NameIs}
+use Rattle.items.specs.Walks.{pass_at, check_of, held, items_from, spans_from, names_from, Walks, Turn, Good, SpanTo, SpanIs, SpanHere, NextIs, direction_of}
 
 pub good_fits : (ok : Test) (l : List ℕ) (at : ℕ) → is_item ok l at ≡ true → end_at l at ≤ length l
 unfolding is_item
@@ -95,19 +95,6 @@ module _ (ok : Test) (l : List ℕ) (at : ℕ) (h : at < length l) (g : is_item 
 
   pub ill_back : (n : ℕ) → read_from ok l (end_at l at) ≡ ill_formed n → read_from ok l at ≡ ill_formed n
   ill_back n e = read_good ok l at h g ∙ rw e
-
-few_by : (ok : Test) (l : List ℕ) (k at : ℕ) → Walks ok l at → length l ≤ at + k → at + 6 * length (items_from ok l at) ≤ length l
-few_by ok l zero at w h = rw (walks_end ok l at w (omega arith)) (omega (arith, w.within))
-few_by ok l (suc k) at w h =
-    split≤ (length l) at
-    (λ g. rw (walks_end ok l at w g) (omega (arith, w.within)))
-    (λ g.
-    let t = walks_turn ok l at w g in
-    rw t.head (omega (arith, t.past, few_by ok l k (end_at l at) t.next (omega (arith, t.past)))))
-
--- an item takes at least 6 bytes
-pub items_few : (ok : Test) (l : List ℕ) (at : ℕ) → Walks ok l at → at + 6 * length (items_from ok l at) ≤ length l
-items_few ok l at w = few_by ok l (length l) at w (omega arith)
 
 well_held : {A : Type 0} (r : Listed A) (n : ℕ) → check_of r ≡ Ok n → r ≡ well_formed (held r)
 unfolding check_of
@@ -225,6 +212,9 @@ module _ (l : List ℕ) (at : ℕ) where
   body_least : end_at l at ≤ length l → span_test (item_at l at).kind (item_at l at).body ≡ true → at + 14 ≤ end_at l at
   body_least f p = omega (arith, body_long f, test_long (item_at l at).body (item_at l at).kind p, end_is l at)
 
+  wire_ends : (end : ℕ) → at + 14 ≤ end → end ≤ length l → end ≡ at + 14 + length (take (end - (at + 14)) (drop (at + 14) l))
+  wire_ends end f g = omega (arith, length-take-le (end - (at + 14)) (drop (at + 14) l) (omega (arith, length-drop (at + 14) l)))
+
   module _ (w : Walks span_test l at) (h : at < length l) where
     span_long : at + 14 ≤ end_at l at
     span_long = let t = walks_turn span_test l at w h in body_least t.next.within t.passes
@@ -240,19 +230,20 @@ module _ (l : List ℕ) (at : ℕ) where
         let n : 8 ≤ le32 l at = omega (arith, span_long, end_is l at) in
         rw (body_time n, body_wire, ← test_rx (item_at l at).body (item_at l at).kind t.passes, kind_is l at)
 
-    pub span_room : at + 14 ≤ length l
-    span_room = omega (arith, span_long, (walks_turn span_test l at w h).next.within)
+    pub span_next : (size : ℕ) → size ≡ le32 l at → Walks span_test l (at + 6 + size)
+    unfolding end_at
+    span_next size e = rw e (walks_turn span_test l at w h).next
+
+    pub span_fits : (end : ℕ) → end ≡ at + 6 + le32 l at → (at + 14 ≤ end) × (end ≤ length l)
+    span_fits end e = let n = end_is l at in (omega (arith, span_long), omega (arith, (walks_turn span_test l at w h).next.within))
 
     -- from what is read there
     pub span_is : (end : ℕ) (s : SpanPart) → end ≡ end_at l at → SpanTo l at end s → SpanIs l at s
     span_is end s e t =
-        let q : s.end ≡ end_at l at = t.end ∙ e in
-        record {
-          head = rw (q, t.start, t.direction, t.ms) (span_head ∙ rw span_of_law);
-          start = t.start;
-          end = q;
-          long = rw t.start (omega (arith, span_long));
-          next = rw q (walks_turn span_test l at w h).next;
+        let f = span_fits end (e ∙ end_is l at) in record {
+          head = rw (t.end, t.wire, t.direction, t.ms, e) (span_head ∙ rw span_of_law);
+          wire = rw (t.end, t.wire) (wire_ends end f.0 f.1);
+          next = rw (t.end, e) (walks_turn span_test l at w h).next;
         }
 
   -- where the place after it was asked for
@@ -267,22 +258,23 @@ module _ (l : List ℕ) (at : ℕ) where
       here_end : end ≡ end_at l at
       here_end = some_end span_test l at end (sym a ∙ n)
 
-      pub here_room : at + 14 ≤ length l
-      here_room =
+      pub here_long : at + 14 ≤ end
+      here_long =
           let f = good_fits span_test l at here_item in
-          omega (arith, body_least f (good_passes span_test l at here_item))
+          omega (arith, here_end, body_least f (good_passes span_test l at here_item))
+
+      pub here_within : end ≤ length l
+      here_within = omega (arith, here_end, good_fits span_test l at here_item)
 
       pub here_span : (s : SpanPart) → SpanTo l at end s → NextIs l at (Some s)
       here_span s t =
-          let f = good_fits span_test l at here_item in
-          let e = here_end in
-          let q : s.end ≡ end_at l at = t.end ∙ e in
+          let q : s.end ≡ end_at l at = t.end ∙ here_end in
           let b : Walks span_test l s.end → Walks span_test l at = λ w. walks_back span_test l at h here_item (rw q at w) in record {
             stands = record {
-              start = t.start;
-              long = rw t.start (omega (arith, body_least f (good_passes span_test l at here_item)));
-              within = omega arith;
-              is = λ w. span_is (b w) h end s e t;
+              wire = rw t.end t.wire;
+              end = rw (t.end, t.wire) (wire_ends end here_long here_within);
+              within = rw t.end here_within;
+              is = λ w. span_is (b w) h end s here_end t;
               well = b;
               ill = λ m x. ill_back span_test l at h here_item m (rw q at x);
             };
@@ -302,27 +294,14 @@ pub names_end : (l : List ℕ) (at : ℕ) → Walks name_test l at → length l 
 unfolding names_from
 names_end l at w h = rw (walks_end name_test l at w h)
 
-body_name : (l : List ℕ) (at : ℕ) → (item_at l at).body ≡ take (end_at l at - (at + 6)) (drop (at + 6) l)
-unfolding item_at end_at
-body_name l at = let n : at + 6 + le32 l at - (at + 6) ≡ le32 l at = omega arith in rw n
-
 module _ (l : List ℕ) (at : ℕ) (w : Walks name_test l at) (h : at < length l) where
-  name_head : names_from l at ≡ (item_at l at).body ∷ names_from l (end_at l at)
-  unfolding names_from
-  name_head = rw (walks_turn name_test l at w h).head
+  pub name_next : (size : ℕ) → size ≡ le32 l at → Walks name_test l (at + 6 + size)
+  unfolding end_at
+  name_next size e = rw e (walks_turn name_test l at w h).next
+
+  pub name_first : names_from l at ≡ take (le32 l at) (drop (at + 6) l) ∷ names_from l (at + 6 + le32 l at)
+  unfolding names_from item_at end_at
+  name_first = rw (walks_turn name_test l at w h).head
 
   pub name_room : at + 6 ≤ length l
-  name_room = let t = walks_turn name_test l at w h in omega (arith, t.past, t.next.within)
-
-  -- from what is read there
-  pub name_is : (size : ℕ) → size ≡ le32 l at → NameIs l at (record { start = at + 6; end = at + 6 + size })
-  name_is size r =
-      let t = walks_turn name_test l at w h in
-      let e : at + 6 + size ≡ end_at l at = rw r (sym (end_is l at)) in
-      record {
-        head = rw e (name_head ∙ rw (body_name l at));
-        start = refl;
-        end = e;
-        long = omega (arith, t.past);
-        next = rw e t.next;
-      }
+  name_room = omega (arith, (name_next (le32 l at) refl).within)

@@ -1,3 +1,4 @@
 pub mod Items
 pub mod Reading
 pub mod Walks
+pub mod Checked

@@ -10,7 +10,6 @@ use Rattle.items.specs.declared.Listing.TheVariants.{Spans, Names}
 use Rattle.items.specs.declared.Step.{Step}
 use Rattle.items.specs.declared.Step.TheVariants.{Whole, Passes, End}
 use Rattle.items.specs.declared.SpanPart.{SpanPart}
-use Rattle.items.specs.declared.NamePart.{NamePart}
 
 -- the kinds and bodies of a list
 abbrev pub test_of : Listing → Test
@@ -73,21 +72,19 @@ direction_of kind = cond (eqb kind 1) Rx Tx
 pub record SpanTo (l : List ℕ) (at to : ℕ) (s : SpanPart) : Type 0 where
   pub direction : s.direction ≡ direction_of (le16 l (at + 4))
   pub ms : s.ms ≡ le64 l (at + 6)
-  pub start : s.start ≡ at + 14
+  pub wire : s.wire.now ≡ take (to - (at + 14)) (drop (at + 14) l)
   pub end : s.end ≡ to
 
 -- the span at a place of a list that is well-formed from there on
 pub record SpanIs (l : List ℕ) (at : ℕ) (s : SpanPart) : Type 0 where
-  pub head : spans_from l at ≡ span (rx_of s.direction) s.ms (take (s.end - s.start) (drop s.start l)) ∷ spans_from l s.end
-  pub start : s.start ≡ at + 14
-  pub end : s.end ≡ end_at l at
-  pub long : s.start ≤ s.end
+  pub head : spans_from l at ≡ span (rx_of s.direction) s.ms s.wire.now ∷ spans_from l s.end
+  pub wire : s.end ≡ at + 14 + length s.wire.now
   pub next : Walks span_test l s.end
 
 -- the span at a place of a list of which it is not known whether it is well-formed after it
 pub record SpanHere (l : List ℕ) (at : ℕ) (s : SpanPart) : Type 0 where
-  pub start : s.start ≡ at + 14
-  pub long : s.start ≤ s.end
+  pub wire : s.wire.now ≡ take (s.end - (at + 14)) (drop (at + 14) l)
+  pub end : s.end ≡ at + 14 + length s.wire.now
   pub within : s.end ≤ length l
   pub is : Walks span_test l s.end → SpanIs l at s
   pub well : Walks span_test l s.end → Walks span_test l at
@@ -99,11 +96,3 @@ next_is l at None = read_from span_test l at ≡ ill_formed at
 
 pub record NextIs (l : List ℕ) (at : ℕ) (r : Option SpanPart) : Type 0 where
   pub stands : next_is l at r
-
--- the name at a place of a list that is well-formed from there on
-pub record NameIs (l : List ℕ) (at : ℕ) (n : NamePart) : Type 0 where
-  pub head : names_from l at ≡ take (n.end - n.start) (drop n.start l) ∷ names_from l n.end
-  pub start : n.start ≡ at + 6
-  pub end : n.end ≡ end_at l at
-  pub long : n.start ≤ n.end
-  pub next : Walks name_test l n.end

@@ -3,10 +3,13 @@
 
 ghost use Rattle.std.specs.Prelude.{◌≡◌, ◌+◌, ◌-◌, ◌%◌, ◌<◌, ◌≤◌, length};
 ghost use Rattle.laws.specs.Stores.{Writes};
-ghost use Rattle.items.specs.Items.{item, item_head, span_item, span, rx_of, span_test, name_test, read_items};
+ghost use Rattle.items.specs.Items.{item, item_head, span_item, span, rx_of, read_items};
 ghost use Rattle.items.specs.Reading.{read_from};
-ghost use Rattle.items.specs.Walks.{test_of, step_at, pass_at, check_of, direction_of, Walks, SpanTo, SpanIs, NextIs, NameIs};
+ghost use Rattle.items.specs.Walks.{test_of, step_at, pass_at, check_of, direction_of, SpanTo, NextIs};
 
+mod lists;
+
+pub use lists::{Names, Spans};
 use words::{get_le16, get_le32, get_le64};
 
 // Which way a span went: from the headset (Rx) or to it (Tx).
@@ -18,6 +21,7 @@ pub enum Direction {
 
 impl Direction {
     // The direction in the low bit of a row's side, 2 * link + direction.
+    // Stays: not `From<u32>`, since the number is a side, and its link has nothing to do with the direction.
     #[tactic(auto, unfolding(crate::specs::Items::rx_of))]
     pub fn in_side(side: u32) -> Direction
         ensures { rx_of result ≡ side % 2 }
@@ -30,6 +34,7 @@ impl Direction {
     }
 
     // The direction that a span's kind says.
+    // Stays: not `From<u16>`, since a kind may be another; and `TryFrom` would have an error that no caller can meet.
     #[tactic(auto, unfolding(crate::specs::Walks::direction_of))]
     fn of_kind(kind: u16) -> Direction
         ensures { result ≡ direction_of kind }
@@ -54,6 +59,8 @@ impl Direction {
 }
 
 // Which list it is: it says the kinds and bodies that the list may have.
+// Stays: an enum beside the types of checked lists. A trait of these with one type for both would give `pass` and `check` a type in
+// the place of a value, and `allowed` would be two functions of a line each.
 #[derive(Clone, Copy)]
 pub enum Listing {
     Spans,
@@ -69,19 +76,12 @@ pub enum Step {
     End,
 }
 
-// A span in a list: its wire bytes stand from start to end, and the next item at end.
+// A span in a list, and the place after it.
 #[derive(Clone, Copy)]
-pub struct SpanPart {
+pub struct SpanPart<'a> {
     pub direction: Direction,
     pub ms: u64,
-    pub start: usize,
-    pub end: usize,
-}
-
-// A name in a list that was checked: it stands from start to end, and the next item at end.
-#[derive(Clone, Copy)]
-pub struct NamePart {
-    pub start: usize,
+    pub wire: &'a [u8],
     pub end: usize,
 }
 
@@ -156,49 +156,26 @@ pub fn check(list: &[u8], which: Listing) -> Result<usize, usize>
 }
 
 // The span of which the item stands at a place and ends at another.
-fn span_to(list: &[u8], at: usize, end: usize) -> SpanPart
-    requires { at + 14 ≤ length list.now }
+pub(crate) fn span_to(list: &[u8], at: usize, end: usize) -> SpanPart<'_>
+    requires long { at + 14 ≤ end }
+    requires end_in_bounds { end ≤ length list.now }
     ensures { SpanTo list.now at end result }
 {
     SpanPart {
         direction: Direction::of_kind(get_le16(list, at + 4)),
         ms: get_le64(list, at + 6),
-        start: at + 14,
+        wire: &list[at + 14..end],
         end,
     }
 }
 
-// The span at a place of a checked list.
-pub fn span_at(list: &[u8], at: usize) -> SpanPart
-    requires walks { Walks span_test list.now at }
-    requires at_in_bounds { at < length list.now }
-    ensures { SpanIs list.now at result }
-{
-    let size = get_le32(list, at) as usize;
-    span_to(list, at, at + 6 + size)
-}
-
 // The span at a place of a list that is not checked: none where the list is ill-formed there.
-pub fn next_span(list: &[u8], at: usize) -> Option<SpanPart>
+pub fn next_span(list: &[u8], at: usize) -> Option<SpanPart<'_>>
     requires { at < length list.now }
     ensures { NextIs list.now at result }
 {
     let end = pass(list, Listing::Spans, at)?;
     Some(span_to(list, at, end))
-}
-
-// The name at a place of a checked list.
-pub fn name_at(list: &[u8], at: usize) -> NamePart
-    requires walks { Walks name_test list.now at }
-    requires at_in_bounds { at < length list.now }
-    ensures { NameIs list.now at result }
-{
-    let start = at + 6;
-    let size = get_le32(list, at) as usize;
-    NamePart {
-        start,
-        end: start + size,
-    }
 }
 
 // ---- writing: each returns the place after what it wrote

@@ -11,14 +11,16 @@ use Rattle.laws.proofs.Lists.{flat_append}
 use Rattle.laws.specs.Numbers.{le32}
 use Rattle.laws.specs.Stores.{Writes}
 use Rattle.laws.proofs.Stores.{writes_long}
+use Rattle.std.specs.Borrow.{Bor}
 use Rattle.words.specs.Words.{word, put_word}
 use Rattle.words.proofs.Words.{length_put}
 use Rattle.words.proofs.Front.{front_sets, front_word}
 use Rattle.items.specs.Items.{item, Item, end_at, name_item, name_list, name_test}
 use Rattle.items.proofs.Writing.{length_item, length_name}
-use Rattle.items.specs.Walks.{items_from, names_from, Walks, Good, NameIs}
-use Rattle.items.proofs.Walks.{items_few, names_end, name_is}
-use Rattle.items.specs.declared.NamePart.{NamePart}
+use Rattle.items.specs.Walks.{names_from, Walks}
+use Rattle.items.proofs.Walks.{names_end, name_first, name_next}
+use Rattle.items.specs.Checked.{names_left, GaveName}
+use Rattle.items.specs.declared.lists.Names.{Names}
 use Rattle.sorting.specs.Names.{le_name}
 use Rattle.sorting.specs.Sort.{insert, isort}
 use Rattle.sorting.specs.Steps.{name_at, le_at, words, Sorts}
@@ -39,59 +41,50 @@ names_put l i w v h =
     let e : words (put_word w i v) 0 (i + 1) ≡ words w 0 i ++ (v ∷ []) = rw zero-add at (words_more w 0 i v (rw zero-add h)) in
     rw e (map_append (name_at l) (words w 0 i) (v ∷ []))
 
-count_is : (l : List ℕ) (n : ℕ) → Good name_test l n → n ≡ length (names_from l 0)
-unfolding names_from
-count_is l n g = g.count ∙ sym (length-map (items_from name_test l 0) (λ (x : Item). x.body))
+-- the name that was given stands at the place that is left
+name_here : (left m : Names) (x : Bor (List ℕ)) → GaveName left x m → x.now ≡ name_at left.list.now left.at
+unfolding name_at
+name_here left m x g =
+    let h : left.at < length left.list.now = omega (arith, g.next, m.walks.within, ap (λ (b : Bor (List ℕ)). length b.now) g.list) in
+    let e = sym g.head ∙ name_first left.list.now left.at left.walks h in
+    cc
 
-pub lent_room : (l : List ℕ) (n : ℕ) (w : List ℕ) → Lent l n w → 6 * n ≤ length w
-lent_room l n w t = omega (arith, t.long, t.good.count, items_few name_test l 0 t.good.walks)
-
--- i names are placed, and the next stands at a place
-pub record Placing (l : List ℕ) (n : ℕ) (w₀ w : List ℕ) (i at : ℕ) : Type 0 where
-  pub walks : Walks name_test l at
-  pub count : i + length (names_from l at) ≡ n
-  pub same : names_at l i w ++ names_from l at ≡ names_from l 0
+-- n names are placed, and those that are left begin at a place
+pub record Placing (all left : Names) (n : ℕ) (w₀ w : List ℕ) (at : ℕ) : Type 0 where
+  pub here : at ≡ left.at
+  pub list : left.list ≡ all.list
+  pub same : names_at all.list.now n w ++ names_left left ≡ names_left all
   pub long : length w ≡ length w₀
-  pub room : 6 * n ≤ length w₀
-  pub small : length l ≤ 16777216
+  pub few : 6 * n ≤ at
 
-pub placing_start : (l : List ℕ) (n : ℕ) (w : List ℕ) → Lent l n w → Placing l n w w 0 0
+pub placing_start : (ns : Names) (w : List ℕ) → Lent ns w → Placing ns ns 0 w w ns.at
 unfolding names_at
-placing_start l n w t = record {
-  walks = t.good.walks;
-  count = omega (arith, count_is l n t.good);
-  same = refl;
-  long = refl;
-  room = lent_room l n w t;
-  small = t.good.small;
-}
+placing_start ns w t = record { here = refl; list = refl; same = refl; long = refl; few = omega arith }
 
-module _ (l : List ℕ) (n : ℕ) (w₀ w : List ℕ) (i at : ℕ) (c : Placing l n w₀ w i at) where
-  module _ (x : NamePart) (p : NameIs l at x) where
-    pub placing_room : i < n
-    placing_room = omega (arith, c.count, ap length p.head)
+module _ (all left : Names) (n : ℕ) (w₀ w : List ℕ) (at : ℕ) (c : Placing all left n w₀ w at) (t : Lent all w₀) where
+  module _ (x : Bor (List ℕ)) (m : Names) (g : GaveName left x m) where
+    pub placing_next : at + 6 + length x.now ≤ length w
+    placing_next = omega (arith, c.here, g.next, m.walks.within, ap (λ (b : Bor (List ℕ)). length b.now) (g.list ∙ c.list), t.long, c.long)
 
-    name_first : names_from l at ≡ name_at l at ∷ names_from l x.end
-    unfolding name_at end_at
-    name_first = let e : x.end - x.start ≡ le32 l at = omega (arith, p.start, p.end) in p.head ∙ rw (e, p.start)
+    pub placing_turn : (w' : List ℕ) → w' ≡ put_word w n at → Placing all m (n + 1) w₀ w' (at + (6 + length x.now))
+    placing_turn w' q =
+        let room : 4 * n + 4 ≤ length w = omega (arith, c.few, placing_next) in
+        let e : name_at all.list.now at ≡ x.now = rw (c.here, ← c.list) (sym (name_here left m x g)) in
+        record {
+          here = omega (arith, c.here, g.next);
+          list = g.list ∙ c.list;
+          same =
+              rw (q, names_put all.list.now n w at room, e)
+              (append_assoc (names_at all.list.now n w) (x.now ∷ []) (names_left m) ∙ (rw g.head at c.same));
+          long = rw (q, length_put w n at) c.long;
+          few = omega (arith, c.few);
+        }
 
-    pub placing_turn : (w' : List ℕ) → w' ≡ put_word w i at → Placing l n w₀ w' (i + 1) x.end
-    placing_turn w' q = record {
-      walks = p.next;
-      count = omega (arith, c.count, ap length p.head);
-      same =
-          rw (q, names_put l i w at (omega (arith, c.room, c.long, placing_room)))
-          (append_assoc (names_at l i w) (name_at l at ∷ []) (names_from l x.end) ∙ (rw name_first at c.same));
-      long = rw (q, length_put w i at) c.long;
-      room = c.room;
-      small = c.small;
-    }
-
-  pub placing_end : length l ≤ at → Placed l n w
-  placing_end h =
-      let e = names_end l at c.walks h in
-      let z : i ≡ n = omega (arith, c.count, ap length e) in
-      record { places = sym (append-nil (names_at l n w)) ∙ (rw (e, z) at c.same) }
+  pub placing_end : names_left left ≡ [] → Placed all n w
+  placing_end e = record {
+    places = sym (append-nil (names_at all.list.now n w)) ∙ (rw e at c.same);
+    few = omega (arith, c.few, c.here, left.walks.within, ap (λ (b : Bor (List ℕ)). length b.now) c.list, t.long, c.long);
+  }
 
 -- ---- writing
 
@@ -209,28 +202,31 @@ size_by_law l (suc k) at w h =
     split≤ (length l) at
     (λ g. omega (arith, w.within, size_none (names_from l at) (names_end l at w g)))
     (λ g.
-    let p = name_is l at w g (le32 l at) refl in
-    let x : List ℕ = take (at + 6 + le32 l at - (at + 6)) (drop (at + 6) l) in
-    let e : at + 6 + le32 l at - (at + 6) ≡ le32 l at = omega arith in
-    let b : length (take (le32 l at) (drop (at + 6) l)) ≡ le32 l at = length-take-le (le32 l at) (drop (at + 6) l) (omega (arith, length-drop (at + 6) l, p.next.within)) in
-    let q = size_by_law l k (at + 6 + le32 l at) p.next (omega arith) in
-    rw (p.head, e) (omega (arith, size_more (take (le32 l at) (drop (at + 6) l)) (names_from l (at + 6 + le32 l at)), length_name (take (le32 l at) (drop (at + 6) l)))))
+    let z = name_next l at w g (le32 l at) refl in
+    let b : length (take (le32 l at) (drop (at + 6) l)) ≡ le32 l at = length-take-le (le32 l at) (drop (at + 6) l) (omega (arith, length-drop (at + 6) l, z.within)) in
+    let q = size_by_law l k (at + 6 + le32 l at) z (omega arith) in
+    rw (name_first l at w g) (omega (arith, size_more (take (le32 l at) (drop (at + 6) l)) (names_from l (at + 6 + le32 l at)), length_name (take (le32 l at) (drop (at + 6) l)))))
+
+-- what is left of a list is as long as its names
+pub left_long : (ns : Names) → ns.at + length (name_list (names_left ns)) ≡ length ns.list.now
+unfolding size
+left_long ns = size_by_law ns.list.now (length ns.list.now) ns.at ns.walks (omega arith)
 
 -- the list that is written, and its length
-abbrev pub listed : List ℕ → List ℕ
-listed l = name_list (isort le_name (names_from l 0))
+abbrev pub listed : Names → List ℕ
+listed ns = name_list (isort le_name (names_left ns))
 
-pub listed_long : (l : List ℕ) (n : ℕ) → Good name_test l n → length (listed l) ≡ length l
+pub listed_long : (ns : Names) → ns.at ≡ 0 → length (listed ns) ≡ length ns.list.now
 unfolding size
-listed_long l n g = size_isort (names_from l 0) ∙ sym (zero-add (size (names_from l 0))) ∙ size_by_law l (length l) 0 g.walks (omega arith)
+listed_long ns h = omega (arith, size_isort (names_left ns), left_long ns)
 
-module _ (l : List ℕ) (n : ℕ) (w₀ w u : List ℕ) (t : Lent l n w₀) (p : Placed l n w) (s : Sorts l 0 n n w u) where
-  in_order_law : names_at l n u ≡ isort le_name (names_from l 0)
+module _ (ns : Names) (n : ℕ) (w₀ w u : List ℕ) (t : Lent ns w₀) (p : Placed ns n w) (s : Sorts ns.list.now 0 n n w u) where
+  in_order_law : names_at ns.list.now n u ≡ isort le_name (names_left ns)
   unfolding names_at le_at
-  in_order_law = ap (map (name_at l)) s.sorted ∙ map_isort le_name (name_at l) (words w 0 n) ∙ ap (isort le_name) p.places
+  in_order_law = ap (map (name_at ns.list.now)) s.sorted ∙ map_isort le_name (name_at ns.list.now) (words w 0 n) ∙ ap (isort le_name) p.places
 
-  pub arranged_fills : length u ≡ length w₀ → Fills l n u
-  arranged_fills e = record { fills = ap (λ (ns : List (List ℕ)). length (name_list ns)) in_order_law ∙ listed_long l n t.good ∙ sym t.long ∙ sym e }
+  pub arranged_fills : length u ≡ length w₀ → Fills ns.list.now n u
+  arranged_fills e = record { fills = ap (λ (xs : List (List ℕ)). length (name_list xs)) in_order_law ∙ listed_long ns t.start ∙ sym t.long ∙ sym e }
 
-  pub arranged : (o : List ℕ) → o ≡ name_list (names_at l n u) → o ≡ listed l
+  pub arranged : (o : List ℕ) → o ≡ name_list (names_at ns.list.now n u) → o ≡ listed ns
   arranged o e = e ∙ ap name_list in_order_law

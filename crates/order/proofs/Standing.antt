@@ -11,7 +11,7 @@ use Rattle.laws.proofs.Lists.{drop_step, drop_end}
 use Rattle.laws.specs.Numbers.{le, le16, le32}
 use Rattle.items.specs.Items.{item, item_at, name_item, name_list, name_test}
 use Rattle.items.specs.Walks.{names_from, Walks}
-use Rattle.items.proofs.Walks.{walks_turn, names_end, name_is}
+use Rattle.items.proofs.Walks.{walks_turn, names_end, name_first, name_next}
 
 three : (a b : ℕ) → a < 256 → b < 256 → a + 256 * b ≡ 3 → (a ≡ 3) × (b ≡ 0)
 three a b p q e = (omega arith, omega arith)
@@ -63,10 +63,9 @@ module _ (l : List ℕ) (bytes : (k : ℕ) → get_or l k 0 < 256) where
       split≤ (length l) at
       (λ g. rw (names_end l at w g, drop_end l at g))
       (λ g.
-      let p = name_is l at w g (le32 l at) refl in
-      let e : at + 6 + le32 l at - (at + 6) ≡ le32 l at = omega arith in
-      let q = whole_by k (at + 6 + le32 l at) p.next (omega arith) in
-      rw (p.head, e, q) (item_back at p.next.within (kind_is at w g)))
+      let z = name_next l at w g (le32 l at) refl in
+      let q = whole_by k (at + 6 + le32 l at) z (omega arith) in
+      rw (name_first l at w g, q) (item_back at z.within (kind_is at w g)))
 
   pub names_whole : Walks name_test l 0 → name_list (names_from l 0) ≡ l
   names_whole w = whole_by (length l) 0 w (omega arith)

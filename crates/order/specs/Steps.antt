@@ -1,9 +1,13 @@
 -- What the functions inside promise to each other.
-use Rattle.std.specs.Prelude.{Result, Ok, Err, ◌≡◌, Bool, true, false, List, ◌∷◌, map, ℕ, ◌≤◌, length}
-use Rattle.items.specs.Items.{name_test, name_list, ill_formed, read_items}
+use Rattle.std.specs.Prelude.{Result, Ok, Err, ◌≡◌, Bool, true, false, List, ◌∷◌, map, ℕ, ◌*◌, ◌≤◌, length}
+use Rattle.std.specs.Borrow.{Bor}
+use Rattle.items.specs.Items.{name_test, name_list, ill_formed, names_in}
 use Rattle.items.specs.Walks.{items_from, names_from, Walks, Good}
+use Rattle.items.specs.Checked.{names_left, CheckedWell}
+use Rattle.items.specs.declared.lists.Names.{Names}
 use Rattle.sorting.specs.Names.{le_name}
-use Rattle.sorting.specs.Chains.{Chain}
+use Rattle.sorting.specs.Chains.{Chain, back}
+use Rattle.sorting.specs.Sort.{isort}
 use Rattle.sorting.specs.Steps.{name_at, HeadOf, words}
 use Rattle.sorting.specs.declared.Head.{Head}
 use Rattle.order.specs.declared.Way.{Way}
@@ -11,29 +15,25 @@ use Rattle.order.specs.declared.Way.TheVariants.{Up, Down, Mixed}
 use Rattle.order.specs.declared.OrderError.{OrderError}
 use Rattle.order.specs.declared.OrderError.TheVariants.{IllFormed, OutShort}
 
--- a list of n names that was checked, and an output of its length
-pub record Lent (l : List ℕ) (n : ℕ) (w : List ℕ) : Type 0 where
-  pub good : Good name_test l n
-  pub long : length w ≡ length l
+-- all of a list that was checked, and an output of its length
+pub record Lent (ns : Names) (w : List ℕ) : Type 0 where
+  pub start : ns.at ≡ 0
+  pub long : length w ≡ length ns.list.now
 
 -- the names at the places in the first n words
 unfoldable pub names_at : List ℕ → ℕ → List ℕ → List (List ℕ)
 names_at l n w = map (name_at l) (words w 0 n)
 
--- the places of all names of a list stand in the first n words
-pub record Placed (l : List ℕ) (n : ℕ) (w : List ℕ) : Type 0 where
-  pub places : names_at l n w ≡ names_from l 0
+-- the places of all names of a list stand in the first n words, and take less room than the names
+pub record Placed (ns : Names) (n : ℕ) (w : List ℕ) : Type 0 where
+  pub places : names_at ns.list.now n w ≡ names_left ns
+  pub few : 6 * n ≤ length w
 
 -- the names at the places in the first n words fill the output
 pub record Fills (l : List ℕ) (n : ℕ) (w : List ℕ) : Type 0 where
   pub fills : length (name_list (names_at l n w)) ≡ length w
 
 -- ---- lists that run one way
-
--- a list that was checked, and an output of its length
-pub record Backed (l w : List ℕ) : Type 0 where
-  pub walks : Walks name_test l 0
-  pub long : length w ≡ length l
 
 -- a name, and a place behind it
 pub record RunPre (l : List ℕ) (start : ℕ) (a : Head) : Type 0 where
@@ -57,20 +57,29 @@ pub record Run (l : List ℕ) (up : Bool) : Type 0 where
 pub record Runs (l : List ℕ) (up r : Bool) : Type 0 where
   pub told : r ≡ true → Run l up
 
-unfoldable pub WayOf : List ℕ → Way → Type 0
-WayOf l Up = Run l true
-WayOf l Down = Run l false
-WayOf l (Mixed n) = Good name_test l n
+-- a list that was checked, without how its names stand
+abbrev pub names_of : Way → Names
+names_of (Up ns) = ns
+names_of (Down ns) = ns
+names_of (Mixed ns) = ns
 
-unfoldable pub ReadAs : List ℕ → Result Way OrderError → Type 0
-ReadAs l (Ok way) = WayOf l way
-ReadAs l (Err (IllFormed at)) = read_items name_test l ≡ ill_formed at
-ReadAs l (Err (OutShort n)) = ⊥
+-- the list in order is the list itself, or its names from the last to the first
+abbrev pub Stands : Way → Type 0
+Stands (Up ns) = name_list (isort le_name (names_left ns)) ≡ ns.list.now
+Stands (Down ns) = isort le_name (names_left ns) ≡ back (names_left ns)
+Stands (Mixed ns) = Unit {0}
 
-pub record ReadIs (l : List ℕ) (r : Result Way OrderError) : Type 0 where
-  pub is : ReadAs l r
+-- all of a list, and how its names stand
+pub record ReadWell (l : Bor (List ℕ)) (way : Way) : Type 0 where
+  pub whole : CheckedWell l (names_of way)
+  pub stands : Stands way
 
--- how the names stand, and an output of the list's length
-pub record WayPre (l : List ℕ) (way : Way) (w : List ℕ) : Type 0 where
-  pub is : WayOf l way
-  pub long : length w ≡ length l
+abbrev pub ReadIs : Bor (List ℕ) → Result Way OrderError → Type 0
+ReadIs l (Ok way) = ReadWell l way
+ReadIs l (Err (IllFormed at)) = names_in l.now ≡ ill_formed at
+ReadIs l (Err (OutShort n)) = ⊥
+
+-- how the names of a list stand, and an output of the list's length
+pub record WayPre (way : Way) (w : List ℕ) : Type 0 where
+  pub lent : Lent (names_of way) w
+  pub stands : Stands way

@@ -3,15 +3,15 @@
 
 ghost use Rattle.std.specs.Prelude.{◌≡◌, ◌<◌, length};
 ghost use Rattle.items.specs.Items.{name_list};
-ghost use Rattle.items.specs.Walks.{names_from};
+ghost use Rattle.items.specs.Checked.{names_left};
 ghost use Rattle.laws.specs.Answers.{Meets};
 ghost use Rattle.sorting.specs.Names.{le_name};
 ghost use Rattle.sorting.specs.Sort.{isort};
 ghost use Rattle.sorting.specs.Chains.{back};
 ghost use Rattle.order.specs.Order.{capture_order, told_ordered};
-ghost use Rattle.order.specs.Steps.{Lent, names_at, Placed, Fills, Backed, RunPre, RunsOn, Runs, ReadIs, WayPre};
+ghost use Rattle.order.specs.Steps.{Lent, names_at, Placed, Fills, RunPre, RunsOn, Runs, names_of, ReadIs, WayPre};
 
-use items::{Listing, check, name_at, pass, put_item};
+use items::{Listing, Names, pass, put_item};
 use sorting::{Head, head_of, is_first, name_of, sort};
 use words::{copy_to, get32, put32};
 
@@ -24,23 +24,25 @@ pub enum OrderError {
 
 // ---- the list written
 
-// Puts the places of the names of a list into the first words.
-fn place_names(names: &[u8], out: &mut [u8], n: usize)
-    requires { Lent names.now n out.old }
-    ensures { Placed names.now n out.new }
+// Puts the places of the names of a list into the first words, and returns how many they are.
+fn place_names(names: Names, out: &mut [u8]) -> usize
+    requires { Lent names out.old }
+    ensures { Placed names.entry result out.new }
 {
-    let mut at = 0;
-    let mut i = 0;
-    while at < names.len() {
-        let name = name_at(names, at);
-        put32(out, i, at as u32);
-        at = name.end;
-        i += 1;
+    let mut at = names.at;
+    let mut n = 0;
+    for name in names {
+        put32(out, n, at as u32);
+        at += 6 + name.len();
+        n += 1;
     }
+    n
 }
 
 // Writes the names at the places in the first n words as items, the last first. They fill the output, and an item is longer
 // than a word, so that no place is written over before it is read.
+// Stays: the list, the output, and how many places stand in it. A struct of the three would hold a `&mut` that `sort` needs as well, with these
+// three apart, so that `arrange` would take it to pieces again.
 fn write_names(names: &[u8], out: &mut [u8], n: usize)
     requires { Fills names.now n out.old }
     ensures { out.new ≡ name_list (names_at names.now n out.old) }
@@ -54,31 +56,26 @@ fn write_names(names: &[u8], out: &mut [u8], n: usize)
     }
 }
 
-// The names of a checked list of n names, in order, in an output of its length. Half as many words again are free behind the
-// places, since an item takes 6 bytes or more.
-fn arrange(names: &[u8], out: &mut [u8], n: usize)
-    requires { Lent names.now n out.old }
-    ensures { out.new ≡ name_list (isort le_name (names_from names.now 0)) }
+// The names of a checked list, in order, in an output of its length. Half as many words again are free behind the places,
+// since an item takes 6 bytes or more.
+fn arrange(names: Names, out: &mut [u8])
+    requires { Lent names out.old }
+    ensures { out.new ≡ name_list (isort le_name (names_left names.entry)) }
 {
-    place_names(names, out, n);
-    sort(names, out, 0, n, n);
-    write_names(names, out, n);
+    let n = place_names(names, out);
+    sort(names.list, out, 0, n, n);
+    write_names(names.list, out, n);
 }
 
 // Writes the names of a checked list, the last first, to an output of its length.
-fn write_back(names: &[u8], out: &mut [u8])
-    requires { Backed names.now out.old }
-    ensures { out.new ≡ name_list (back (names_from names.now 0)) }
+fn write_back(names: Names, out: &mut [u8])
+    requires { Lent names out.old }
+    ensures { out.new ≡ name_list (back (names_left names.entry)) }
 {
-    let mut at = 0;
     let mut to = out.len();
-    while at < names.len() {
-        let name = name_at(names, at);
-        let start = name.start;
-        let end = name.end;
-        to = to - (end - at);
-        put_item(out, to, 3, &names[start..end]);
-        at = end;
+    for name in names {
+        to = to - 6 - name.len();
+        put_item(out, to, 3, name);
     }
 }
 
@@ -124,44 +121,44 @@ fn runs(names: &[u8], up: bool) -> bool
 
 // ---- the call
 
-// How the names of a list stand: in order, wholly the other way round, or neither, with their number.
+// A checked list by how its names stand: in order, wholly the other way round, or neither.
 #[derive(Clone, Copy)]
-enum Way {
-    Up,
-    Down,
-    Mixed(usize),
+enum Way<'a> {
+    Up(Names<'a>),
+    Down(Names<'a>),
+    Mixed(Names<'a>),
 }
 
 // Checks a list. Most are in order, and are read but once for both.
-fn read_names(names: &[u8]) -> Result<Way, OrderError>
-    ensures { ReadIs names.now result }
+fn read_names(list: &[u8]) -> Result<Way<'_>, OrderError>
+    ensures { ReadIs list.entry result }
 {
-    if runs(names, true) {
-        return Ok(Way::Up);
+    if runs(list, true) {
+        return Ok(Way::Up(Names { list, at: 0 }));
     }
-    if runs(names, false) {
-        return Ok(Way::Down);
+    if runs(list, false) {
+        return Ok(Way::Down(Names { list, at: 0 }));
     }
-    match check(names, Listing::Names) {
-        Ok(n) => Ok(Way::Mixed(n)),
+    match Names::check(list) {
+        Ok(names) => Ok(Way::Mixed(names)),
         Err(at) => Err(OrderError::IllFormed(at)),
     }
 }
 
 // Writes the names of a list in order to an output of its length.
-fn write_in_order(names: &[u8], out: &mut [u8], way: Way)
-    requires { WayPre names.now way out.old }
-    ensures { out.new ≡ name_list (isort le_name (names_from names.now 0)) }
+fn write_in_order(way: Way, out: &mut [u8])
+    requires { WayPre way out.old }
+    ensures { out.new ≡ name_list (isort le_name (names_left (names_of way.entry))) }
 {
     match way {
-        Way::Up => {
-            copy_to(names, out, 0);
+        Way::Up(names) => {
+            copy_to(names.list, out, 0);
         }
-        Way::Down => {
+        Way::Down(names) => {
             write_back(names, out);
         }
-        Way::Mixed(n) => {
-            arrange(names, out, n);
+        Way::Mixed(names) => {
+            arrange(names, out);
         }
     }
 }
@@ -175,6 +172,6 @@ pub fn capture_order(names: &[u8], out: &mut [u8]) -> Result<usize, OrderError>
     if out.len() < need {
         return Err(OrderError::OutShort(need));
     }
-    write_in_order(names, &mut out[..need], way);
+    write_in_order(way, &mut out[..need]);
     Ok(need)
 }

@@ -7,13 +7,10 @@ use Rattle.order.proofs.capture_order.Goals as goal
 pub returns-in_err-way : goal.returns-in_err-way
 returns-in_err-way c =
     let p = err_from_is_err_and c.from_residual.result c.from_residual.ensures.1 in
-    rw (p.1, p.2) (order_ill _ _ _ c.read_names.ensures _ c.in_err-way.was)
+    rw (p.1, p.2) (order_ill c.args.names _ _ c.read_names.ensures _ c.in_err-way.was)
 
 pub returns-then-out-need : goal.returns-then-out-need
-returns-then-out-need c = order_short _ _ _ c.read_names.ensures _ c.in_ok-way.was c.if-out-need.true
-
-pub write_in_order-requires : goal.write_in_order-requires
-write_in_order-requires c = way_pre _ _ _ _ c.read_names.ensures c.in_ok-way.was (length-take-le _ c.args.out.now c.if-out-need.false)
+returns-then-out-need c = order_short c.args.names _ _ c.read_names.ensures _ c.in_ok-way.was c.if-out-need.true
 
 pub returns : goal.returns
-returns c = let m = order_wrote c.args.names.now c.args.out.now _ c.read_names.ensures _ c.in_ok-way.was _ (omega arith) c.write_in_order.ensures in record { answers = m.answers; writes = m.writes }
+returns c = let m = order_wrote c.args.names c.args.out.now _ c.read_names.ensures _ c.in_ok-way.was _ (omega arith) c.write_in_order.ensures in record { answers = m.answers; writes = m.writes }

@@ -1,14 +1,10 @@
-use Rattle.order.proofs.Calls.{read_up, read_down, read_mixed, read_ill}
+use Rattle.std.proofs.Common.{refl}
+use native.Mathlib.Omega.{arith}
+use Rattle.order.proofs.Calls.{run_walks, run_small, read_up, read_down, read_mixed, read_ill}
 use Rattle.order.proofs.read_names.Goals as goal
 
 pub returns-then-runs : goal.returns-then-runs
-returns-then-runs c = search read_up
+returns-then-runs c = read_up c.args.list _ _ c.runs.ensures c.if-runs.true _ refl refl refl (λ k. omega (arith, c.type_inv.list k))
 
 pub returns-then-runs-2 : goal.returns-then-runs-2
-returns-then-runs-2 c = search read_down
-
-pub returns-in-Err : goal.returns-in-Err
-returns-in-Err c = search read_ill
-
-pub returns-in-Ok : goal.returns-in-Ok
-returns-in-Ok c = search read_mixed
+returns-then-runs-2 c = read_down c.args.list _ _ c.runs-2.ensures c.if-runs-2.true _ refl refl refl

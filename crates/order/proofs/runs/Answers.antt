@@ -2,14 +2,8 @@ use Rattle.order.proofs.Running.{whole_not, whole_none, whole_pre, whole_runs, e
 use native.Mathlib.Omega.{arith}
 use Rattle.order.proofs.runs.Goals as goal
 
-pub returns-then-names-gt16777216 : goal.returns-then-names-gt16777216
-returns-then-names-gt16777216 c = search whole_not
-
 pub returns-then-is_empty : goal.returns-then-is_empty
 returns-then-is_empty c = whole_none _ _ (omega arith) (empty _ _ c.is_empty.ensures c.if-is_empty.true)
-
-pub returns-in_default : goal.returns-in_default
-returns-in_default c = search whole_not
 
 pub runs_on-requires : goal.runs_on-requires
 runs_on-requires c =

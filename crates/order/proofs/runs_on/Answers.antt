@@ -2,15 +2,6 @@ use Rattle.order.proofs.Running.{running_start, running_turn, running_less, runn
 use native.Mathlib.Omega.{arith}
 use Rattle.order.proofs.runs_on.Goals as goal
 
-pub loop-at-init : goal.loop-at-init
-loop-at-init c = search running_start
-
-pub returns-in_default : goal.returns-in_default
-returns-in_default c = search runs_not
-
-pub returns-then-is_first-up : goal.returns-then-is_first-up
-returns-then-is_first-up c = search runs_not
-
 pub loop-at-smaller : goal.loop-at-smaller
 loop-at-smaller c =
     omega (arith, running_less _ _ _ _ _ _ c.loop-at.invariant _ _ c.pass.ensures c.in-Some.is c.loop-at-test.true)

@@ -1,14 +1,10 @@
-use Rattle.order.proofs.Turning.{backing_start, backing_turn, backing_end}
+use native.Mathlib.Omega.{arith}
+use Rattle.std.proofs.Common.{refl}
+use Rattle.order.proofs.Turning.{backing_start, backing_room, backing_turn, backing_end}
 use Rattle.order.proofs.write_back.Goals as goal
 
-pub loop-at-init : goal.loop-at-init
-loop-at-init c = search backing_start
-
-pub name_at-name-requires : goal.name_at-name-requires
-name_at-name-requires c = record { walks = c.loop-at.invariant.walks; at_in_bounds = c.loop-at-test.true }
-
-pub loop-at-preserved : goal.loop-at-preserved
-loop-at-preserved c = search backing_turn
+pub loop-name-preserved : goal.loop-name-preserved
+loop-name-preserved c = (tt, tt, backing_turn _ _ _ _ _ c.loop-name.invariant.2 _ _ c.in-Some.ensures.steps _ _ _ refl c.put_item.ensures)
 
 pub returns : goal.returns
-returns c = search backing_end
+returns c = backing_end _ _ c.args.out.now _ _ c.loop-name.invariant.2 c.in-None.ensures.steps.0

@@ -1,10 +1,8 @@
 use Rattle.order.proofs.Turning.{Backing}
-use lib.ListN.{length}
-use Prim.Native.Nat.{◌-◌}
 use Rattle.order.proofs.write_back.Given as goal
 
-abbrev pub invariant-loop-at : goal.invariant-loop-at
-invariant-loop-at l = Backing l.names l.initial.out l.out l.at l.to
-
-abbrev pub decreases-loop-at : goal.decreases-loop-at
-decreases-loop-at l = length l.names - l.at
+abbrev pub invariant-loop-name : goal.invariant-loop-name
+invariant-loop-name l =
+    (goal.iterator-loop-name).can_next l.name-iterator ×
+    (goal.iterator-loop-name).is_finite l.name-iterator ×
+    Backing l.fn.names l.name-iterator l.initial.out l.out l.to

@@ -2,9 +2,6 @@ use Rattle.order.proofs.Arranging.{writing_start, writing_turn, writing_end, wri
 use native.Mathlib.Omega.{arith}
 use Rattle.order.proofs.write_names.Goals as goal
 
-pub loop-i-init : goal.loop-i-init
-loop-i-init c = search writing_start
-
 pub get32-place-requires : goal.get32-place-requires
 get32-place-requires c = omega (arith, writing_room _ _ _ _ _ _ c.loop-i.invariant)
 
