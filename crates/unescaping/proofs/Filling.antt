@@ -16,56 +16,65 @@ use Rattle.unescaping.proofs.Unescaping.{unescape_bare, pushes, pushes_gives, pu
 use Rattle.unescaping.proofs.Pairs.{unescape_pairs, halves_length}
 use Rattle.unescaping.proofs.Places.{ahead_most}
 
-pub filled_none : (s d : List ℕ) (at : ℕ) → Filled s d at 0 s d
-filled_none s d at = record { shorter = omega arith; rest = refl; writes = refl }
+filled_none : (s d : List ℕ) (at : ℕ) → Filled s d at 0 0 d
+filled_none s d at = record { within = omega arith; rest = refl; writes = refl }
 
-pub filled_then : (s d : List ℕ) (at k : ℕ) (r e : List ℕ) (l : ℕ) (q g : List ℕ) → k ≤ length (ahead s) → Filled s d at k r e → Filled r e (at + k) l q g → Filled s d at (k + l) q g
+filled_then : (s d : List ℕ) (at k r : ℕ) (e : List ℕ) (l q : ℕ) (g : List ℕ) → k ≤ length (ahead s) → Filled s d at k r e → Filled (drop r s) e (at + k) l q g → Filled s d at (k + l) (r + q) g
 filled_then s d at k r e l q g h a b =
     let A : List ℕ = ahead s in
     let n : length (take k A) ≡ k = length-take-le k A h in record {
-      shorter = omega (arith, a.shorter, b.shorter);
-      rest = b.rest ∙ rw a.rest (drop-drop l k A);
+      within = omega (arith, a.within, b.within, length-drop r s);
+      rest = ap ahead (sym (drop-drop q r s)) ∙ b.rest ∙ rw a.rest (drop-drop l k A);
       writes = b.writes ∙ rw (a.rest, a.writes, take-add k l A) (sym (sets_append d at (take k A) (take l (drop k A)) ∙ rw n));
     }
 
--- k of count bytes are stored, and r is the rest
-pub record Filling (s d : List ℕ) (at count : ℕ) (r e : List ℕ) (k : ℕ) : Type 0 where
+-- k of count bytes are stored, and r bytes stand for them
+pub record Filling (s d : List ℕ) (at count r : ℕ) (e : List ℕ) (k : ℕ) : Type 0 where
   pub few : k ≤ count
   pub room : count ≤ length (ahead s)
   pub long : length e ≡ length d
-  pub left : length (ahead r) ≡ length (ahead s) - k
+  pub left : length (ahead (drop r s)) ≡ length (ahead s) - k
   pub done : Filled s d at k r e
 
-pub fill_start : (s d : List ℕ) (at count : ℕ) → count ≤ length (ahead s) → Filling s d at count s d 0
+pub fill_start : (s d : List ℕ) (at count : ℕ) → count ≤ length (ahead s) → Filling s d at count 0 d 0
 fill_start s d at count h = record { few = omega arith; room = h; long = refl; left = omega arith; done = filled_none s d at }
 
-module _ (s d : List ℕ) (at count : ℕ) (r e : List ℕ) (k : ℕ) (f : Filling s d at count r e k) where
-  fill_more : (l : ℕ) (q g : List ℕ) → k + l ≤ count → Filled r e (at + k) l q g → Filling s d at count q g (k + l)
-  fill_more l q g h v = record {
-    few = h;
-    room = f.room;
-    long = ap length v.writes ∙ length-sets e (at + k) (take l (ahead r)) ∙ f.long;
-    left = omega (arith, ap length v.rest, length-drop l (ahead r), f.left);
-    done = filled_then s d at k r e l q g (omega (arith, f.room, f.few)) f.done v;
-  }
+module _ (s d : List ℕ) (at count r : ℕ) (e : List ℕ) (k : ℕ) (f : Filling s d at count r e k) where
+  -- what is left stands for enough bytes
+  pub fill_room : (l : ℕ) → k + l ≤ count → l ≤ length (ahead (take (length s - r) (drop r s)))
+  fill_room l h = rw take_rest (omega (arith, f.left, f.room))
 
-  pub fill_turn : k < count → (g : Got) → GotIs r g → Filling s d at count g.rest.now (set e (at + k) g.byte) (k + 1)
-  fill_turn h g v = fill_more 1 g.rest.now (set e (at + k) g.byte) (omega arith) (record { shorter = v.shorter; rest = rw v.step; writes = rw v.step })
+  fill_more : (l q : ℕ) (g : List ℕ) → k + l ≤ count → Filled (drop r s) e (at + k) l q g → Filling s d at count (r + q) g (k + l)
+  fill_more l q g h v =
+      let x : Filled s d at (k + l) (r + q) g = filled_then s d at k r e l q g (omega (arith, f.room, f.few)) f.done v in record {
+        few = h;
+        room = f.room;
+        long = ap length v.writes ∙ length-sets e (at + k) (take l (ahead (drop r s))) ∙ f.long;
+        left = omega (arith, ap length x.rest, length-drop (k + l) (ahead s));
+        done = x;
+      }
+
+  pub fill_turn : k < count → (g : Got) → GotIs (take (length s - r) (drop r s)) g → Filling s d at count (r + g.size) (set e (at + k) g.byte) (k + 1)
+  fill_turn h g v =
+      let u : GotIs (drop r s) g = rw take_rest at v in
+      fill_more 1 g.size (set e (at + k) g.byte) (omega arith) (record { within = u.within; rest = rw u.step; writes = rw u.step })
 
   pub fill_end : count ≤ k → Filled s d at count r e
   fill_end h = let q : k ≡ count = omega (arith, f.few) in rw q at f.done
 
 -- the same from the front of the output: so many blocks of sixteen, and the rest
-module _ (s d : List ℕ) (count : ℕ) (r e : List ℕ) (b : ℕ) (f : Filling s d 0 count r e (16 * b)) where
-  pub fill_blocks : b < count / 16 → (q g : List ℕ) → Filled r e (16 * b) 16 q g → Filling s d 0 count q g (16 * (b + 1))
+module _ (s d : List ℕ) (count r : ℕ) (e : List ℕ) (b : ℕ) (f : Filling s d 0 count r e (16 * b)) where
+  pub fill_blocks : b < count / 16 → (q : ℕ) (g : List ℕ) → Filled (take (length s - r) (drop r s)) e (16 * b) 16 q g → Filling s d 0 count (r + q) g (16 * (b + 1))
   fill_blocks h q g v =
       let z : 16 * b + 16 ≡ 16 * (b + 1) = omega arith in
-      rw z at (fill_more s d 0 count r e (16 * b) f 16 q g (omega arith) (rw zero-add v))
+      let u : Filled (drop r s) e (16 * b) 16 q g = rw take_rest at v in
+      rw z at (fill_more s d 0 count r e (16 * b) f 16 q g (omega arith) (rw zero-add u))
 
-  pub fill_rest : b ≡ count / 16 → (q g : List ℕ) → Filled r e (16 * (count / 16)) (count % 16) q g → Filled s d 0 count q g
+  pub fill_rest : b ≡ count / 16 → (q : ℕ) (g : List ℕ) → Filled (take (length s - r) (drop r s)) e (16 * (count / 16)) (count % 16) q g → Filled s d 0 count (r + q) g
   fill_rest h q g v =
       let z : 16 * b + count % 16 ≡ count = omega arith in
-      rw z at (filled_then s d 0 (16 * b) r e (count % 16) q g (omega (arith, f.room, f.few)) f.done (rw (zero-add, h) v))
+      let u : Filled (drop r s) e (16 * (count / 16)) (count % 16) q g = rw take_rest at v in
+      rw z at (filled_then s d 0 (16 * b) r e (count % 16) q g (omega (arith, f.room, f.few)) f.done (rw (zero-add, h) u))
 
 -- ---- a part without a 3D
 
@@ -80,15 +89,13 @@ ahead_pushes s a b n u = ap bytes_of u ∙ bytes_pushes a (unescape b) (omega (a
 cut : (s : List ℕ) (k : ℕ) → unescape s ≡ unescape (take k s ++ drop k s)
 cut s k = ap unescape (sym (take-append-drop k s))
 
--- so many bytes that stand first stand for sixteen, a
-block_is : (s : List ℕ) (k : ℕ) (a : List ℕ) → ahead s ≡ a ++ ahead (drop k s) → length a ≡ 16 → (d : List ℕ) (at r : ℕ) (e : List ℕ) → Writes d at a r e
-    → Filled s d at 16 (take (length s - k) (drop k s)) e
-block_is s k a u n d at r e w =
-    rw take_rest (record {
-      shorter = omega (arith, length-drop k s);
-      rest = sym (ap (drop 16) u ∙ drop_at a (ahead (drop k s)) 16 n);
-      writes = w.writes ∙ ap (λ (l : List ℕ). sets d at l) (sym (ap (take 16) u ∙ take_at a (ahead (drop k s)) 16 n));
-    })
+-- k bytes stand for sixteen, a
+block_is : (s : List ℕ) (k : ℕ) (a : List ℕ) → k ≤ length s → ahead s ≡ a ++ ahead (drop k s) → length a ≡ 16 → (d : List ℕ) (at r : ℕ) (e : List ℕ) → Writes d at a r e → Filled s d at 16 k e
+block_is s k a h u n d at r e w = record {
+  within = h;
+  rest = sym (ap (drop 16) u ∙ drop_at a (ahead (drop k s)) 16 n);
+  writes = w.writes ∙ ap (λ (l : List ℕ). sets d at l) (sym (ap (take 16) u ∙ take_at a (ahead (drop k s)) 16 n));
+}
 
 -- sixteen bytes at once
 pub block_inside : (s : List ℕ) → 16 ≤ length (ahead s) → 16 ≤ length s
@@ -97,11 +104,10 @@ block_inside s h = omega (arith, ahead_most s)
 pub block_long : (s : List ℕ) → 16 ≤ length (ahead s) → length (take 16 s) ≡ 16
 block_long s h = length-take-le 16 s (block_inside s h)
 
-pub block_bare : (s d : List ℕ) (at : ℕ) (t : Bool) (r : ℕ) (e : List ℕ) → 16 ≤ length (ahead s) → Bare 0x3D 0x3D (take 16 s) t → t ≡ true → Writes d at (take 16 s) r e
-    → Filled s d at 16 (take (length s - 16) (drop 16 s)) e
+pub block_bare : (s d : List ℕ) (at : ℕ) (t : Bool) (r : ℕ) (e : List ℕ) → 16 ≤ length (ahead s) → Bare 0x3D 0x3D (take 16 s) t → t ≡ true → Writes d at (take 16 s) r e → Filled s d at 16 16 e
 block_bare s d at t r e h v z w =
     let u = ahead_pushes s (take 16 s) (drop 16 s) (omega arith) (cut s 16 ∙ unescape_bare (take 16 s) (drop 16 s) (v.none z)) in
-    block_is s 16 (take 16 s) u (block_long s h) d at r e w
+    block_is s 16 (take 16 s) (block_inside s h) u (block_long s h) d at r e w
 
 -- sixteen escaped bytes at once
 module _ (s : List ℕ) (t : Bool) (v : DenseIf s t) (z : t ≡ true) where
@@ -114,10 +120,10 @@ module _ (s : List ℕ) (t : Bool) (v : DenseIf s t) (z : t ≡ true) where
   pub dense_paired : Paired (take 32 s)
   dense_paired = v.is z
 
-  pub block_dense : (d : List ℕ) (at r : ℕ) (e : List ℕ) → 16 ≤ length (ahead s) → Writes d at (halves (take 32 s)) r e → Filled s d at 16 (take (length s - 32) (drop 32 s)) e
+  pub block_dense : (d : List ℕ) (at r : ℕ) (e : List ℕ) → 16 ≤ length (ahead s) → Writes d at (halves (take 32 s)) r e → Filled s d at 16 32 e
   block_dense d at r e h w =
       let u = ahead_pushes s (halves (take 32 s)) (drop 32 s) (omega arith) (cut s 32 ∙ unescape_pairs (take 32 s) (drop 32 s) dense_long dense_paired) in
-      block_is s 32 (halves (take 32 s)) u (halves_length (take 32 s) 16 dense_long) d at r e w
+      block_is s 32 (halves (take 32 s)) dense_inside u (halves_length (take 32 s) 16 dense_long) d at r e w
 
 pub sparse : (s : List ℕ) → DenseIf s false
 sparse s = record { within = λ z. no_way z refl; is = λ z. no_way z refl }

@@ -1,5 +1,5 @@
 -- Reading the first byte of a sound escaped part, and how many bytes a part stands for.
-use Rattle.std.proofs.Common.{◌≡◌, ℕ, suc, ◌+◌, ◌-◌, ◌<◌, ◌≤◌, Bool, true, false, eqb, List, [], ◌∷◌, ◌++◌, length, get_or, take, drop, refl, ap, ◌∙◌, append-nil, arith, take_all, eq-eqb, ne_eqb}
+use Rattle.std.proofs.Common.{◌≡◌, ℕ, suc, ◌+◌, ◌-◌, ◌<◌, ◌≤◌, Bool, true, false, eqb, List, [], ◌∷◌, ◌++◌, length, get_or, drop, refl, ap, ◌∙◌, append-nil, arith, eq-eqb, ne_eqb}
 use Rattle.laws.proofs.Choice.{split_b}
 use Rattle.laws.specs.Answers.{Outcome, gives, refuses}
 use Rattle.mdr.specs.Escape.{escapee, push, unescape, unescape_from}
@@ -46,20 +46,18 @@ got_fits [] h q = omega arith
 got_fits (b ∷ []) h q = omega arith
 got_fits (b ∷ e ∷ es) h q = let r = within_range 0x2C 0x2E e (first_escapee b e es h q) in omega arith
 
-pub got_plain : (s : List ℕ) → 1 ≤ length (ahead s) → (get_or s 0 0 ≡ 0x3D → ⊥) → (g : Got) → g.byte ≡ get_or s 0 0 → g.rest.now ≡ take (length s - 1) (drop 1 s) → GotIs s g
+pub got_plain : (s : List ℕ) → 1 ≤ length (ahead s) → (get_or s 0 0 ≡ 0x3D → ⊥) → (g : Got) → g.byte ≡ get_or s 0 0 → g.size ≡ 1 → GotIs s g
 got_plain [] h n g p q = absurd (omega (arith, got_inside [] h))
 got_plain (b ∷ bs) h n g p q =
-    let r : g.rest.now ≡ bs = q ∙ take_all (length (b ∷ bs) - 1) bs (omega arith) in
     let e = first_plain b bs h n in
-    record { step = rw (p, r) e; left = rw r (ap length e); shorter = rw r (omega arith) }
+    record { step = rw (p, q) e; left = rw q (ap length e); within = omega arith }
 
-pub got_escaped : (s : List ℕ) → 1 ≤ length (ahead s) → get_or s 0 0 ≡ 0x3D → (g : Got) → g.byte ≡ get_or s 1 0 + 0x10 → g.rest.now ≡ take (length s - 2) (drop 2 s) → GotIs s g
+pub got_escaped : (s : List ℕ) → 1 ≤ length (ahead s) → get_or s 0 0 ≡ 0x3D → (g : Got) → g.byte ≡ get_or s 1 0 + 0x10 → g.size ≡ 2 → GotIs s g
 got_escaped [] h y g p q = absurd (omega (arith, got_inside [] h))
 got_escaped (b ∷ []) h y g p q = absurd (omega (arith, got_second (b ∷ []) h y))
 got_escaped (b ∷ x ∷ es) h y g p q =
-    let r : g.rest.now ≡ es = q ∙ take_all (length (b ∷ x ∷ es) - 2) es (omega arith) in
     let e = first_escaped b x es h y in
-    record { step = rw (p, r) e; left = rw r (ap length e); shorter = rw r (omega arith) }
+    record { step = rw (p, q) e; left = rw q (ap length e); within = omega arith }
 
 -- ---- how many bytes a part stands for
 

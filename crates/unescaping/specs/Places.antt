@@ -17,14 +17,14 @@ ahead s = bytes_of (unescape s)
 pub record Sound (s : List ℕ) : Type 0 where
   pub is : unescape s ≡ gives [] (ahead s)
 
--- the first byte, and what is left after it
+-- the first byte, and how many bytes stand for it
 pub record GotIs (s : List ℕ) (g : Got) : Type 0 where
-  pub step : ahead s ≡ g.byte ∷ ahead g.rest.now
-  pub left : length (ahead s) ≡ suc (length (ahead g.rest.now))
-  pub shorter : length g.rest.now ≤ length s
+  pub step : ahead s ≡ g.byte ∷ ahead (drop g.size s)
+  pub left : length (ahead s) ≡ suc (length (ahead (drop g.size s)))
+  pub within : g.size ≤ length s
 
--- the first k unescaped bytes are stored at a place, and r is the rest
-pub record Filled (s d : List ℕ) (at k : ℕ) (r e : List ℕ) : Type 0 where
-  pub shorter : length r ≤ length s
-  pub rest : ahead r ≡ drop k (ahead s)
+-- the first k unescaped bytes are stored at a place, and r bytes stand for them
+pub record Filled (s d : List ℕ) (at k r : ℕ) (e : List ℕ) : Type 0 where
+  pub within : r ≤ length s
+  pub rest : ahead (drop r s) ≡ drop k (ahead s)
   pub writes : e ≡ sets d at (take k (ahead s))

@@ -121,11 +121,11 @@ pub fn scan(s: &[u8]) -> Scanned
 
 // ---- the bytes that it stands for
 
-// A byte of a sound escaped part, and the rest of the part.
+// A byte of a sound escaped part, and how many bytes stand for it.
 #[derive(Clone, Copy)]
-pub struct Got<'a> {
+pub struct Got {
     pub byte: u8,
-    pub rest: &'a [u8],
+    pub size: usize,
 }
 
 // The first byte.
@@ -137,28 +137,26 @@ pub fn get(s: &[u8]) -> Got
     if b == 0x3D {
         return Got {
             byte: s[1] + 16,
-            rest: &s[2..],
+            size: 2,
         };
     }
-    Got {
-        byte: b,
-        rest: &s[1..],
-    }
+    Got { byte: b, size: 1 }
 }
 
-// Stores the first count unescaped bytes at a place, and returns the rest.
-fn fill_few<'a>(s: &'a [u8], out: &mut [u8], at: usize, count: usize) -> &'a [u8]
+// Stores the first count unescaped bytes at a place, and returns how many bytes stand for them.
+// Stays: where the rest is carried in place of used, its length is counted down too, one instruction more a byte.
+pub fn fill_few(s: &[u8], out: &mut [u8], at: usize, count: usize) -> usize
     requires count_in_bounds { count ≤ length (ahead s.now) }
     requires out_in_bounds { at + count ≤ length out.old }
-    ensures { Filled s.now out.old at count result.now out.new }
+    ensures { Filled s.now out.old at count result out.new }
 {
-    let mut rest = s;
+    let mut used = 0;
     for k in 0..count {
-        let g = get(rest);
+        let g = get(&s[used..]);
         out[at + k] = g.byte;
-        rest = g.rest;
+        used += g.size;
     }
-    rest
+    used
 }
 
 // The two bytes that follow so many pairs.
@@ -221,37 +219,38 @@ fn is_dense(s: &[u8], dense: bool) -> bool
     false
 }
 
-// Stores the first sixteen unescaped bytes, and returns the rest. dense: it is worth a look whether all of them are escaped.
-fn fill_block<'a>(s: &'a [u8], out: &mut [u8], at: usize, dense: bool) -> &'a [u8]
+// Stores the first sixteen unescaped bytes, and returns how many bytes stand for them. dense: it is worth a look whether
+// all of them are escaped.
+fn fill_block(s: &[u8], out: &mut [u8], at: usize, dense: bool) -> usize
     requires long { 16 ≤ length (ahead s.now) }
     requires out_in_bounds { at + 16 ≤ length out.old }
-    ensures { Filled s.now out.old at 16 result.now out.new }
+    ensures { Filled s.now out.old at 16 result out.new }
 {
     if is_dense(s, dense) {
         unpair(&s[..32], out, at);
-        return &s[32..];
+        return 32;
     }
     let block = &s[..16];
     if is_bare::<0x3D, 0x3D>(block) {
         copy_block(block, out, at);
-        return &s[16..];
+        return 16;
     }
     fill_few(s, out, at, 16)
 }
 
-// Stores the first count unescaped bytes at the front of the output, block by block, and returns the rest.
-pub fn fill<'a>(s: &'a [u8], out: &mut [u8], count: usize) -> &'a [u8]
+// Stores the first count unescaped bytes at the front of the output, block by block, and returns how many bytes stand for them.
+pub fn fill(s: &[u8], out: &mut [u8], count: usize) -> usize
     requires count_in_bounds { count ≤ length (ahead s.now) }
     requires out_in_bounds { count ≤ length out.old }
-    ensures { Filled s.now out.old 0 count result.now out.new }
+    ensures { Filled s.now out.old 0 count result out.new }
 {
     let blocks = count / 16;
-    let mut rest = s;
+    let mut used = 0;
     let mut dense = false;
     for b in 0..blocks {
-        let after = fill_block(rest, out, 16 * b, dense);
-        dense = rest.len() - after.len() == 32;
-        rest = after;
+        let more = fill_block(&s[used..], out, 16 * b, dense);
+        dense = more == 32;
+        used += more;
     }
-    fill_few(rest, out, 16 * blocks, count % 16)
+    used + fill_few(&s[used..], out, 16 * blocks, count % 16)
 }

@@ -2,11 +2,11 @@
 use Prim.Native.Nat.{ℕ, suc, ◌+◌, ◌-◌, ◌*◌, ◌/◌, ◌%◌, ◌<◌, ◌≤◌}
 use mathlib.Core.Path.{◌≡◌, refl, sym, ap, ◌∙◌, subst}
 use mathlib.Core.Bool.{Bool, true, false}
-use mathlib.Core.List.{List, [], ◌∷◌, ◌++◌}
+use mathlib.Core.List.{List, [], ◌∷◌, ◌++◌, append-nil}
 use native.Mathlib.Nat.{add-mul-mod_self_left, add-mod-mod}
 use native.Mathlib.Omega.{arith}
 use lib.ListN.{length, get_or, take, drop, take-append-drop, length-drop, length-append}
-use lib.Seq.{take-suc, take-length, get_or_at}
+use lib.Seq.{sets-eq, take-suc, take-length, length-take-le, get_or_at, get_or-take}
 use borrow.Author.Tests.{eqb-true, le-leb, lt-leb, eq-eqb, ne_eqb}
 use lib.Dec.{eqb}
 use Rattle.laws.proofs.Lists.{drop_step, drop_end}
@@ -21,9 +21,8 @@ use Rattle.mdr.proofs.Escaping.{count_append}
 use Rattle.mdr.proofs.Wire.{judged_whole, wire_body}
 use Rattle.blocks.specs.Blocks.{Minus, Bare}
 use Rattle.unescaping.specs.Flaws.{sentries, Measured, flaw_of, ScannedIs}
-use Rattle.unescaping.specs.Places.{ahead, Sound, GotIs}
+use Rattle.unescaping.specs.Places.{ahead, Sound, Filled}
 use Rattle.unpacking.specs.Readings.{HeaderIs, Summed, RefusedBy, Reads}
-use Rattle.unescaping.specs.declared.Got.{Got}
 use Rattle.unpacking.specs.declared.Header.{Header}
 use Rattle.unpacking.specs.declared.head.Head.{Head}
 use Rattle.unescaping.specs.declared.Scanned.{Scanned}
@@ -37,13 +36,24 @@ use Rattle.unescaping.proofs.Unescaping.{weighed, closing, Ends, ends}
 
 -- ---- the header
 
-pub header_is : (s : List ℕ) (a b c d e f : Got) → GotIs s a → GotIs a.rest.now b → GotIs b.rest.now c → GotIs c.rest.now d → GotIs d.rest.now e → GotIs e.rest.now f
-    → (h : Header) → h.kind ≡ a.byte → h.seq ≡ b.byte → h.declared ≡ 16777216 * c.byte + 65536 * d.byte + 256 * e.byte + f.byte → h.rest.bytes.now ≡ f.rest.now → HeaderIs s h
+header_front : (s d e : List ℕ) (used : ℕ) → 6 ≤ length (ahead s) → length d ≡ 6 → Filled s d 0 6 used e → e ≡ take 6 (ahead s)
+header_front s d e used h n v =
+    let w : List ℕ = take 6 (ahead s) in
+    let m : length w ≡ 6 = length-take-le 6 (ahead s) h in
+    v.writes ∙ sets-eq w d 0 (omega arith) ∙ rw (drop_end d (0 + length w) (omega arith)) (append-nil w)
+
+pub header_is : (s d e : List ℕ) (used : ℕ) → 6 ≤ length (ahead s) → length d ≡ 6 → Filled s d 0 6 used e
+    → (h : Header) → h.kind ≡ get_or e 0 0 → h.seq ≡ get_or e 1 0 → h.declared ≡ 16777216 * get_or e 2 0 + 65536 * get_or e 3 0 + 256 * get_or e 4 0 + get_or e 5 0
+    → h.rest.bytes.now ≡ take (length s - used) (drop used s) → HeaderIs s h
 unfolding be32
-header_is s a b c d e f ga gb gc gd ge gf h p q r t =
-    let v : ahead s ≡ a.byte ∷ b.byte ∷ c.byte ∷ d.byte ∷ e.byte ∷ f.byte ∷ ahead f.rest.now
-    = ga.step ∙ rw (gb.step, gc.step, gd.step, ge.step, gf.step) in
-    record { kind = rw (v, p); seq = rw (v, q); declared = rw (v, r); rest = rw (v, t) }
+header_is s d e used l n v h p q r t =
+    let f = header_front s d e used l n v in
+    let g : (i : ℕ) → i < 6 → get_or e i 0 ≡ get_or (ahead s) i 0 = λ i j. ap (λ (x : List ℕ). get_or x i 0) f ∙ get_or-take 6 (ahead s) i 0 j in record {
+      kind = p ∙ g 0 (omega arith);
+      seq = q ∙ g 1 (omega arith);
+      declared = r ∙ rw (g 2 (omega arith), g 3 (omega arith), g 4 (omega arith), g 5 (omega arith));
+      rest = rw (t, take_rest) v.rest;
+    }
 
 -- nothing is known of the rest
 pub rest_escaped : (l : List ℕ) → Bare 0x3D 0x3D l false

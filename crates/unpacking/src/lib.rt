@@ -15,7 +15,7 @@ mod head;
 use blocks::minus;
 use head::{Escaped, Head};
 use mdr::{Frame, UnpackError, Unpacked};
-use unescaping::{first_flaw, get, scan};
+use unescaping::{fill_few, first_flaw, scan};
 
 // ---- the first six bytes, and the last
 
@@ -39,18 +39,15 @@ fn escaped_header(s: &[u8]) -> Header
     requires { 6 ≤ length (ahead s.now) }
     ensures { HeaderIs s.now result }
 {
-    let a = get(s);
-    let b = get(a.rest);
-    let c = get(b.rest);
-    let d = get(c.rest);
-    let e = get(d.rest);
-    let f = get(e.rest);
+    let mut head = [0u8; 6];
+    let used = fill_few(s, &mut head, 0, 6);
+    let [kind, seq, a, b, c, d] = head;
     Header {
-        kind: a.byte,
-        seq: b.byte,
-        declared: join(c.byte, d.byte, e.byte, f.byte),
+        kind,
+        seq,
+        declared: join(a, b, c, d),
         rest: Escaped {
-            bytes: f.rest,
+            bytes: &s[used..],
             bare: false,
         },
     }

@@ -1,5 +1,5 @@
-use Rattle.unescaping.proofs.Filling.{dense_inside, dense_long, dense_paired, block_dense, block_inside, block_long, block_bare}
-use Rattle.std.proofs.Common.{sym, arith}
+use Rattle.unescaping.proofs.Filling.{dense_inside, dense_long, dense_paired, block_dense, block_long, block_bare}
+use Rattle.std.proofs.Common.{sym}
 use Rattle.unescaping.proofs.fill_block.Goals as goal
 
 pub slice_bounds-unpair-end : goal.slice_bounds-unpair-end
@@ -16,12 +16,6 @@ slice_bounds-block-end c = sym (block_long _ c.requires.long)
 
 pub copy_block-requires-clause-part_len : goal.copy_block-requires-clause-part_len
 copy_block-requires-clause-part_len c = block_long _ c.requires.long
-
-pub slice_bounds-result-count-then-is_bare : goal.slice_bounds-result-count-then-is_bare
-slice_bounds-result-count-then-is_bare c = block_inside _ c.requires.long
-
-pub slice_bounds-result-start-then-is_bare : goal.slice_bounds-result-start-then-is_bare
-slice_bounds-result-start-then-is_bare c = omega (arith, block_inside _ c.requires.long)
 
 pub returns-then-is_bare : goal.returns-then-is_bare
 returns-then-is_bare c = block_bare _ _ _ _ _ _ c.requires.long c.is_bare.ensures c.if-is_bare.true c.copy_block.ensures

@@ -11,20 +11,8 @@ bounds-s-1 c = omega (arith, got_second _ c.requires c.if-b-eq61.true)
 pub overflow_add-result : goal.overflow_add-result
 overflow_add-result c = omega (arith, got_fits _ c.requires c.if-b-eq61.true)
 
-pub slice_bounds-result-count : goal.slice_bounds-result-count
-slice_bounds-result-count c = got_second _ c.requires c.if-b-eq61.true
-
-pub slice_bounds-result-start : goal.slice_bounds-result-start
-slice_bounds-result-start c = omega (arith, got_second _ c.requires c.if-b-eq61.true)
-
 pub returns-then-b-eq61 : goal.returns-then-b-eq61
 returns-then-b-eq61 c = got_escaped _ c.requires c.if-b-eq61.true _ refl refl
-
-pub slice_bounds-result-count-2 : goal.slice_bounds-result-count-2
-slice_bounds-result-count-2 c = got_inside _ c.requires
-
-pub slice_bounds-result-start-2 : goal.slice_bounds-result-start-2
-slice_bounds-result-start-2 c = omega (arith, got_inside _ c.requires)
 
 pub returns : goal.returns
 returns c = got_plain _ c.requires c.if-b-eq61.false _ refl refl
