@@ -40,9 +40,8 @@ pub fill_start : (s d : List ℕ) (at count : ℕ) → count ≤ length (ahead s
 fill_start s d at count h = record { few = omega arith; room = h; long = refl; left = omega arith; done = filled_none s d at }
 
 module _ (s d : List ℕ) (at count r : ℕ) (e : List ℕ) (k : ℕ) (f : Filling s d at count r e k) where
-  -- what is left stands for enough bytes
-  pub fill_room : (l : ℕ) → k + l ≤ count → l ≤ length (ahead (take (length s - r) (drop r s)))
-  fill_room l h = rw take_rest (omega (arith, f.left, f.room))
+  pub fill_room : k < count → 1 ≤ length (ahead (drop r s))
+  fill_room h = omega (arith, f.left, f.room)
 
   fill_more : (l q : ℕ) (g : List ℕ) → k + l ≤ count → Filled (drop r s) e (at + k) l q g → Filling s d at count (r + q) g (k + l)
   fill_more l q g h v =
@@ -54,10 +53,15 @@ module _ (s d : List ℕ) (at count r : ℕ) (e : List ℕ) (k : ℕ) (f : Filli
         done = x;
       }
 
-  pub fill_turn : k < count → (g : Got) → GotIs (take (length s - r) (drop r s)) g → Filling s d at count (r + g.size) (set e (at + k) g.byte) (k + 1)
+  pub fill_turn : k < count → (g : Got) → GotIs s r g → Filling s d at count g.next (set e (at + k) g.byte) (k + 1)
   fill_turn h g v =
-      let u : GotIs (drop r s) g = rw take_rest at v in
-      fill_more 1 g.size (set e (at + k) g.byte) (omega arith) (record { within = u.within; rest = rw u.step; writes = rw u.step })
+      let z : r + (g.next - r) ≡ g.next = omega (arith, v.on) in
+      let y : drop (g.next - r) (drop r s) ≡ drop g.next s = drop-drop (g.next - r) r s ∙ ap (λ (n : ℕ). drop n s) z in
+      rw z at (fill_more 1 (g.next - r) (set e (at + k) g.byte) (omega arith) (record {
+        within = omega (arith, v.within, length-drop r s);
+        rest = rw (y, v.step) refl;
+        writes = rw v.step refl;
+      }))
 
   pub fill_end : count ≤ k → Filled s d at count r e
   fill_end h = let q : k ≡ count = omega (arith, f.few) in rw q at f.done

@@ -1,6 +1,7 @@
--- Reading the first byte of a sound escaped part, and how many bytes a part stands for.
-use Rattle.std.proofs.Common.{◌≡◌, ℕ, suc, ◌+◌, ◌-◌, ◌<◌, ◌≤◌, Bool, true, false, eqb, List, [], ◌∷◌, ◌++◌, length, get_or, drop, refl, ap, ◌∙◌, append-nil, arith, eq-eqb, ne_eqb}
+-- Reading a byte of a sound escaped part, and how many bytes a part stands for.
+use Rattle.std.proofs.Common.{◌≡◌, ℕ, suc, ◌+◌, ◌-◌, ◌<◌, ◌≤◌, Bool, true, false, eqb, List, [], ◌∷◌, ◌++◌, length, get_or, drop, refl, ap, ◌∙◌, append-nil, arith, length-drop, eq-eqb, ne_eqb}
 use Rattle.laws.proofs.Choice.{split_b}
+use Rattle.laws.proofs.Lists.{drop_step}
 use Rattle.laws.specs.Answers.{Outcome, gives, refuses}
 use Rattle.mdr.specs.Escape.{escapee, push, unescape, unescape_from}
 use Rattle.mdr.proofs.Escaping.{within_range}
@@ -13,7 +14,7 @@ bytes_push : (b : ℕ) (o : Outcome) → 1 ≤ length (bytes_of (push b o)) → 
 bytes_push b (gives vs bs) h = refl
 bytes_push b (refuses n vs) h = absurd (omega arith)
 
--- ---- the first byte
+-- ---- the first byte of a part
 
 first_plain : (b : ℕ) (bs : List ℕ) → 1 ≤ length (ahead (b ∷ bs)) → (b ≡ 0x3D → ⊥) → ahead (b ∷ bs) ≡ b ∷ ahead bs
 unfolding ahead
@@ -29,35 +30,48 @@ first_escaped b e es h q =
     let t = first_escapee b e es h q in
     rw (eq-eqb b 0x3D q, t) (bytes_push (e + 0x10) (unescape es) (rw (eq-eqb b 0x3D q, t) at h))
 
-pub got_inside : (s : List ℕ) → 1 ≤ length (ahead s) → 1 ≤ length s
-unfolding ahead
-got_inside [] h = absurd (omega arith)
-got_inside (b ∷ bs) h = omega arith
-
 -- after a 3D there is an escapee
-pub got_second : (s : List ℕ) → 1 ≤ length (ahead s) → get_or s 0 0 ≡ 0x3D → 2 ≤ length s
+first_more : (b : ℕ) (bs : List ℕ) → 1 ≤ length (ahead (b ∷ bs)) → b ≡ 0x3D → 1 ≤ length bs
 unfolding ahead
-got_second [] h q = absurd (omega arith)
-got_second (b ∷ []) h q = let z = rw (eq-eqb b 0x3D q) at h in absurd (omega arith)
-got_second (b ∷ e ∷ es) h q = omega arith
+first_more b [] h q = let z = rw (eq-eqb b 0x3D q) at h in absurd (omega arith)
+first_more b (e ∷ es) h q = omega arith
 
-pub got_fits : (s : List ℕ) → 1 ≤ length (ahead s) → get_or s 0 0 ≡ 0x3D → get_or s 1 0 ≤ 0x2E
-got_fits [] h q = omega arith
-got_fits (b ∷ []) h q = omega arith
-got_fits (b ∷ e ∷ es) h q = let r = within_range 0x2C 0x2E e (first_escapee b e es h q) in omega arith
+some_inside : (s : List ℕ) → 1 ≤ length (ahead s) → 1 ≤ length s
+unfolding ahead
+some_inside [] h = absurd (omega arith)
+some_inside (b ∷ bs) h = omega arith
 
-pub got_plain : (s : List ℕ) → 1 ≤ length (ahead s) → (get_or s 0 0 ≡ 0x3D → ⊥) → (g : Got) → g.byte ≡ get_or s 0 0 → g.size ≡ 1 → GotIs s g
-got_plain [] h n g p q = absurd (omega (arith, got_inside [] h))
-got_plain (b ∷ bs) h n g p q =
-    let e = first_plain b bs h n in
-    record { step = rw (p, q) e; left = rw q (ap length e); within = omega arith }
+-- ---- the byte at a place
 
-pub got_escaped : (s : List ℕ) → 1 ≤ length (ahead s) → get_or s 0 0 ≡ 0x3D → (g : Got) → g.byte ≡ get_or s 1 0 + 0x10 → g.size ≡ 2 → GotIs s g
-got_escaped [] h y g p q = absurd (omega (arith, got_inside [] h))
-got_escaped (b ∷ []) h y g p q = absurd (omega (arith, got_second (b ∷ []) h y))
-got_escaped (b ∷ x ∷ es) h y g p q =
-    let e = first_escaped b x es h y in
-    record { step = rw (p, q) e; left = rw q (ap length e); within = omega arith }
+module _ (s : List ℕ) (i : ℕ) (h : 1 ≤ length (ahead (drop i s))) where
+  pub got_inside : i < length s
+  got_inside = omega (arith, some_inside (drop i s) h, length-drop i s)
+
+  here : drop i s ≡ get_or s i 0 ∷ drop (i + 1) s
+  here = drop_step s i got_inside
+
+  pub got_second : get_or s i 0 ≡ 0x3D → i + 1 < length s
+  got_second q = omega (arith, first_more (get_or s i 0) (drop (i + 1) s) (rw here at h) q, length-drop (i + 1) s)
+
+  there : get_or s i 0 ≡ 0x3D → drop i s ≡ get_or s i 0 ∷ get_or s (i + 1) 0 ∷ drop (i + 2) s
+  there q =
+      let k : i + 1 + 1 ≡ i + 2 = omega arith in
+      here ∙ ap (λ (l : List ℕ). get_or s i 0 ∷ l) (rw k at (drop_step s (i + 1) (got_second q)))
+
+  pub got_fits : get_or s i 0 ≡ 0x3D → get_or s (i + 1) 0 ≤ 0x2E
+  got_fits q =
+      let r = within_range 0x2C 0x2E (get_or s (i + 1) 0) (first_escapee (get_or s i 0) (get_or s (i + 1) 0) (drop (i + 2) s) (rw (there q) at h) q) in
+      omega arith
+
+  pub got_plain : (get_or s i 0 ≡ 0x3D → ⊥) → (g : Got) → g.byte ≡ get_or s i 0 → g.next ≡ i + 1 → GotIs s i g
+  got_plain n g p q =
+      let f = ap ahead here ∙ first_plain (get_or s i 0) (drop (i + 1) s) (rw here at h) n in
+      record { on = omega arith; within = omega (arith, got_inside); step = rw (p, q) f }
+
+  pub got_escaped : get_or s i 0 ≡ 0x3D → (g : Got) → g.byte ≡ get_or s (i + 1) 0 + 0x10 → g.next ≡ i + 2 → GotIs s i g
+  got_escaped y g p q =
+      let f = ap ahead (there y) ∙ first_escaped (get_or s i 0) (get_or s (i + 1) 0) (drop (i + 2) s) (rw (there y) at h) y in
+      record { on = omega arith; within = omega (arith, got_second y); step = rw (p, q) f }
 
 -- ---- how many bytes a part stands for
 

@@ -1,5 +1,5 @@
 -- The bytes that an escaped part stands for.
-use Rattle.std.specs.Prelude.{◌≡◌, ℕ, suc, ◌≤◌, List, [], ◌∷◌, length, take, drop}
+use Rattle.std.specs.Prelude.{◌≡◌, ℕ, ◌≤◌, List, [], ◌∷◌, length, take, drop}
 use Rattle.std.proofs.lemmas.List.Edits.{sets}
 use Rattle.laws.specs.Answers.{Outcome, gives, refuses}
 use Rattle.mdr.specs.Escape.{unescape}
@@ -17,11 +17,11 @@ ahead s = bytes_of (unescape s)
 pub record Sound (s : List ℕ) : Type 0 where
   pub is : unescape s ≡ gives [] (ahead s)
 
--- the first byte, and how many bytes stand for it
-pub record GotIs (s : List ℕ) (g : Got) : Type 0 where
-  pub step : ahead s ≡ g.byte ∷ ahead (drop g.size s)
-  pub left : length (ahead s) ≡ suc (length (ahead (drop g.size s)))
-  pub within : g.size ≤ length s
+-- the byte at a place, and the place after it
+pub record GotIs (s : List ℕ) (i : ℕ) (g : Got) : Type 0 where
+  pub on : i ≤ g.next
+  pub within : g.next ≤ length s
+  pub step : ahead (drop i s) ≡ g.byte ∷ ahead (drop g.next s)
 
 -- the first k unescaped bytes are stored at a place, and r bytes stand for them
 pub record Filled (s d : List ℕ) (at k r : ℕ) (e : List ℕ) : Type 0 where

@@ -34,7 +34,7 @@ module _ (h : Head) where
   pub first_none : h.len ≡ 0 → 0 ≡ get_or (payload h) 0 0
   first_none e = rw e
 
-  pub first_some : (h.len ≡ 0 → ⊥) → (g : Got) → GotIs h.part.bytes.now g → g.byte ≡ get_or (payload h) 0 0
+  pub first_some : (h.len ≡ 0 → ⊥) → (g : Got) → GotIs h.part.bytes.now 0 g → g.byte ≡ get_or (payload h) 0 0
   first_some n g v =
       let l : 0 < h.len = omega arith in
       sym (get_or-take h.len (ahead h.part.bytes.now) 0 0 l ∙ rw v.step)

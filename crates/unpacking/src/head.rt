@@ -51,7 +51,7 @@ impl<'a> Head<'a> {
         if self.len == 0 {
             return 0;
         }
-        let g = get(self.part.bytes);
+        let g = get(self.part.bytes, 0);
         g.byte
     }
 }

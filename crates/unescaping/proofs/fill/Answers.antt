@@ -1,4 +1,4 @@
-use Rattle.unescaping.proofs.Filling.{fill_room, fill_blocks, fill_rest}
+use Rattle.unescaping.proofs.Filling.{fill_blocks, fill_rest}
 use Rattle.std.proofs.Common.{arith}
 use Rattle.unescaping.proofs.fill.Goals as goal
 
