@@ -7,6 +7,8 @@ ghost use Rattle.mdr.specs.Sum.{checksum_of};
 ghost use Rattle.mdr.specs.Escape.{within};
 ghost use Rattle.blocks.specs.Blocks.{Minus, Tallied, AllAre, Bare, Full};
 
+use words::copy_to;
+
 // ---- sums and counts
 
 // Whether a byte lies between two values.
@@ -100,16 +102,6 @@ pub fn checksum(bytes: &[u8]) -> u8
 
 // ---- storing
 
-// Stores a part at a place, and returns the place after it.
-pub fn copy(part: &[u8], out: &mut [u8], at: usize) -> usize
-    requires { at + length part.now ≤ length out.old }
-    ensures { Writes out.old at part.now result out.new }
-{
-    let end = at + part.len();
-    out[at..end].copy_from_slice(part);
-    end
-}
-
 // Sixteen bytes at once: all are loaded before the first is stored.
 pub fn copy_block(part: &[u8], out: &mut [u8], at: usize) -> usize
     requires part_len { length part.now ≡ 16 }
@@ -117,6 +109,6 @@ pub fn copy_block(part: &[u8], out: &mut [u8], at: usize) -> usize
     ensures { Writes out.old at part.now result out.new }
 {
     let mut block = [0u8; 16];
-    copy(part, &mut block, 0);
-    copy(&block, out, at)
+    copy_to(part, &mut block, 0);
+    copy_to(&block, out, at)
 }

@@ -1,6 +1,7 @@
 -- Storing escaped bytes, and a frame's parts one after another.
-use Rattle.std.proofs.Common.{◌≡◌, ℕ, ◌+◌, ◌-◌, ◌*◌, ◌/◌, ◌%◌, ◌<◌, ◌≤◌, Bool, true, false, cond, eqb, List, [], ◌∷◌, ◌++◌, length, get_or, take, drop, set, sym, refl, ap, ◌∙◌, append_assoc, add-one, arith, length-append, length-drop, take-append-drop, length-take-le, take_all, drop-drop, take-add, eqb-true, le-leb}
+use Rattle.std.proofs.Common.{◌≡◌, ℕ, ◌+◌, ◌-◌, ◌*◌, ◌/◌, ◌%◌, ◌<◌, ◌≤◌, Bool, true, false, cond, eqb, List, [], ◌∷◌, ◌++◌, length, get_or, take, drop, set, sym, refl, ap, ◌∙◌, append_assoc, append-nil, add-one, arith, length-append, length-drop, take-append-drop, length-take-le, take-add, eqb-true, le-leb}
 use borrow.Author.Tests.{lt-leb}
+use Rattle.std.proofs.lemmas.List.{take_rest}
 use Rattle.laws.proofs.Choice.{split_b}
 use Rattle.laws.proofs.Lists.{drop_step, drop_end}
 use Rattle.laws.specs.Stores.{Writes, Emitting}
@@ -18,7 +19,7 @@ use Rattle.blocks.specs.Blocks.{Tallied, Bare, Full}
 use Rattle.packing.specs.Escapes.{RanIs, MixedIs, framed}
 use Rattle.blocks.specs.declared.Totals.{Totals}
 use Rattle.packing.specs.declared.Ran.{Ran}
-use Rattle.blocks.proofs.Counting.{bit, total_append, drop_part}
+use Rattle.blocks.proofs.Counting.{bit, total_append}
 
 -- ---- one byte
 
@@ -38,47 +39,32 @@ module _ (out : List ℕ) (at b : ℕ) (t : Bool) (q : t ≡ special b) where
   pub put_plain : t ≡ false → Writes out at (escape_byte b) (at + 1) (set out at b)
   put_plain e = rw (sym q ∙ e) (record { next = refl; writes = refl })
 
--- ---- byte by byte
+-- ---- the rest of a part is still to be stored
 
-pub record Escaping (out₀ : List ℕ) (at₀ : ℕ) (part out : List ℕ) (at i : ℕ) : Type 0 where
-  pub few : i ≤ length part
-  pub emits : Emitting out₀ at₀ (escape part) out at (escape (drop i part))
+pub record Escaping (out₀ : List ℕ) (at₀ : ℕ) (part out : List ℕ) (at : ℕ) (rest : List ℕ) : Type 0 where
+  pub emits : Emitting out₀ at₀ (escape part) out at (escape rest)
 
-pub escape_start : (out : List ℕ) (at : ℕ) (part : List ℕ) → Escaping out at part out at 0
-escape_start out at part = record { few = omega arith; emits = emit_start out at (escape part) }
+pub escape_start : (out : List ℕ) (at : ℕ) (part : List ℕ) → Escaping out at part out at part
+escape_start out at part = record { emits = emit_start out at (escape part) }
 
-escape_step : (l : List ℕ) (i : ℕ) → i < length l → escape (drop i l) ≡ escape_byte (get_or l i 0) ++ escape (drop (i + 1) l)
-escape_step l i h = ap escape (drop_step l i h)
+escape_split : (l : List ℕ) (k : ℕ) → escape l ≡ escape (take k l) ++ escape (drop k l)
+escape_split l k = ap escape (sym (take-append-drop k l)) ∙ escape_append (take k l) (drop k l)
 
-escape_part : (l : List ℕ) (i j : ℕ) → i ≤ j → escape (drop i l) ≡ escape (take (j - i) (drop i l)) ++ escape (drop j l)
-escape_part l i j h = ap escape (drop_part l i j h) ∙ escape_append (take (j - i) (drop i l)) (drop j l)
+pub escape_least : (l : List ℕ) → length l ≤ length (escape l)
+escape_least l = omega (arith, escape_length l)
 
-module _ (out₀ : List ℕ) (at₀ : ℕ) (part out : List ℕ) (at i : ℕ) (s : Escaping out₀ at₀ part out at i) where
+-- byte by byte
+module _ (out₀ : List ℕ) (at₀ : ℕ) (part out : List ℕ) (at i : ℕ) (s : Escaping out₀ at₀ part out at (drop i part)) where
   pub escape_room : i < length part → at₀ + length (escape part) ≤ length out₀ → at + length (escape_byte (get_or part i 0)) ≤ length out
-  escape_room h l = emit_room out₀ at₀ (escape part) out at (escape (drop i part)) s.emits (escape_byte (get_or part i 0)) (escape (drop (i + 1) part)) (escape_step part i h) l
+  escape_room h l = emit_room out₀ at₀ (escape part) out at (escape (drop i part)) s.emits (escape_byte (get_or part i 0)) (escape (drop (i + 1) part)) (ap escape (drop_step part i h)) l
 
-  pub escape_turn : i < length part → (r : ℕ) (out' : List ℕ) → Writes out at (escape_byte (get_or part i 0)) r out' → Escaping out₀ at₀ part out' r (i + 1)
-  escape_turn h r out' v = record { few = omega arith; emits = emit_turn out₀ at₀ (escape part) out at (escape (drop i part)) s.emits (escape_byte (get_or part i 0)) (escape (drop (i + 1) part)) r out' (escape_step part i h) v }
+  pub escape_turn : i < length part → (r : ℕ) (out' : List ℕ) → Writes out at (escape_byte (get_or part i 0)) r out' → Escaping out₀ at₀ part out' r (drop (i + 1) part)
+  escape_turn h r out' v = record { emits = emit_turn out₀ at₀ (escape part) out at (escape (drop i part)) s.emits (escape_byte (get_or part i 0)) (escape (drop (i + 1) part)) r out' (ap escape (drop_step part i h)) v }
 
   pub escape_end : length part ≤ i → Writes out₀ at₀ (escape part) at out
   escape_end h = emit_end out₀ at₀ (escape part) out at (escape (drop i part)) s.emits (ap escape (drop_end part i h))
 
-  -- block by block
-  pub escape_block_room : (k : ℕ) → k ≤ length part - i → at₀ + length (escape part) ≤ length out₀ → at + length (escape (take (i + k - i) (drop i part))) ≤ length out
-  escape_block_room k h l = emit_room out₀ at₀ (escape part) out at (escape (drop i part)) s.emits (escape (take (i + k - i) (drop i part))) (escape (drop (i + k) part)) (escape_part part i (i + k) (omega arith)) l
-
-  pub escape_block_turn : (k : ℕ) → k ≤ length part - i → (r : ℕ) (out' : List ℕ) → Writes out at (escape (take (i + k - i) (drop i part))) r out' → Escaping out₀ at₀ part out' r (i + k)
-  escape_block_turn k h r out' v = record { few = omega (arith, s.few); emits = emit_turn out₀ at₀ (escape part) out at (escape (drop i part)) s.emits (escape (take (i + k - i) (drop i part))) (escape (drop (i + k) part)) r out' (escape_part part i (i + k) (omega arith)) v }
-
-  pub escape_last_room : at₀ + length (escape part) ≤ length out₀ → at + length (escape (take (length part - i) (drop i part))) ≤ length out
-  escape_last_room l = emit_room out₀ at₀ (escape part) out at (escape (drop i part)) s.emits (escape (take (length part - i) (drop i part))) (escape (drop (length part) part)) (escape_part part i (length part) s.few) l
-
-  pub escape_last : (r : ℕ) (out' : List ℕ) → Writes out at (escape (take (length part - i) (drop i part))) r out' → Writes out₀ at₀ (escape part) r out'
-  escape_last r out' v =
-      emit_end out₀ at₀ (escape part) out' r (escape (drop (length part) part))
-      (emit_turn out₀ at₀ (escape part) out at (escape (drop i part)) s.emits (escape (take (length part - i) (drop i part))) (escape (drop (length part) part)) r out' (escape_part part i (length part) s.few) v)
-      (ap escape (drop_end part (length part) (omega arith)))
-
+-- a block of a run
 pub block_is : (l : List ℕ) (i k : ℕ) → k ≤ length l - i → length (take (i + k - i) (drop i l)) ≡ k
 block_is l i k h =
     let e : i + k - i ≡ k = omega arith in
@@ -99,25 +85,26 @@ bare_as l t out at r out' v y w = rw (escape_bare l (v.none y)) w
 pub bare_room : (l : List ℕ) (t : Bool) (out : List ℕ) (at : ℕ) → Bare 0x3C 0x3E l t → t ≡ true → at + length (escape l) ≤ length out → at + length l ≤ length out
 bare_room l t out at v y h = rw (escape_bare l (v.none y)) at h
 
-pub escape_least : (l : List ℕ) → length l ≤ length (escape l)
-escape_least l = omega (arith, escape_length l)
-
 -- ---- block by block: bare, or part by part
 
-module _ (out₀ : List ℕ) (at₀ : ℕ) (part out : List ℕ) (at i : ℕ) (s : Escaping out₀ at₀ part out at i) where
-  pub escape_bare_room : (k : ℕ) → k ≤ length part - i → at₀ + length (escape part) ≤ length out₀ → (t : Bool) → Bare 0x3C 0x3E (take (i + k - i) (drop i part)) t → t ≡ true → at + k ≤ length out
-  escape_bare_room k h l t v z = omega (arith, escape_block_room out₀ at₀ part out at i s k h l, escape_least (take (i + k - i) (drop i part)), block_is part i k h)
+module _ (out₀ : List ℕ) (at₀ : ℕ) (part out : List ℕ) (at : ℕ) (rest : List ℕ) (s : Escaping out₀ at₀ part out at rest) where
+  pub rest_room : at₀ + length (escape part) ≤ length out₀ → at + length (escape rest) ≤ length out
+  rest_room l = omega (arith, s.emits.next, s.emits.long)
 
-  pub escape_bare_turn : (k : ℕ) → k ≤ length part - i → (t : Bool) → Bare 0x3C 0x3E (take (i + k - i) (drop i part)) t → t ≡ true → (r : ℕ) (out' : List ℕ) → Writes out at (take (i + k - i) (drop i part)) r out' → Escaping out₀ at₀ part out' r (i + k)
-  escape_bare_turn k h t v z r out' w = escape_block_turn out₀ at₀ part out at i s k h r out' (bare_as (take (i + k - i) (drop i part)) t out at r out' v z w)
+  pub bare_space : (k : ℕ) → k ≤ length rest → at₀ + length (escape part) ≤ length out₀ → at + k ≤ length out
+  bare_space k h l = omega (arith, rest_room l, escape_least rest)
 
-  pub escape_mixed_room : at₀ + length (escape part) ≤ length out₀ → at + length (escape (drop i part)) ≤ length out
-  escape_mixed_room l = omega (arith, s.emits.next, s.emits.long)
+  part_turn : (k r : ℕ) (out' : List ℕ) → Writes out at (escape (take k rest)) r out' → Escaping out₀ at₀ part out' r (take (length rest - k) (drop k rest))
+  part_turn k r out' v = rw take_rest (record { emits = emit_turn out₀ at₀ (escape part) out at (escape rest) s.emits (escape (take k rest)) (escape (drop k rest)) r out' (escape_split rest k) v })
 
-  pub escape_mixed_turn : (r : Ran) (out' : List ℕ) → MixedIs part i out at r out' → Escaping out₀ at₀ part out' r.at (i + r.used)
-  escape_mixed_turn r out' v =
-      let k : i + r.used - i ≡ r.used = omega arith in
-      escape_block_turn out₀ at₀ part out at i s r.used (omega (arith, v.within)) r.at out' (rw k v.writes)
+  pub bare_turn : (k : ℕ) (t : Bool) → Bare 0x3C 0x3E (take k rest) t → t ≡ true → (r : ℕ) (out' : List ℕ) → Writes out at (take k rest) r out' → Escaping out₀ at₀ part out' r (take (length rest - k) (drop k rest))
+  bare_turn k t v z r out' w = part_turn k r out' (bare_as (take k rest) t out at r out' v z w)
+
+  pub mixed_turn : (r : Ran) (out' : List ℕ) → MixedIs rest out at r out' → Escaping out₀ at₀ part out' r.at (take (length rest - r.used) (drop r.used rest))
+  mixed_turn r out' v = part_turn r.used r.at out' v.ran.writes
+
+  pub rest_end : (r : ℕ) (out' : List ℕ) → Writes out at (escape rest) r out' → Writes out₀ at₀ (escape part) r out'
+  rest_end r out' v = emit_end out₀ at₀ (escape part) out' r [] (emit_turn out₀ at₀ (escape part) out at (escape rest) s.emits (escape rest) [] r out' (sym (append-nil (escape rest))) v) refl
 
 -- ---- a run of blocks
 
@@ -160,35 +147,28 @@ pub run_all : (part out₀ : List ℕ) (at₀ : ℕ) (out : List ℕ) (at k : �
 run_all part out₀ at₀ out at k s e r p q = run_end part out₀ at₀ out at (16 * k) s r (p ∙ rw e) q
 
 -- the first block, and what goes on
-module _ (part : List ℕ) (i : ℕ) (d : List ℕ) (at : ℕ) (n : i + 16 ≤ length part) where
-  first_is : take (i + 16 - i) (drop i part) ≡ take 16 (drop i part)
-  first_is = let e : i + 16 - i ≡ 16 = omega arith in rw e
+module _ (l d : List ℕ) (at : ℕ) where
+  pub first_room : at + length (escape l) ≤ length d → at + length (escape (take 16 l)) ≤ length d
+  first_room h = omega (arith, escape_front l 16)
 
-  rest_is : take (length part - (i + 16)) (drop (i + 16) part) ≡ drop 16 (drop i part)
-  rest_is = take_all (length part - (i + 16)) (drop (i + 16) part) (omega (arith, length-drop (i + 16) part)) ∙ sym (drop-drop 16 i part)
+  pub more_room : at + length (escape l) ≤ length d → (r : ℕ) (e : List ℕ) → Writes d at (escape (take 16 l)) r e → r + length (escape (take (length l - 16) (drop 16 l))) ≤ length e
+  more_room h r e w = rw take_rest (omega (arith, w.next, writes_long d at (escape (take 16 l)) r e w, ap length (escape_split l 16), length-append (escape (take 16 l)) (escape (drop 16 l))))
 
-  pub first_room : at + length (escape (drop i part)) ≤ length d → at + length (escape (take (i + 16 - i) (drop i part))) ≤ length d
-  first_room l = rw first_is (omega (arith, escape_front (drop i part) 16))
+  pub first_only : 16 ≤ length l → (r : Ran) (e : List ℕ) → Writes d at (escape (take 16 l)) r.at e → r.used ≡ 16 → MixedIs l d at r e
+  first_only h r e w q = record { least = omega arith; ran = record { few = omega arith; writes = rw q w } }
 
-  pub rest_room : at + length (escape (drop i part)) ≤ length d → (r : ℕ) (e : List ℕ) → Writes d at (escape (take (i + 16 - i) (drop i part))) r e → r + length (escape (take (length part - (i + 16)) (drop (i + 16) part))) ≤ length e
-  rest_room l r e w =
-      let u = rw first_is at w in
-      let b = ap escape (sym (take-append-drop 16 (drop i part))) ∙ escape_append (take 16 (drop i part)) (drop 16 (drop i part)) in
-      rw rest_is (omega (arith, u.next, writes_long d at (escape (take 16 (drop i part))) r e u, ap length b, length-append (escape (take 16 (drop i part))) (escape (drop 16 (drop i part)))))
-
-  pub first_only : (r : Ran) (e : List ℕ) → Writes d at (escape (take (i + 16 - i) (drop i part))) r.at e → r.used ≡ 16 → MixedIs part i d at r e
-  first_only r e w q = record { least = omega arith; within = omega arith; writes = rw q (rw first_is at w) }
-
-  pub first_more : (k : ℕ) (e : List ℕ) → Writes d at (escape (take (i + 16 - i) (drop i part))) k e → (q : Ran) (g : List ℕ) → RanIs (take (length part - (i + 16)) (drop (i + 16) part)) e k q g → (r : Ran) → r.used ≡ 16 + q.used → r.at ≡ q.at → MixedIs part i d at r g
-  first_more k e w q g v r x y =
-      let a : List ℕ = drop i part in
-      let u : RanIs (drop 16 a) e k q g = rw rest_is at v in
-      let z : escape (take (16 + q.used) a) ≡ escape (take 16 a) ++ escape (take q.used (drop 16 a)) = ap escape (take-add 16 q.used a) ∙ escape_append (take 16 a) (take q.used (drop 16 a)) in record {
+  pub first_more : 16 ≤ length l → (k : ℕ) (e : List ℕ) → Writes d at (escape (take 16 l)) k e → (q : Ran) (g : List ℕ) → RanIs (take (length l - 16) (drop 16 l)) e k q g → (r : Ran) → r.used ≡ 16 + q.used → r.at ≡ q.at → MixedIs l d at r g
+  first_more h k e w q g v r x y =
+      let u : RanIs (drop 16 l) e k q g = rw take_rest at v in
+      let z : escape (take (16 + q.used) l) ≡ escape (take 16 l) ++ escape (take q.used (drop 16 l)) = ap escape (take-add 16 q.used l) ∙ escape_append (take 16 l) (take q.used (drop 16 l)) in record {
         least = omega arith;
-        within = omega (arith, u.few, length-drop 16 a, length-drop i part);
-        writes = rw (x, y, z) (writes_then d at (escape (take 16 a)) k e (escape (take q.used (drop 16 a))) q.at g (rw first_is at w) u.writes);
+        ran = record {
+          few = omega (arith, u.few, length-drop 16 l);
+          writes = rw (x, y, z) (writes_then d at (escape (take 16 l)) k e (escape (take q.used (drop 16 l))) q.at g w u.writes);
+        };
       }
 
+-- every byte of a block is escaped
 pub full_is : (l : List ℕ) (t : Bool) → Full 0x3C 0x3E l t → t ≡ true → count_in 0x3C 0x3E l ≡ length l
 full_is l t v z = v.all z
 

@@ -1,5 +1,5 @@
 -- What the parts of packing promise each other.
-use Rattle.std.specs.Prelude.{ℕ, ◌+◌, ◌-◌, ◌*◌, ◌/◌, ◌%◌, ◌≤◌, List, [], ◌∷◌, ◌++◌, length, take, drop}
+use Rattle.std.specs.Prelude.{ℕ, ◌+◌, ◌-◌, ◌*◌, ◌/◌, ◌%◌, ◌≤◌, List, [], ◌∷◌, ◌++◌, length, take}
 use Rattle.laws.specs.Stores.{Writes}
 use Rattle.mdr.specs.Escape.{escape_byte, escape}
 use Rattle.packing.specs.declared.Ran.{Ran}
@@ -18,11 +18,10 @@ pub record RanIs (l d : List ℕ) (at : ℕ) (r : Ran) (e : List ℕ) : Type 0 w
   pub few : r.used ≤ length l
   pub writes : Writes d at (escape (take r.used l)) r.at e
 
--- the same from a place on, sixteen at least
-pub record MixedIs (l : List ℕ) (i : ℕ) (d : List ℕ) (at : ℕ) (r : Ran) (e : List ℕ) : Type 0 where
+-- the same, sixteen at least
+pub record MixedIs (l d : List ℕ) (at : ℕ) (r : Ran) (e : List ℕ) : Type 0 where
   pub least : 16 ≤ r.used
-  pub within : i + r.used ≤ length l
-  pub writes : Writes d at (escape (take r.used (drop i l))) r.at e
+  pub ran : RanIs l d at r e
 
 -- a frame by its parts: header, payload, sum
 unfoldable pub framed : List ℕ → List ℕ → ℕ → List ℕ

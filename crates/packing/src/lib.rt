@@ -1,7 +1,7 @@
 // Packing: escaping, and a frame's wire.
 #![tactic(auto)]
 
-ghost use Rattle.std.specs.Prelude.{◌≡◌, ◌+◌, ◌*◌, ◌/◌, ◌%◌, ◌<◌, ◌≤◌, [], ◌∷◌, ◌++◌, length, drop};
+ghost use Rattle.std.specs.Prelude.{◌≡◌, ◌+◌, ◌*◌, ◌/◌, ◌%◌, ◌<◌, ◌≤◌, [], ◌∷◌, ◌++◌, length};
 ghost use Rattle.laws.specs.Stores.{Writes};
 ghost use Rattle.laws.specs.Answers.{Meets};
 ghost use Rattle.mdr.specs.Escaping.{count_in};
@@ -11,8 +11,9 @@ ghost use Rattle.mdr.specs.Told.{told_packed};
 ghost use Rattle.blocks.specs.Blocks.{Bare};
 ghost use Rattle.packing.specs.Escapes.{twins, parted, RanIs, MixedIs, framed};
 
-use blocks::{copy, copy_block, is_bare, is_full, is_within, tally, tally_few};
+use blocks::{copy_block, is_bare, is_full, is_within, tally, tally_few};
 use mdr::PackError;
+use words::copy_to;
 
 // ---- escaping
 
@@ -107,17 +108,15 @@ fn escape_run(src: &[u8], out: &mut [u8], from: usize) -> Ran
     }
 }
 
-// The next sixteen bytes from a place on, and, if every one of them was escaped, a run after them.
-fn escape_mixed(src: &[u8], i: usize, out: &mut [u8], from: usize) -> Ran
-    requires i_in_bounds { i + 16 ≤ length src.now }
-    requires src_in_bounds { from + length (escape (drop i src.now)) ≤ length out.old }
-    ensures { MixedIs src.now i out.old from result out.new }
+// The first sixteen bytes, and, if every one of them was escaped, a run after them.
+fn escape_mixed(src: &[u8], out: &mut [u8], from: usize) -> Ran
+    requires long { 16 ≤ length src.now }
+    requires src_in_bounds { from + length (escape src.now) ≤ length out.old }
+    ensures { MixedIs src.now out.old from result out.new }
 {
-    let n = src.len();
-    let j = i + 16;
-    let at = escape_few(&src[i..j], out, from);
+    let at = escape_few(&src[..16], out, from);
     if at - from == 32 {
-        let r = escape_run(&src[j..n], out, at);
+        let r = escape_run(&src[16..], out, at);
         return Ran {
             used: 16 + r.used,
             at: r.at,
@@ -131,35 +130,41 @@ fn escape_at(src: &[u8], out: &mut [u8], from: usize) -> usize
     requires { from + length (escape src.now) ≤ length out.old }
     ensures { Writes out.old from (escape src.now) result out.new }
 {
-    let n = src.len();
-    let mut at: usize = from;
-    let mut i: usize = 0;
-    while 16 <= n - i {
-        let j = i + 16;
-        if is_bare::<0x3C, 0x3E>(&src[i..j]) {
-            at = copy_block(&src[i..j], out, at);
-            i = j;
+    let mut rest = src;
+    let mut at = from;
+    while 16 <= rest.len() {
+        let block = &rest[..16];
+        if is_bare::<0x3C, 0x3E>(block) {
+            at = copy_block(block, out, at);
+            rest = &rest[16..];
         } else {
-            let r = escape_mixed(src, i, out, at);
+            let r = escape_mixed(rest, out, at);
             at = r.at;
-            i += r.used;
+            rest = &rest[r.used..];
         }
     }
-    escape_few(&src[i..n], out, at)
-}
-
-fn write_escaped(src: &[u8], bare: bool, out: &mut [u8], at: usize) -> usize
-    requires bare { Bare 0x3C 0x3E src.now bare }
-    requires src_in_bounds { at + length (escape src.now) ≤ length out.old }
-    ensures { Writes out.old at (escape src.now) result out.new }
-{
-    if bare {
-        return copy(src, out, at);
-    }
-    escape_at(src, out, at)
+    escape_few(rest, out, at)
 }
 
 // ---- the frame
+
+// A payload, and whether it is known that none of its bytes is escaped.
+#[derive(Clone, Copy)]
+struct Payload<'a> {
+    bytes: &'a [u8],
+    bare: bool,
+    ghost unescaped: { Bare 0x3C 0x3E bytes.now bare },
+}
+
+fn write_payload(p: Payload, out: &mut [u8], at: usize) -> usize
+    requires { at + length (escape p.bytes.now) ≤ length out.old }
+    ensures { Writes out.old at (escape p.entry.bytes.now) result out.new }
+{
+    if p.bare {
+        return copy_to(p.bytes, out, at);
+    }
+    escape_at(p.bytes, out, at)
+}
 
 fn head_of(kind: u8, seq: u8, n: usize) -> [u8; 6]
     ensures { result ≡ head_of kind seq n }
@@ -192,13 +197,12 @@ fn end_frame(sum: u8, out: &mut [u8], from: usize) -> usize
     put_byte(out, at, 0x3C)
 }
 
-fn write_frame(head: &[u8; 6], payload: &[u8], bare: bool, sum: u8, out: &mut [u8]) -> usize
-    requires bare { Bare 0x3C 0x3E payload.now bare }
-    requires sum_in_bounds { length (framed head.now payload.now sum) ≤ length out.old }
-    ensures { Writes out.old 0 (framed head.now payload.now sum) result out.new }
+fn write_frame(head: &[u8; 6], p: Payload, sum: u8, out: &mut [u8]) -> usize
+    requires { length (framed head.now p.bytes.now sum) ≤ length out.old }
+    ensures { Writes out.old 0 (framed head.now p.entry.bytes.now sum) result out.new }
 {
     let a = start_frame(head, out);
-    let b = write_escaped(payload, bare, out, a);
+    let b = write_payload(p, out, a);
     end_frame(sum, out, b)
 }
 
@@ -219,6 +223,10 @@ pub fn pack(kind: u8, seq: u8, payload: &[u8], out: &mut [u8]) -> Result<usize, 
     if out.len() < needed {
         return Err(PackError::OutShort(needed));
     }
-    write_frame(&head, payload, t.hits == 0, sum, out);
+    let p = Payload {
+        bytes: payload,
+        bare: t.hits == 0,
+    };
+    write_frame(&head, p, sum, out);
     Ok(needed)
 }

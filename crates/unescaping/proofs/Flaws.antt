@@ -1,6 +1,7 @@
 -- Where escaping is first broken: pair by pair, part by part, and what unescaping says of it.
-use Rattle.std.proofs.Common.{◌≡◌, ℕ, zero, suc, ◌+◌, ◌-◌, ◌%◌, ◌<◌, ◌≤◌, Bool, true, false, cond, not, eqb, List, [], ◌∷◌, length, get_or, take, drop, sym, refl, ap, ◌∙◌, subst, arith, length-drop, length-take-le, take_all, take-take, drop-drop, eq-eqb, ne_eqb, eqb-true}
+use Rattle.std.proofs.Common.{◌≡◌, ℕ, zero, suc, ◌+◌, ◌-◌, ◌%◌, ◌<◌, ◌≤◌, Bool, true, false, cond, not, eqb, List, [], ◌∷◌, ◌++◌, length, get_or, take, drop, sym, refl, ap, ◌∙◌, subst, arith, length-drop, length-take-le, take-take, take-append-drop, append-nil, eq-eqb, ne_eqb, eqb-true}
 use lib.Seq.{take-nil, take-length}
+use Rattle.std.proofs.lemmas.List.{take_rest}
 use borrow.Author.Tests.{eqb-false}
 use Rattle.laws.proofs.Choice.{split_b, no_way}
 use Rattle.laws.proofs.Lists.{drop_step, drop_end}
@@ -8,7 +9,7 @@ use Rattle.laws.specs.Answers.{refused, Outcome, gives, refuses}
 use Rattle.mdr.specs.Escape.{within, escapee, push, unescape}
 use Rattle.mdr.proofs.Escaping.{within_range}
 use Rattle.blocks.specs.Blocks.{Tallied}
-use Rattle.unescaping.specs.Flaws.{sentries, Measured, is_breach, breaches, breaches_after, flaw_of, Clean, FrontPart, KeptIf, LastPart, SoundIf, ScannedIs}
+use Rattle.unescaping.specs.Flaws.{sentries, Measured, is_breach, breaches, breaches_after, flaw_of, FrontPart, KeptIf, LastPart, SoundIf, ScannedIs}
 use Rattle.unescaping.specs.Places.{bytes_of}
 use Rattle.blocks.specs.declared.Totals.{Totals}
 use Rattle.unescaping.specs.declared.Scanned.{Scanned}
@@ -17,7 +18,7 @@ use Rattle.std.specs.Int.{from_bool}
 use Rattle.mdr.specs.declared.UnpackError.{UnpackError}
 use Rattle.mdr.specs.declared.UnpackError.TheVariants.{TrailingSentry, BadEscapee}
 use Rattle.mdr.specs.Told.{told_error}
-use Rattle.blocks.proofs.Counting.{bit, Tallying, tally_start, tally_block, tally_last}
+use Rattle.blocks.proofs.Counting.{bit, Tallying, tally_start, tally_part, tally_end}
 use Rattle.unescaping.proofs.Unescaping.{sentry}
 
 -- ---- what unescaping says
@@ -133,6 +134,10 @@ bare_flaw (b ∷ bs) e =
     (λ t. no_way (sentry b t) (none (within 0x3D 0x3D b) (sentries bs) e))
     (λ t. rw t (bare_flaw bs (omega arith)))
 
+nothing : (l : List ℕ) → length l ≡ 0 → l ≡ []
+nothing [] n = refl
+nothing (b ∷ bs) n = absurd (omega arith)
+
 none_flaw : flaw_of [] ≡ Ok tt
 unfolding flaw_of
 none_flaw = refl
@@ -172,38 +177,28 @@ module _ (l : List ℕ) (found i : ℕ) (s : Breaking l found i) where
   pub break_end : length l - 1 ≤ i → found ≡ breaches l
   break_end h = omega (arith, ap breaches (last_one l i (omega (arith, s.few))))
 
--- ---- the loop that stops at the first
+-- ---- the loop that stops at the first: r is what is left
 
-pub clean_start : (s : List ℕ) → Clean s 0
-clean_start s = record { few = omega arith; same = refl }
-
-module _ (s : List ℕ) (i : ℕ) (c : Clean s i) where
-  pub clean_plain : i < length s → (get_or s i 0 ≡ 0x3D → ⊥) → Clean s (i + 1)
+module _ (s r t : List ℕ) (b : ℕ) (c : flaw_of r ≡ flaw_of s) (p : r ≡ b ∷ t) where
+  pub flaw_plain : (b ≡ 0x3D → ⊥) → flaw_of t ≡ flaw_of s
   unfolding flaw_of
-  clean_plain h n = record {
-    few = omega arith;
-    same = sym (ap flaw_of (drop_step s i h) ∙ rw (ne_eqb (get_or s i 0) 0x3D n)) ∙ c.same;
-  }
+  flaw_plain n = sym (ap flaw_of p ∙ rw (ne_eqb b 0x3D n)) ∙ c
 
-  pub clean_pair : i < length s → get_or s i 0 ≡ 0x3D → i + 1 < length s → (t : Bool) → t ≡ escapee (get_or s (i + 1) 0) → t ≡ true → Clean s (i + 1 + 1)
+  pub flaw_trailing : b ≡ 0x3D → length t ≡ 0 → Err TrailingSentry ≡ flaw_of s
   unfolding flaw_of
-  clean_pair h p l t q u = record {
-    few = omega arith;
-    same = sym (ap flaw_of (drop_step s i h ∙ ap (λ (x : List ℕ). get_or s i 0 ∷ x) (drop_step s (i + 1) l)) ∙ rw (eq-eqb (get_or s i 0) 0x3D p, sym q ∙ u, escapee_plain (get_or s (i + 1) 0) (sym q ∙ u))) ∙ c.same;
-  }
+  flaw_trailing q n = sym (ap flaw_of p ∙ rw (nothing t n, eq-eqb b 0x3D q)) ∙ c
 
-  pub flaw_trailing : i < length s → get_or s i 0 ≡ 0x3D → length s ≤ i + 1 → Err TrailingSentry ≡ flaw_of s
-  unfolding flaw_of
-  flaw_trailing h p l = sym (ap flaw_of (last_one s i (omega arith)) ∙ rw (eq-eqb (get_or s i 0) 0x3D p)) ∙ c.same
+  module _ (u : List ℕ) (e : ℕ) (q : b ≡ 0x3D) (v : t ≡ e ∷ u) (w : Bool) (x : w ≡ escapee e) where
+    pub flaw_bad : w ≡ false → Err (BadEscapee e) ≡ flaw_of s
+    unfolding flaw_of
+    flaw_bad y = sym (ap flaw_of (p ∙ ap (λ (l : List ℕ). b ∷ l) v) ∙ rw (eq-eqb b 0x3D q, sym x ∙ y)) ∙ c
 
-  pub flaw_bad : i < length s → get_or s i 0 ≡ 0x3D → i + 1 < length s → (t : Bool) → t ≡ escapee (get_or s (i + 1) 0) → t ≡ false
-      → Err (BadEscapee (get_or s (i + 1) 0)) ≡ flaw_of s
-  unfolding flaw_of
-  flaw_bad h p l t q u = sym (ap flaw_of (drop_step s i h ∙ ap (λ (x : List ℕ). get_or s i 0 ∷ x) (drop_step s (i + 1) l)) ∙ rw (eq-eqb (get_or s i 0) 0x3D p, sym q ∙ u)) ∙ c.same
+    pub flaw_pair : w ≡ true → flaw_of u ≡ flaw_of s
+    unfolding flaw_of
+    flaw_pair y = sym (ap flaw_of (p ∙ ap (λ (l : List ℕ). b ∷ l) v) ∙ rw (eq-eqb b 0x3D q, sym x ∙ y, escapee_plain e (sym x ∙ y))) ∙ c
 
-  pub flaw_end : length s ≤ i → Ok tt ≡ flaw_of s
-  unfolding flaw_of
-  flaw_end l = sym (ap flaw_of (drop_end s i l)) ∙ c.same
+pub flaw_end : (s r : List ℕ) → flaw_of r ≡ flaw_of s → length r ≡ 0 → Ok tt ≡ flaw_of s
+flaw_end s r c n = sym (ap flaw_of (nothing r n) ∙ none_flaw) ∙ c
 
 -- ---- a part before the last, the last part
 
@@ -239,78 +234,66 @@ sound_unknown l = record { is = λ z. no_way z refl }
 
 -- ---- the scan
 
-pub record Scanning (s : List ℕ) (sum hits i : ℕ) : Type 0 where
-  pub left : i < length s
-  pub tallies : Tallying s 0x3D 0x3D sum hits (drop i s)
-  pub clean : Clean s i
+pub record Scanning (s : List ℕ) (sum hits : ℕ) (rest : List ℕ) : Type 0 where
+  pub left : 1 ≤ length rest
+  pub tallies : Tallying s 0x3D 0x3D sum hits rest
+  pub clean : flaw_of rest ≡ flaw_of s
 
-pub scan_start : (s : List ℕ) → 7 ≤ length s → Scanning s 0 0 0
-scan_start s h = record { left = omega arith; tallies = tally_start s 0x3D 0x3D; clean = clean_start s }
+pub scan_start : (s : List ℕ) → 7 ≤ length s → Scanning s 0 0 s
+scan_start s h = record { left = omega arith; tallies = tally_start s 0x3D 0x3D; clean = refl }
 
-module _ (s : List ℕ) (sum hits i : ℕ) (v : Scanning s sum hits i) where
-  clean_part : (k : ℕ) → k < length s - i → breaches (take (suc k) (drop i s)) ≡ 0 → Clean s (i + k)
-  clean_part k h e = record {
-    few = omega arith;
-    same = ap flaw_of (sym (drop-drop k i s)) ∙ sym (clean_over (drop i s) k (omega (arith, length-drop i s)) e) ∙ v.clean.same;
-  }
+-- a part of k bytes, looked at with the byte after it
+front_part : (rest : List ℕ) (k : ℕ) → k < length rest → k < 256 → (t : Totals) → Tallied (take k rest) 0x3D 0x3D t → FrontPart (take (suc k) rest) t.hits
+front_part rest k h l t w =
+    let n = length-take-le (suc k) rest (omega arith) in
+    let e : length (take (suc k) rest) - 1 ≡ k = omega arith in record {
+      some = omega arith;
+      few = omega arith;
+      found = w.hits ∙ ap sentries (sym (ap (λ (m : ℕ). take m (take (suc k) rest)) e ∙ take-take k (suc k) rest (omega arith)));
+    }
 
-  front_same : (k : ℕ) → k < length s - i → length (take (i + k + 1 - i) (drop i s)) ≡ suc k
-  front_same k h =
-      let e : i + k + 1 - i ≡ suc k = omega arith in
-      rw e (length-take-le (suc k) (drop i s) (omega (arith, length-drop i s)))
+pub part_long : (rest : List ℕ) → 192 < length rest → length (take 192 rest) ≡ 192
+part_long rest h = length-take-le 192 rest (omega arith)
 
-  front_part : (k : ℕ) → k < length s - i → k < 256 → (t : Totals) → Tallied (take (i + k - i) (drop i s)) 0x3D 0x3D t
-      → FrontPart (take (i + k + 1 - i) (drop i s)) t.hits
-  front_part k h l t w =
-      let n = front_same k h in
-      let e : length (take (i + k + 1 - i) (drop i s)) - 1 ≡ i + k - i = omega arith in record {
-        some = omega arith;
-        few = omega arith;
-        found = w.hits ∙ ap sentries (sym (ap (λ (m : ℕ). take m (take (i + k + 1 - i) (drop i s))) e ∙ take-take (i + k - i) (i + k + 1 - i) (drop i s) (omega arith)));
-      }
+module _ (s : List ℕ) (sum hits : ℕ) (rest : List ℕ) (v : Scanning s sum hits rest) where
+  pub scan_fits : 192 < length rest → (t : Totals) → Tallied (take 192 rest) 0x3D 0x3D t → hits + t.hits < length s
+  scan_fits h t w = omega (arith, v.tallies.most, w.most, part_long rest h)
 
-  pub scan_front : 192 < length s - i → (t : Totals) → Tallied (take (i + 192 - i) (drop i s)) 0x3D 0x3D t
-      → FrontPart (take (i + 192 + 1 - i) (drop i s)) t.hits
-  scan_front h t w = front_part 192 h (omega arith) t w
+  pub scan_front : 192 < length rest → (t : Totals) → Tallied (take 192 rest) 0x3D 0x3D t → FrontPart (take 193 rest) t.hits
+  scan_front h t w = front_part rest 192 h (omega arith) t w
 
-  pub scan_last : length s - i ≤ 192 → (t : Totals) → Tallied (take (length s - i) (drop i s)) 0x3D 0x3D t → LastPart (take (length s - i) (drop i s)) t.hits
-  scan_last h t w =
-      let n : length (take (length s - i) (drop i s)) ≡ length s - i = length-take-le (length s - i) (drop i s) (omega (arith, length-drop i s)) in
-      record { some = omega (arith, v.left); few = omega arith; found = w.hits }
+  pub scan_last : length rest ≤ 192 → (t : Totals) → Tallied rest 0x3D 0x3D t → LastPart rest t.hits
+  scan_last h t w = record { some = v.left; few = h; found = w.hits }
 
-  pub scan_kept : (k : ℕ) → k < length s - i → (t : Totals) → Tallied (take (i + k - i) (drop i s)) 0x3D 0x3D t → (y : Bool)
-      → KeptIf (take (i + k + 1 - i) (drop i s)) y → y ≡ true → (sum' : ℕ) → sum' ≡ (sum + t.sum) % 256 → Scanning s sum' (hits + t.hits) (i + k)
-  scan_kept k h t w y u z sum' p =
-      let e : i + k + 1 - i ≡ suc k = omega arith in record {
-        left = omega arith;
-        tallies = tally_block s 0x3D 0x3D sum hits i v.tallies k t w sum' p;
-        clean = clean_part k h (rw e at (u.none z));
-      }
+  pub scan_kept : 192 < length rest → (t : Totals) → Tallied (take 192 rest) 0x3D 0x3D t → (y : Bool) → KeptIf (take 193 rest) y → y ≡ true
+      → (sum' : ℕ) → sum' ≡ (sum + t.sum) % 256 → Scanning s sum' (hits + t.hits) (take (length rest - 192) (drop 192 rest))
+  scan_kept h t w y u z sum' p =
+      rw take_rest (record {
+        left = omega (arith, length-drop 192 rest);
+        tallies = tally_part s 0x3D 0x3D sum hits rest v.tallies (take 192 rest) (drop 192 rest) (sym (take-append-drop 192 rest)) t w sum' p;
+        clean = sym (clean_over rest 192 h (u.none z)) ∙ v.clean;
+      })
 
-  pub scan_broken : (k : ℕ) (y : Bool) → KeptIf (take (k - i) (drop i s)) y → y ≡ false → (r : Scanned) → r.at ≡ i → ScannedIs s r
-  scan_broken k y u z r e = record {
+  pub scan_broken : (y : Bool) → KeptIf (take 193 rest) y → y ≡ false → (r : Scanned) → r.rest.now ≡ rest → ScannedIs s r
+  scan_broken y u z r e = record {
     clean = rw e v.clean;
     counts = λ f.
-        let m : breaches (take (k - i) (drop i s)) ≡ 0 = sound_breaches (drop i s) (k - i) (v.clean.same ∙ f) in
+        let m : breaches (take 193 rest) ≡ 0 = sound_breaches rest 193 (v.clean ∙ f) in
         absurd (omega (arith, u.some z));
   }
 
-  last_part : (t : Totals) → Tallied (take (length s - i) (drop i s)) 0x3D 0x3D t → 7 ≤ length s → (r : Scanned) → r.sum ≡ (sum + t.sum) % 256
-      → r.hits ≡ hits + t.hits → Measured s r.sum r.hits
+  last_part : (t : Totals) → Tallied rest 0x3D 0x3D t → 7 ≤ length s → (r : Scanned) → r.sum ≡ (sum + t.sum) % 256 → r.hits ≡ hits + t.hits → Measured s r.sum r.hits
   last_part t w h r p q =
-      let u = tally_last s 0x3D 0x3D sum hits i v.tallies (omega (arith, v.left)) t w (record { sum = r.sum; hits = r.hits }) p q in
+      let x = tally_part s 0x3D 0x3D sum hits rest v.tallies rest [] (sym (append-nil rest)) t w r.sum p in
+      let u = tally_end s 0x3D 0x3D r.sum (hits + t.hits) [] x refl (record { sum = r.sum; hits = r.hits }) refl q in
       record { long = h; summed = u.sum; found = u.hits }
 
-  pub scan_open : (t : Totals) → Tallied (take (length s - i) (drop i s)) 0x3D 0x3D t → 7 ≤ length s → (r : Scanned) → r.sum ≡ (sum + t.sum) % 256
-      → r.hits ≡ hits + t.hits → r.at ≡ i → ScannedIs s r
+  pub scan_open : (t : Totals) → Tallied rest 0x3D 0x3D t → 7 ≤ length s → (r : Scanned) → r.sum ≡ (sum + t.sum) % 256 → r.hits ≡ hits + t.hits
+      → r.rest.now ≡ rest → ScannedIs s r
   scan_open t w h r p q e = record { clean = rw e v.clean; counts = λ f. last_part t w h r p q }
 
-  pub scan_sound : (t : Totals) → Tallied (take (length s - i) (drop i s)) 0x3D 0x3D t → 7 ≤ length s → (y : Bool)
-      → SoundIf (take (length s - i) (drop i s)) y → y ≡ true → (r : Scanned) → r.sum ≡ (sum + t.sum) % 256 → r.hits ≡ hits + t.hits
-      → r.at ≡ length s → ScannedIs s r
+  pub scan_sound : (t : Totals) → Tallied rest 0x3D 0x3D t → 7 ≤ length s → (y : Bool) → SoundIf rest y → y ≡ true
+      → (r : Scanned) → r.sum ≡ (sum + t.sum) % 256 → r.hits ≡ hits + t.hits → r.rest.now ≡ take (length rest - length rest) (drop (length rest) rest) → ScannedIs s r
   scan_sound t w h y u z r p q e =
-      let a : take (length s - i) (drop i s) ≡ drop i s = take_all (length s - i) (drop i s) (omega (arith, length-drop i s)) in
-      let f : flaw_of s ≡ Ok tt = sym v.clean.same ∙ ap flaw_of (sym a) ∙ u.is z in record {
-        clean = rw e (record { few = omega arith; same = ap flaw_of (drop_end s (length s) (omega arith)) ∙ none_flaw ∙ sym f });
-        counts = λ x. last_part t w h r p q;
-      }
+      let n : r.rest.now ≡ [] = e ∙ take_rest rest (length rest) ∙ drop_end rest (length rest) (omega arith) in
+      record { clean = rw n (none_flaw ∙ sym (u.is z)) ∙ v.clean; counts = λ x. last_part t w h r p q }

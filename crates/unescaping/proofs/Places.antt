@@ -1,80 +1,79 @@
--- Reading a byte at a place of a sound escaped part, and how many bytes lie ahead of a place.
-use Rattle.std.proofs.Common.{◌≡◌, ℕ, suc, ◌+◌, ◌-◌, ◌<◌, ◌≤◌, Bool, true, false, eqb, List, [], ◌∷◌, ◌++◌, length, get_or, take, drop, refl, ap, ◌∙◌, append-nil, arith, length-drop, take-append-drop, eq-eqb, ne_eqb}
-use Rattle.laws.proofs.Choice.{split_b, split≤}
-use Rattle.laws.proofs.Lists.{drop_step, drop_end}
+-- Reading a byte of a sound escaped part, and how many bytes a part stands for.
+use Rattle.std.proofs.Common.{◌≡◌, ℕ, suc, ◌+◌, ◌-◌, ◌<◌, ◌≤◌, Bool, true, false, eqb, List, [], ◌∷◌, ◌++◌, length, get_or, drop, refl, ap, ◌∙◌, append-nil, arith, length-drop, eq-eqb, ne_eqb}
+use Rattle.laws.proofs.Choice.{split_b}
+use Rattle.laws.proofs.Lists.{drop_step}
 use Rattle.laws.specs.Answers.{Outcome, gives, refuses}
 use Rattle.mdr.specs.Escape.{escapee, push, unescape, unescape_from}
-use Rattle.mdr.proofs.Escaping.{within_range, count_append}
+use Rattle.mdr.proofs.Escaping.{within_range}
 use Rattle.unescaping.specs.Places.{bytes_of, ahead, GotIs}
 use Rattle.unescaping.specs.Flaws.{sentries}
 use Rattle.unescaping.specs.declared.Got.{Got}
 use Rattle.unescaping.proofs.Unescaping.{unescape_bare, pushes_gives}
 
--- ---- reading at a place
-
-module _ (s : List ℕ) (i : ℕ) (h : i < length s) where
-  at_plain : (get_or s i 0 ≡ 0x3D → ⊥) → unescape (drop i s) ≡ push (get_or s i 0) (unescape (drop (i + 1) s))
-  at_plain n = rw (drop_step s i h) (rw (ne_eqb (get_or s i 0) 0x3D n))
-
-  at_sentry : get_or s i 0 ≡ 0x3D → unescape (drop i s) ≡ unescape_from true (drop (i + 1) s)
-  at_sentry e = rw (drop_step s i h) (rw (eq-eqb (get_or s i 0) 0x3D e))
-
-  at_escapee : escapee (get_or s i 0) ≡ true → unescape_from true (drop i s) ≡ push (get_or s i 0 + 0x10) (unescape (drop (i + 1) s))
-  at_escapee e = rw (drop_step s i h) (rw e)
-
-  at_bad : escapee (get_or s i 0) ≡ false → unescape_from true (drop i s) ≡ refuses 14 (get_or s i 0 ∷ [])
-  at_bad e = rw (drop_step s i h) (rw e)
-
--- ---- a byte of a sound part
-
 bytes_push : (b : ℕ) (o : Outcome) → 1 ≤ length (bytes_of (push b o)) → bytes_of (push b o) ≡ b ∷ bytes_of o
 bytes_push b (gives vs bs) h = refl
 bytes_push b (refuses n vs) h = absurd (omega arith)
 
-module _ (s : List ℕ) (i : ℕ) (h : 1 ≤ length (ahead s i)) where
+-- ---- the first byte of a part
+
+first_plain : (b : ℕ) (bs : List ℕ) → 1 ≤ length (ahead (b ∷ bs)) → (b ≡ 0x3D → ⊥) → ahead (b ∷ bs) ≡ b ∷ ahead bs
+unfolding ahead
+first_plain b bs h n = rw (ne_eqb b 0x3D n) (bytes_push b (unescape bs) (rw (ne_eqb b 0x3D n) at h))
+
+first_escapee : (b e : ℕ) (es : List ℕ) → 1 ≤ length (ahead (b ∷ e ∷ es)) → b ≡ 0x3D → escapee e ≡ true
+unfolding ahead
+first_escapee b e es h q = split_b (escapee e) (λ t. t) (λ t. let z = rw (eq-eqb b 0x3D q, t) at h in absurd (omega arith))
+
+first_escaped : (b e : ℕ) (es : List ℕ) → 1 ≤ length (ahead (b ∷ e ∷ es)) → b ≡ 0x3D → ahead (b ∷ e ∷ es) ≡ (e + 0x10) ∷ ahead es
+unfolding ahead
+first_escaped b e es h q =
+    let t = first_escapee b e es h q in
+    rw (eq-eqb b 0x3D q, t) (bytes_push (e + 0x10) (unescape es) (rw (eq-eqb b 0x3D q, t) at h))
+
+-- after a 3D there is an escapee
+first_more : (b : ℕ) (bs : List ℕ) → 1 ≤ length (ahead (b ∷ bs)) → b ≡ 0x3D → 1 ≤ length bs
+unfolding ahead
+first_more b [] h q = let z = rw (eq-eqb b 0x3D q) at h in absurd (omega arith)
+first_more b (e ∷ es) h q = omega arith
+
+some_inside : (s : List ℕ) → 1 ≤ length (ahead s) → 1 ≤ length s
+unfolding ahead
+some_inside [] h = absurd (omega arith)
+some_inside (b ∷ bs) h = omega arith
+
+-- ---- the byte at a place
+
+module _ (s : List ℕ) (i : ℕ) (h : 1 ≤ length (ahead (drop i s))) where
   pub got_inside : i < length s
-  unfolding ahead
-  got_inside = split≤ (length s) i (λ l. let e = ap (λ (x : List ℕ). length (bytes_of (unescape x))) (drop_end s i l) in absurd (omega arith)) (λ l. l)
+  got_inside = omega (arith, some_inside (drop i s) h, length-drop i s)
 
-  -- after a 3D there is an escapee
+  here : drop i s ≡ get_or s i 0 ∷ drop (i + 1) s
+  here = drop_step s i got_inside
+
   pub got_second : get_or s i 0 ≡ 0x3D → i + 1 < length s
-  unfolding ahead
-  got_second q =
-      let a : ahead s i ≡ bytes_of (unescape_from true (drop (i + 1) s)) = ap bytes_of (at_sentry s i got_inside q) in
-      split≤ (length s) (i + 1)
-      (λ l. let e = ap length a ∙ ap (λ (x : List ℕ). length (bytes_of (unescape_from true x))) (drop_end s (i + 1) l) in absurd (omega arith))
-      (λ l. l)
+  got_second q = omega (arith, first_more (get_or s i 0) (drop (i + 1) s) (rw here at h) q, length-drop (i + 1) s)
 
-  got_escapee : get_or s i 0 ≡ 0x3D → escapee (get_or s (i + 1) 0) ≡ true
-  unfolding ahead
-  got_escapee q =
-      split_b (escapee (get_or s (i + 1) 0))
-      (λ t. t)
-      (λ t.
-      let e : ahead s i ≡ [] = ap bytes_of (at_sentry s i got_inside q ∙ at_bad s (i + 1) (got_second q) t) in
-      let z : length (ahead s i) ≡ 0 = ap length e in
-      absurd (omega arith))
+  there : get_or s i 0 ≡ 0x3D → drop i s ≡ get_or s i 0 ∷ get_or s (i + 1) 0 ∷ drop (i + 2) s
+  there q =
+      let k : i + 1 + 1 ≡ i + 2 = omega arith in
+      here ∙ ap (λ (l : List ℕ). get_or s i 0 ∷ l) (rw k at (drop_step s (i + 1) (got_second q)))
 
   pub got_fits : get_or s i 0 ≡ 0x3D → get_or s (i + 1) 0 ≤ 0x2E
-  got_fits q = let r = within_range 0x2C 0x2E (get_or s (i + 1) 0) (got_escapee q) in omega arith
+  got_fits q =
+      let r = within_range 0x2C 0x2E (get_or s (i + 1) 0) (first_escapee (get_or s i 0) (get_or s (i + 1) 0) (drop (i + 2) s) (rw (there q) at h) q) in
+      omega arith
 
   pub got_plain : (get_or s i 0 ≡ 0x3D → ⊥) → (g : Got) → g.byte ≡ get_or s i 0 → g.next ≡ i + 1 → GotIs s i g
-  unfolding ahead
   got_plain n g p q =
-      let a : ahead s i ≡ bytes_of (push (get_or s i 0) (unescape (drop (i + 1) s))) = ap bytes_of (at_plain s i got_inside n) in
-      let e = a ∙ bytes_push (get_or s i 0) (unescape (drop (i + 1) s)) (omega (arith, ap length a)) in
-      record { on = omega arith; step = rw (p, q) e; left = rw q (ap length e) }
+      let f = ap ahead here ∙ first_plain (get_or s i 0) (drop (i + 1) s) (rw here at h) n in
+      record { on = omega arith; within = omega (arith, got_inside); step = rw (p, q) f }
 
   pub got_escaped : get_or s i 0 ≡ 0x3D → (g : Got) → g.byte ≡ get_or s (i + 1) 0 + 0x10 → g.next ≡ i + 2 → GotIs s i g
-  unfolding ahead
   got_escaped y g p q =
-      let k : i + 1 + 1 ≡ i + 2 = omega arith in
-      let u : Outcome = unescape (drop (i + 1 + 1) s) in
-      let a : ahead s i ≡ bytes_of (push (get_or s (i + 1) 0 + 0x10) u) = ap bytes_of (at_sentry s i got_inside y ∙ at_escapee s (i + 1) (got_second y) (got_escapee y)) in
-      let e = rw k at (a ∙ bytes_push (get_or s (i + 1) 0 + 0x10) u (omega (arith, ap length a))) in
-      record { on = omega arith; step = rw (p, q) e; left = rw q (ap length e) }
+      let f = ap ahead (there y) ∙ first_escaped (get_or s i 0) (get_or s (i + 1) 0) (drop (i + 2) s) (rw (there y) at h) y in
+      record { on = omega arith; within = omega (arith, got_second y); step = rw (p, q) f }
 
--- ---- how much lies ahead
+-- ---- how many bytes a part stands for
 
 push_most : (b n : ℕ) (o : Outcome) → length (bytes_of o) ≤ n → length (bytes_of (push b o)) ≤ suc n
 push_most b n (gives vs bs) h = omega arith
@@ -91,15 +90,13 @@ bytes_most true (b ∷ bs) =
     let f = push_most (b + 0x10) (length bs) (unescape_from false bs) (bytes_most false bs) in
     split_b (escapee b) (λ e. rw e f) (λ e. rw e (omega arith))
 
-pub ahead_most : (s : List ℕ) (i n : ℕ) → n ≤ length (ahead s i) → n ≤ length s - i
+pub ahead_most : (s : List ℕ) → length (ahead s) ≤ length s
 unfolding ahead
-ahead_most s i n h = omega (arith, bytes_most false (drop i s), length-drop i s)
+ahead_most s = bytes_most false s
 
--- where nothing is escaped, the bytes ahead are those that stand there
-pub ahead_bare : (s : List ℕ) (i : ℕ) → sentries s ≡ 0 → ahead s i ≡ drop i s
+-- where nothing is escaped, the bytes are those that stand there
+pub ahead_bare : (s : List ℕ) → sentries s ≡ 0 → ahead s ≡ s
 unfolding ahead
-ahead_bare s i e =
-    let k = ap sentries (take-append-drop i s) in
-    let n : sentries (drop i s) ≡ 0 = omega (arith, count_append 0x3D 0x3D (take i s) (drop i s)) in
-    let u : unescape (drop i s ++ []) ≡ gives [] (drop i s ++ []) = unescape_bare (drop i s) [] n ∙ pushes_gives (drop i s) [] [] in
+ahead_bare s e =
+    let u : unescape (s ++ []) ≡ gives [] (s ++ []) = unescape_bare s [] e ∙ pushes_gives s [] [] in
     ap bytes_of (rw append-nil at u)

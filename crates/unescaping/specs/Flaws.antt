@@ -1,5 +1,5 @@
 -- Where escaping is first broken, and what a first look at an escaped part tells.
-use Rattle.std.specs.Prelude.{◌≡◌, ℕ, ◌+◌, ◌-◌, ◌%◌, ◌≤◌, Bool, true, false, cond, List, [], ◌∷◌, length, take, drop, ◌==◌, Result, Ok, Err}
+use Rattle.std.specs.Prelude.{◌≡◌, ℕ, ◌+◌, ◌-◌, ◌%◌, ◌≤◌, Bool, true, false, cond, List, [], ◌∷◌, length, take, ◌==◌, Result, Ok, Err}
 use Rattle.mdr.specs.Sum.{total}
 use Rattle.mdr.specs.Escape.{escapee}
 use Rattle.mdr.specs.Escaping.{count_in}
@@ -38,11 +38,6 @@ unfoldable pub flaw_of : List ℕ → Result Unit UnpackError
 flaw_of [] = Ok tt
 flaw_of (b ∷ bs) = cond (b == 0x3D) (flaw_next bs (flaw_of bs)) (flaw_of bs)
 
--- none stands before a place
-pub record Clean (s : List ℕ) (i : ℕ) : Type 0 where
-  pub few : i ≤ length s
-  pub same : flaw_of (drop i s) ≡ flaw_of s
-
 -- a part, and how many of its bytes but the last are 3D
 pub record FrontPart (l : List ℕ) (hits : ℕ) : Type 0 where
   pub some : 1 ≤ length l
@@ -63,5 +58,5 @@ pub record SoundIf (l : List ℕ) (sound : Bool) : Type 0 where
   pub is : sound ≡ true → flaw_of l ≡ Ok tt
 
 pub record ScannedIs (s : List ℕ) (r : Scanned) : Type 0 where
-  pub clean : Clean s r.at
+  pub clean : flaw_of r.rest.now ≡ flaw_of s
   pub counts : flaw_of s ≡ Ok tt → Measured s r.sum r.hits

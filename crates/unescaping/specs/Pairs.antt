@@ -1,5 +1,5 @@
 -- Escaped bytes by pairs: a 3D and what follows it as one number.
-use Rattle.std.specs.Prelude.{◌≡◌, ℕ, ◌+◌, ◌-◌, ◌*◌, ◌/◌, ◌%◌, ◌<◌, ◌≤◌, Bool, true, List, [], ◌∷◌, length, take, drop, slice_index}
+use Rattle.std.specs.Prelude.{◌≡◌, ℕ, ◌+◌, ◌*◌, ◌/◌, ◌%◌, ◌<◌, ◌≤◌, Bool, true, List, [], ◌∷◌, length, take, slice_index}
 use Rattle.mdr.specs.Escape.{escapee}
 
 -- the two bytes that follow so many pairs, as one number, the lowest first
@@ -23,9 +23,9 @@ pub record Paired (l : List ℕ) : Type 0 where
 pub record PairedIf (l : List ℕ) (t : Bool) : Type 0 where
   pub is : t ≡ true → Paired l
 
-pub record DenseIf (s : List ℕ) (i : ℕ) (t : Bool) : Type 0 where
-  pub within : t ≡ true → i + 32 ≤ length s
-  pub is : t ≡ true → Paired (take (i + 32 - i) (drop i s))
+pub record DenseIf (s : List ℕ) (t : Bool) : Type 0 where
+  pub within : t ≡ true → 32 ≤ length s
+  pub is : t ≡ true → Paired (take 32 s)
 
 -- the bytes that they stand for
 unfoldable pub halves : List ℕ → List ℕ

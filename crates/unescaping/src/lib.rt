@@ -1,14 +1,15 @@
 // An escaped part: where escaping is first broken, the byte at a place, storing the bytes that it stands for.
 #![tactic(auto)]
 
-ghost use Rattle.std.specs.Prelude.{◌≡◌, ◌+◌, ◌*◌, ◌/◌, ◌≤◌, length, ◌==◌};
+ghost use Rattle.std.specs.Prelude.{◌≡◌, ◌+◌, ◌*◌, ◌/◌, ◌≤◌, length, drop, ◌==◌};
 ghost use Rattle.laws.specs.Stores.{Writes};
 ghost use Rattle.unescaping.specs.Places.{ahead, GotIs, Filled};
-ghost use Rattle.unescaping.specs.Flaws.{is_breach, breaches, flaw_of, Clean, FrontPart, KeptIf, LastPart, SoundIf, ScannedIs};
+ghost use Rattle.unescaping.specs.Flaws.{is_breach, breaches, flaw_of, FrontPart, KeptIf, LastPart, SoundIf, ScannedIs};
 ghost use Rattle.unescaping.specs.Pairs.{PairIs, Pair, PairIf, Paired, PairedIf, DenseIf, halves};
 
-use blocks::{copy, copy_block, is_bare, is_within, tally_few};
+use blocks::{copy_block, is_bare, is_within, tally_few};
 use mdr::UnpackError;
+use words::copy_to;
 
 // ---- where escaping is broken
 
@@ -33,24 +34,19 @@ fn count_breaks(part: &[u8]) -> u8
     found
 }
 
-// Refuses a part by the first place where escaping is broken, from a place on before which it is not.
-pub fn first_flaw(s: &[u8], from: usize) -> Result<(), UnpackError>
-    requires { Clean s.now from }
+// Refuses a part by the first place where escaping is broken.
+pub fn first_flaw(s: &[u8]) -> Result<(), UnpackError>
     ensures { result ≡ flaw_of s.now }
 {
-    let mut i = from;
-    while i < s.len() {
-        let b = s[i];
-        i += 1;
+    let mut bytes = s.iter();
+    while let Some(&b) = bytes.next() {
         if b == 0x3D {
-            if s.len() <= i {
+            let Some(&e) = bytes.next() else {
                 return Err(UnpackError::TrailingSentry);
-            }
-            let e = s[i];
+            };
             if !is_within::<0x2C, 0x2E>(e) {
                 return Err(UnpackError::BadEscapee(e));
             }
-            i += 1;
         }
     }
     Ok(())
@@ -86,13 +82,13 @@ fn is_sound(part: &[u8], sentries: usize) -> bool
     count_breaks(part) == 0
 }
 
-// What a first look at an escaped part tells: escaping is not broken before a place, and if it is broken nowhere, these
+// What a first look at an escaped part tells: escaping is not broken before the rest, and if it is broken nowhere, these
 // are the bytes' sum and how many of them are 3D.
 #[derive(Clone, Copy)]
-pub struct Scanned {
+pub struct Scanned<'a> {
     pub sum: u8,
     pub hits: usize,
-    pub at: usize,
+    pub rest: &'a [u8],
 }
 
 // Part by part, up to the first in which escaping is broken.
@@ -100,30 +96,27 @@ pub fn scan(s: &[u8]) -> Scanned
     requires { 7 ≤ length s.now }
     ensures { ScannedIs s.now result }
 {
-    let n = s.len();
     let mut sum: u8 = 0;
     let mut hits: usize = 0;
-    let mut i: usize = 0;
+    let mut rest = s;
     // Stays: each part is looked at with the byte after it, so that parts overlap; chunks do not.
-    while 192 < n - i {
-        let j = i + 192;
-        let k = j + 1;
-        let t = tally_few::<0x3D, 0x3D>(&s[i..j]);
-        if is_kept(&s[i..k], t.hits) {
-            sum = sum.wrapping_add(t.sum);
-            hits += t.hits;
-            i = j;
-        } else {
-            return Scanned { sum, hits, at: i };
+    while 192 < rest.len() {
+        let t = tally_few::<0x3D, 0x3D>(&rest[..192]);
+        if !is_kept(&rest[..193], t.hits) {
+            return Scanned { sum, hits, rest };
         }
+        sum = sum.wrapping_add(t.sum);
+        hits += t.hits;
+        rest = &rest[192..];
     }
-    let t = tally_few::<0x3D, 0x3D>(&s[i..n]);
+    let t = tally_few::<0x3D, 0x3D>(rest);
     sum = sum.wrapping_add(t.sum);
     hits += t.hits;
-    if is_sound(&s[i..n], t.hits) {
-        i = n;
+    if is_sound(rest, t.hits) {
+        let rest = &rest[rest.len()..];
+        return Scanned { sum, hits, rest };
     }
-    Scanned { sum, hits, at: i }
+    Scanned { sum, hits, rest }
 }
 
 // ---- the bytes that it stands for
@@ -136,8 +129,9 @@ pub struct Got {
 }
 
 // The byte at a place.
+// Stays: with the rest in place of a place fill_few takes 6 instructions a byte, with the size of a byte 8; so it takes 5.
 pub fn get(s: &[u8], i: usize) -> Got
-    requires { 1 ≤ length (ahead s.now i) }
+    requires { 1 ≤ length (ahead (drop i s.now)) }
     ensures { GotIs s.now i result }
 {
     let b = s[i];
@@ -153,19 +147,19 @@ pub fn get(s: &[u8], i: usize) -> Got
     }
 }
 
-// Stores the next count unescaped bytes at a place, and returns where reading goes on.
-fn fill_few(s: &[u8], from: usize, out: &mut [u8], at: usize, count: usize) -> usize
-    requires count_in_bounds { count ≤ length (ahead s.now from) }
-    requires count_in_bounds_2 { at + count ≤ length out.old }
-    ensures { Filled s.now from out.old at count result out.new }
+// Stores the first count unescaped bytes at a place, and returns how many bytes stand for them.
+pub fn fill_few(s: &[u8], out: &mut [u8], at: usize, count: usize) -> usize
+    requires count_in_bounds { count ≤ length (ahead s.now) }
+    requires out_in_bounds { at + count ≤ length out.old }
+    ensures { Filled s.now out.old at count result out.new }
 {
-    let mut i = from;
+    let mut used = 0;
     for k in 0..count {
-        let g = get(s, i);
+        let g = get(s, used);
         out[at + k] = g.byte;
-        i = g.next;
+        used = g.next;
     }
-    i
+    used
 }
 
 // The two bytes that follow so many pairs.
@@ -215,55 +209,51 @@ fn unpair(part: &[u8], out: &mut [u8], at: usize) -> usize
     for i in 0..16 {
         block[i] = unpaired(pair_at(part, i));
     }
-    copy(&block, out, at)
+    copy_to(&block, out, at)
 }
 
-// Whether sixteen escaped bytes stand at a place; not looked at unless dense.
-fn is_dense(s: &[u8], from: usize, dense: bool) -> bool
-    requires { from ≤ length s.now }
-    ensures { DenseIf s.now from result }
+// Whether sixteen escaped bytes stand first; not looked at unless dense.
+fn is_dense(s: &[u8], dense: bool) -> bool
+    ensures { DenseIf s.now result }
 {
-    if dense {
-        if 32 <= s.len() - from {
-            let to = from + 32;
-            return is_paired(&s[from..to]);
-        }
+    if dense && 32 <= s.len() {
+        return is_paired(&s[..32]);
     }
     false
 }
 
-// Stores the next sixteen unescaped bytes. dense: it is worth a look whether all of them are escaped.
-fn fill_block(s: &[u8], from: usize, out: &mut [u8], at: usize, dense: bool) -> usize
-    requires in_bounds { 16 ≤ length (ahead s.now from) }
-    requires at_in_bounds { at + 16 ≤ length out.old }
-    ensures { Filled s.now from out.old at 16 result out.new }
+// Stores the first sixteen unescaped bytes, and returns how many bytes stand for them. dense: it is worth a look whether
+// all of them are escaped.
+fn fill_block(s: &[u8], out: &mut [u8], at: usize, dense: bool) -> usize
+    requires long { 16 ≤ length (ahead s.now) }
+    requires out_in_bounds { at + 16 ≤ length out.old }
+    ensures { Filled s.now out.old at 16 result out.new }
 {
-    if is_dense(s, from, dense) {
-        let end = from + 32;
-        unpair(&s[from..end], out, at);
-        return end;
+    if is_dense(s, dense) {
+        unpair(&s[..32], out, at);
+        return 32;
     }
-    let to = from + 16;
-    if is_bare::<0x3D, 0x3D>(&s[from..to]) {
-        copy_block(&s[from..to], out, at);
-        return to;
+    let block = &s[..16];
+    if is_bare::<0x3D, 0x3D>(block) {
+        copy_block(block, out, at);
+        return 16;
     }
-    fill_few(s, from, out, at, 16)
+    fill_few(s, out, at, 16)
 }
 
-// Stores the next count unescaped bytes at the front of the output, block by block.
-pub fn fill(s: &[u8], from: usize, out: &mut [u8], count: usize) -> usize
-    requires count_in_bounds { count ≤ length (ahead s.now from) }
-    requires count_in_bounds_2 { count ≤ length out.old }
-    ensures { Filled s.now from out.old 0 count result out.new }
+// Stores the first count unescaped bytes at the front of the output, block by block, and returns how many bytes stand for them.
+pub fn fill(s: &[u8], out: &mut [u8], count: usize) -> usize
+    requires count_in_bounds { count ≤ length (ahead s.now) }
+    requires out_in_bounds { count ≤ length out.old }
+    ensures { Filled s.now out.old 0 count result out.new }
 {
     let blocks = count / 16;
-    let mut i = from;
+    let mut used = 0;
     let mut dense = false;
     for b in 0..blocks {
-        let j = fill_block(s, i, out, 16 * b, dense);
-        dense = j - i == 32;
-        i = j;
+        let more = fill_block(&s[used..], out, 16 * b, dense);
+        dense = more == 32;
+        used += more;
     }
-    fill_few(s, i, out, 16 * blocks, count % 16)
+    used + fill_few(&s[used..], out, 16 * blocks, count % 16)
 }

@@ -1,20 +1,21 @@
 // Unpacking: what a wire says, its payload, and a look at it without an output.
 #![tactic(auto)]
 
-ghost use Rattle.std.specs.Prelude.{◌≡◌, ◌+◌, ◌*◌, ◌≤◌, ◌<◌, length, get_or, take};
-ghost use Rattle.std.proofs.lemmas.List.Edits.{sets};
+ghost use Rattle.std.specs.Prelude.{◌≡◌, ◌+◌, ◌*◌, ◌≤◌, length};
 ghost use Rattle.laws.specs.Answers.{Meets};
 ghost use Rattle.mdr.specs.Escape.{unescape};
 ghost use Rattle.mdr.specs.Frame.{judged, bodied, last_of, unpack_of, unpacks_of};
 ghost use Rattle.mdr.specs.Told.{told, told_inspected, glance};
-ghost use Rattle.blocks.specs.Blocks.{Bare};
 ghost use Rattle.unescaping.specs.Places.{ahead, Sound};
 ghost use Rattle.unescaping.specs.Flaws.{Measured};
-ghost use Rattle.unpacking.specs.Readings.{HeaderIs, Summed, Reads, inside};
+ghost use Rattle.unpacking.specs.Readings.{HeaderIs, Summed, Reads};
 
-use blocks::{copy, minus};
+mod head;
+
+use blocks::minus;
+use head::{Escaped, Head};
 use mdr::{Frame, UnpackError, Unpacked};
-use unescaping::{fill, first_flaw, get, scan};
+use unescaping::{fill_few, first_flaw, scan};
 
 // ---- the first six bytes, and the last
 
@@ -25,49 +26,47 @@ fn join(a: u8, b: u8, c: u8, d: u8) -> u64
     u64::from(u32::from_be_bytes([a, b, c, d]))
 }
 
-// The first six bytes, and where the payload starts.
+// The first six bytes, and the escaped part after them.
 #[derive(Clone, Copy)]
-struct Header {
+struct Header<'a> {
     kind: u8,
     seq: u8,
     declared: u64,
-    at: usize,
+    rest: Escaped<'a>,
 }
 
 fn escaped_header(s: &[u8]) -> Header
-    requires { 6 ≤ length (ahead s.now 0) }
+    requires { 6 ≤ length (ahead s.now) }
     ensures { HeaderIs s.now result }
 {
-    let a = get(s, 0);
-    let i = a.next;
-    let b = get(s, i);
-    let j = b.next;
-    let c = get(s, j);
-    let k = c.next;
-    let d = get(s, k);
-    let l = d.next;
-    let e = get(s, l);
-    let m = e.next;
-    let f = get(s, m);
+    let mut head = [0u8; 6];
+    let used = fill_few(s, &mut head, 0, 6);
+    let [kind, seq, a, b, c, d] = head;
     Header {
-        kind: a.byte,
-        seq: b.byte,
-        declared: join(c.byte, d.byte, e.byte, f.byte),
-        at: f.next,
+        kind,
+        seq,
+        declared: join(a, b, c, d),
+        rest: Escaped {
+            bytes: &s[used..],
+            bare: false,
+        },
     }
 }
 
-fn read_header(s: &[u8], bare: bool) -> Header
-    requires in_bounds { 6 ≤ length (ahead s.now 0) }
-    requires bare { Bare 0x3D 0x3D s.now bare }
-    ensures { HeaderIs s.now result }
+fn read_header(part: Escaped) -> Header
+    requires { 6 ≤ length (ahead part.bytes.now) }
+    ensures { HeaderIs part.entry.bytes.now result }
 {
-    if bare {
+    let s = part.bytes;
+    if part.bare {
         return Header {
             kind: s[0],
             seq: s[1],
             declared: join(s[2], s[3], s[4], s[5]),
-            at: 6,
+            rest: Escaped {
+                bytes: &s[6..],
+                bare: true,
+            },
         };
     }
     escaped_header(s)
@@ -77,7 +76,7 @@ fn read_header(s: &[u8], bare: bool) -> Header
 fn last_byte(s: &[u8]) -> u8
     requires in_bounds { 2 ≤ length s.now }
     requires sound { Sound s.now }
-    ensures { result ≡ last_of (ahead s.now 0) }
+    ensures { result ≡ last_of (ahead s.now) }
 {
     let n = s.len();
     let b = s[n - 1];
@@ -86,29 +85,17 @@ fn last_byte(s: &[u8]) -> u8
 
 // ---- reading
 
-// A frame that was found sound, and where its payload starts in the escaped part.
-#[derive(Clone, Copy)]
-struct Head {
-    kind: u8,
-    seq: u8,
-    len: usize,
-    at: usize,
-    // Nothing in the escaped part is escaped.
-    bare: bool,
-}
-
 // What the unescaped bytes say: there are n, last is the last and sum that of those before it.
-fn judge(s: &[u8], n: usize, sum: u8, last: u8, bare: bool) -> Result<Head, UnpackError>
-    requires summed { Summed (ahead s.now 0) n sum last }
-    requires bare { Bare 0x3D 0x3D s.now bare }
-    ensures { Reads (judged (ahead s.now 0)) s.now result }
+fn judge(part: Escaped, n: usize, sum: u8, last: u8) -> Result<Head, UnpackError>
+    requires { Summed (ahead part.bytes.now) n sum last }
+    ensures { Reads (judged (ahead part.entry.bytes.now)) result }
 {
     if n < 7 {
         return Err(UnpackError::BodyTooShort);
     }
     let len = n - 7;
     let actual = len as u64;
-    let h = read_header(s, bare);
+    let h = read_header(part);
     let declared = h.declared;
     if last != sum {
         return Err(UnpackError::BadChecksum(last, sum));
@@ -120,8 +107,7 @@ fn judge(s: &[u8], n: usize, sum: u8, last: u8, bare: bool) -> Result<Head, Unpa
         kind: h.kind,
         seq: h.seq,
         len,
-        at: h.at,
-        bare,
+        part: h.rest,
     })
 }
 
@@ -129,28 +115,32 @@ fn judge(s: &[u8], n: usize, sum: u8, last: u8, bare: bool) -> Result<Head, Unpa
 fn read_counted(s: &[u8], raw: u8, sentries: usize) -> Result<Head, UnpackError>
     requires measured { Measured s.now raw sentries }
     requires sound { Sound s.now }
-    ensures { Reads (bodied (unescape s.now)) s.now result }
+    ensures { Reads (bodied (unescape s.now)) result }
 {
     let n = s.len() - sentries;
     let last = last_byte(s);
     let off = (sentries % 256 * 45 % 256) as u8;
     let all = minus(raw, off);
     let sum = minus(all, last);
-    judge(s, n, sum, last, sentries == 0)
+    let part = Escaped {
+        bytes: s,
+        bare: sentries == 0,
+    };
+    judge(part, n, sum, last)
 }
 
 fn read_body(s: &[u8]) -> Result<Head, UnpackError>
     requires { 7 ≤ length s.now }
-    ensures { Reads (bodied (unescape s.now)) s.now result }
+    ensures { Reads (bodied (unescape s.now)) result }
 {
     let t = scan(s);
-    first_flaw(s, t.at)?;
+    first_flaw(t.rest)?;
     read_counted(s, t.sum, t.hits)
 }
 
 // What a wire says, before an output is looked at.
 fn read_frame(wire: &[u8]) -> Result<Head, UnpackError>
-    ensures { Reads (unpack_of wire.now) (inside wire.now) result }
+    ensures { Reads (unpack_of wire.now) result }
 {
     let n = wire.len();
     if n < 9 {
@@ -166,37 +156,21 @@ fn read_frame(wire: &[u8]) -> Result<Head, UnpackError>
     read_body(&wire[1..end])
 }
 
-// ---- the payload
-
-fn write_payload(s: &[u8], at: usize, len: usize, bare: bool, out: &mut [u8])
-    requires len_in_bounds { len < length (ahead s.now at) }
-    requires len_in_bounds_2 { len ≤ length out.old }
-    requires bare { Bare 0x3D 0x3D s.now bare }
-    ensures { out.new ≡ sets out.old 0 (take len (ahead s.now at)) }
-{
-    if bare {
-        let end = at + len;
-        copy(&s[at..end], out, 0);
-        return;
-    }
-    fill(s, at, out, len);
-}
+// ---- the calls
 
 // Reads one frame, and writes its payload to the front of out.
 pub fn unpack(wire: &[u8], out: &mut [u8]) -> Result<Unpacked, UnpackError>
     ensures { Meets (unpack_of wire.now) out.old (told result) out.new }
 {
     let h = read_frame(wire)?;
-    let len = h.len;
-    if out.len() < len {
-        return Err(UnpackError::OutShort(len));
+    if out.len() < h.len {
+        return Err(UnpackError::OutShort(h.len));
     }
-    let end = wire.len() - 1;
-    write_payload(&wire[1..end], h.at, len, h.bare, out);
+    h.write_payload(out);
     Ok(Unpacked {
         kind: h.kind,
         seq: h.seq,
-        len,
+        len: h.len,
     })
 }
 
@@ -207,28 +181,15 @@ pub fn unpacks(wire: &[u8]) -> bool
     read_frame(wire).is_ok()
 }
 
-fn first_byte(s: &[u8], at: usize, len: usize) -> u8
-    requires { len < length (ahead s.now at) }
-    ensures { result ≡ get_or (take len (ahead s.now at)) 0 0 }
-{
-    if len == 0 {
-        return 0;
-    }
-    let g = get(s, at);
-    g.byte
-}
-
 // Reads one frame without an output.
 pub fn inspect(wire: &[u8]) -> Result<Frame, UnpackError>
     ensures { told_inspected result ≡ glance (unpack_of wire.now) }
 {
     let h = read_frame(wire)?;
-    let end = wire.len() - 1;
-    let first = first_byte(&wire[1..end], h.at, h.len);
     Ok(Frame {
         kind: h.kind,
         seq: h.seq,
         size: h.len,
-        first,
+        first: h.first_byte(),
     })
 }

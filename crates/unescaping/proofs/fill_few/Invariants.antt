@@ -2,4 +2,4 @@ use Rattle.unescaping.proofs.Filling.{Filling}
 use Rattle.unescaping.proofs.fill_few.Given as goal
 
 abbrev pub invariant-loop-k : goal.invariant-loop-k
-invariant-loop-k l = Filling l.s l.from l.initial.out l.at l.count l.i l.out l.k
+invariant-loop-k l = Filling l.s l.initial.out l.at l.count l.used l.out l.k

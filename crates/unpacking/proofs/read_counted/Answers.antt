@@ -5,7 +5,7 @@ pub overflow_sub-n : goal.overflow_sub-n
 overflow_sub-n c = search sound_few
 
 pub judge-requires : goal.judge-requires
-judge-requires c = record { summed = search sound_summed; bare = search bare_if }
+judge-requires c = search sound_summed
 
 pub returns : goal.returns
 returns c = search body_sound

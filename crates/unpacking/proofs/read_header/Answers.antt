@@ -1,25 +1,31 @@
+use Rattle.std.proofs.Common.{refl, arith}
 use Rattle.unescaping.proofs.Places.{ahead_most}
 use Rattle.unpacking.proofs.Judging.{header_bare}
-use native.Mathlib.Omega.{arith}
 use Rattle.unpacking.proofs.read_header.Goals as goal
 
 pub bounds-s-0 : goal.bounds-s-0
-bounds-s-0 c = omega (arith, ahead_most _ 0 6 c.requires.in_bounds)
+bounds-s-0 c = omega (arith, ahead_most c.args.part.bytes.now)
 
 pub bounds-s-1 : goal.bounds-s-1
-bounds-s-1 c = omega (arith, ahead_most _ 0 6 c.requires.in_bounds)
+bounds-s-1 c = omega (arith, ahead_most c.args.part.bytes.now)
 
 pub bounds-s-2 : goal.bounds-s-2
-bounds-s-2 c = omega (arith, ahead_most _ 0 6 c.requires.in_bounds)
+bounds-s-2 c = omega (arith, ahead_most c.args.part.bytes.now)
 
 pub bounds-s-3 : goal.bounds-s-3
-bounds-s-3 c = omega (arith, ahead_most _ 0 6 c.requires.in_bounds)
+bounds-s-3 c = omega (arith, ahead_most c.args.part.bytes.now)
 
 pub bounds-s-4 : goal.bounds-s-4
-bounds-s-4 c = omega (arith, ahead_most _ 0 6 c.requires.in_bounds)
+bounds-s-4 c = omega (arith, ahead_most c.args.part.bytes.now)
 
 pub bounds-s-5 : goal.bounds-s-5
-bounds-s-5 c = omega (arith, ahead_most _ 0 6 c.requires.in_bounds)
+bounds-s-5 c = omega (arith, ahead_most c.args.part.bytes.now)
 
-pub returns-then-bare : goal.returns-then-bare
-returns-then-bare c = search header_bare
+pub slice_bounds-result-count : goal.slice_bounds-result-count
+slice_bounds-result-count c = omega (arith, ahead_most c.args.part.bytes.now)
+
+pub slice_bounds-result-start : goal.slice_bounds-result-start
+slice_bounds-result-start c = omega (arith, ahead_most c.args.part.bytes.now)
+
+pub returns-then-part : goal.returns-then-part
+returns-then-part c = header_bare _ _ c.args.part.unescaped c.if-part.true _ refl refl c.join.ensures refl
