@@ -1,38 +1,12 @@
--- Numbers and bytes of a part of a list, read in the list.
-use Prim.Native.Nat.{ℕ, zero, suc, ◌+◌, ◌-◌, ◌<◌, ◌≤◌}
+-- Numbers after a place of a list, and parts of a part, read in the list.
+use Prim.Native.Nat.{ℕ, zero, suc, ◌+◌, ◌-◌, ◌≤◌}
 use mathlib.Core.Path.{◌≡◌, sym, ap, ◌∙◌}
 use mathlib.Core.List.{List, [], ◌∷◌}
 use native.Mathlib.Omega.{arith}
-use lib.ListN.{get_or, take, drop}
-use lib.Seq.{get_or-take, get_or-drop, drop-drop, take-nil}
+use lib.ListN.{take, drop}
+use lib.Seq.{get_or-drop, drop-drop, take-nil}
 use Rattle.laws.specs.Numbers.{le32, be32, be64}
 use Rattle.words.proofs.Front.{part_take}
-
-module _ (f : List ℕ) (at k : ℕ) where
-  pub byte_part : (i : ℕ) → i < k → get_or (take k (drop at f)) i 0 ≡ get_or f (at + i) 0
-  byte_part i h = get_or-take k (drop at f) i 0 h ∙ get_or-drop at f i 0
-
-  pub be32_part : (i : ℕ) → i + 4 ≤ k → be32 (take k (drop at f)) i ≡ be32 f (at + i)
-  unfolding be32
-  be32_part i h =
-      let a : at + (i + 1) ≡ at + i + 1 = omega arith in
-      let b : at + (i + 2) ≡ at + i + 2 = omega arith in
-      let c : at + (i + 3) ≡ at + i + 3 = omega arith in
-      rw (byte_part i (omega arith), byte_part (i + 1) (omega arith), byte_part (i + 2) (omega arith), byte_part (i + 3) (omega arith), a, b, c)
-
-  pub le32_part : (i : ℕ) → i + 4 ≤ k → le32 (take k (drop at f)) i ≡ le32 f (at + i)
-  unfolding le32
-  le32_part i h =
-      let a : at + (i + 1) ≡ at + i + 1 = omega arith in
-      let b : at + (i + 2) ≡ at + i + 2 = omega arith in
-      let c : at + (i + 3) ≡ at + i + 3 = omega arith in
-      rw (byte_part i (omega arith), byte_part (i + 1) (omega arith), byte_part (i + 2) (omega arith), byte_part (i + 3) (omega arith), a, b, c)
-
-  pub be64_part : (i : ℕ) → i + 8 ≤ k → be64 (take k (drop at f)) i ≡ be64 f (at + i)
-  unfolding be64
-  be64_part i h =
-      let a : at + (i + 4) ≡ at + i + 4 = omega arith in
-      rw (be32_part i (omega arith), be32_part (i + 4) (omega arith), a)
 
 -- what follows a place
 module _ (f : List ℕ) (at : ℕ) where

@@ -3,9 +3,10 @@
 
 ghost use Rattle.std.specs.Prelude.{◌≡◌, not, ◌+◌, ◌*◌, ◌/◌, ◌%◌, ◌≤◌, ◌<◌, eqb};
 ghost use Rattle.container.specs.Packets.{link_of};
-ghost use Rattle.acl.specs.Reading.{AclPre, AclIs, H4Is};
 
-use words::field16;
+mod excerpt;
+
+pub use excerpt::Excerpt;
 
 // The fields of an ACL packet.
 #[derive(Clone, Copy)]
@@ -33,38 +34,4 @@ fn start_of(handle: u16) -> bool
     ensures { result ≡ not (eqb (handle / 4096 % 4) 1) }
 {
     handle / 4096 % 4 != 1
-}
-
-// The ACL packet in the bytes of the file from one place up to another; none where a field or the data is not all there.
-pub fn read_fragment(file: &[u8], lo: usize, end: usize, index: u32, rx: u32) -> Option<Fragment>
-    requires { AclPre file.now lo end index rx }
-    ensures { AclIs file.now lo end index rx result }
-{
-    let b = &file[lo..end];
-    let Some(handle) = field16(b, 0) else {
-        return None;
-    };
-    let Some(size) = field16(b, 2) else {
-        return None;
-    };
-    if end - lo < 4 + usize::from(size) {
-        return None;
-    }
-    Some(Fragment {
-        key: key_of(index, handle, rx),
-        start: start_of(handle),
-        place: (lo + 4) as u32,
-        len: u32::from(size),
-    })
-}
-
-// An H4 packet: the first byte is 02 for ACL.
-pub fn read_h4(file: &[u8], lo: usize, end: usize, rx: u32) -> Option<Fragment>
-    requires { AclPre file.now lo end 0 rx }
-    ensures { H4Is file.now lo end rx result }
-{
-    if lo < end && file[lo] == 2 {
-        return read_fragment(file, lo + 1, end, 0, rx);
-    }
-    None
 }

@@ -1,23 +1,19 @@
 -- Reading the packet of one record.
-use Rattle.std.specs.Prelude.{ℕ, Option, ◌+◌, ◌≤◌, ◌≡◌, List, length}
-use Rattle.acl.specs.Reading.{between, shown, Held}
+use Rattle.std.specs.Prelude.{ℕ, Option, ◌≡◌, List}
+use Rattle.acl.specs.Reading.{StandsIn, bytes_in, end_of, shown, Held}
 use Rattle.acl.specs.declared.Fragment.{Fragment}
+use Rattle.acl.specs.declared.excerpt.Excerpt.{Excerpt}
 use Rattle.btsnoop.specs.Packets.{milliseconds, hci_packet, monitor_packet, packet_of}
 
--- what reading answers, against a definition for every time
-pub record MonitorIs (f : List ℕ) (lo end flags : ℕ) (r : Option Fragment) : Type 0 where
-  pub shows : (time : ℕ) → monitor_packet flags time (between f lo end) ≡ shown f time r
-  pub held : Held end r
+-- what reading answers, against a definition for every time, in each file that the excerpt is of
+pub record MonitorIs (x : Excerpt) (flags : ℕ) (r : Option Fragment) : Type 0 where
+  pub shows : (f : List ℕ) → StandsIn f x → (time : ℕ) → monitor_packet flags time (bytes_in x) ≡ shown f time r
+  pub held : Held (end_of x) r
 
-pub record HciIs (f : List ℕ) (lo end datalink flags : ℕ) (r : Option Fragment) : Type 0 where
-  pub shows : (time : ℕ) → hci_packet datalink flags time (between f lo end) ≡ shown f time r
-  pub held : Held end r
+pub record HciIs (x : Excerpt) (datalink flags : ℕ) (r : Option Fragment) : Type 0 where
+  pub shows : (f : List ℕ) → StandsIn f x → (time : ℕ) → hci_packet datalink flags time (bytes_in x) ≡ shown f time r
+  pub held : Held (end_of x) r
 
-pub record RecordPre (f : List ℕ) (at end : ℕ) : Type 0 where
-  pub least : at + 24 ≤ end
-  pub most : end ≤ length f
-  pub small : length f ≤ 1048576
-
-pub record RecordIs (f : List ℕ) (at end datalink : ℕ) (r : Option Fragment) : Type 0 where
-  pub shows : packet_of datalink (between f at end) ≡ shown f (milliseconds (between f at end)) r
-  pub held : Held end r
+pub record RecordIs (x : Excerpt) (datalink : ℕ) (r : Option Fragment) : Type 0 where
+  pub shows : (f : List ℕ) → StandsIn f x → packet_of datalink (bytes_in x) ≡ shown f (milliseconds (bytes_in x)) r
+  pub held : Held (end_of x) r

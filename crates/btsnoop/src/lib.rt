@@ -2,14 +2,13 @@
 #![tactic(auto)]
 
 ghost use Rattle.std.specs.Prelude.{◌≡◌, ◌+◌, ◌-◌, ◌/◌, ◌%◌, ◌≤◌, ◌<◌, length, drop};
-ghost use Rattle.acl.specs.Reading.{AclPre};
 ghost use Rattle.btsnoop.specs.Header.{is_btsnoop, is_datalink};
 ghost use Rattle.btsnoop.specs.Headers.{header_of};
 ghost use Rattle.btsnoop.specs.Records.{record_size};
 ghost use Rattle.btsnoop.specs.Packets.{milliseconds};
-ghost use Rattle.btsnoop.specs.Reading.{MonitorIs, HciIs, RecordPre, RecordIs};
+ghost use Rattle.btsnoop.specs.Reading.{MonitorIs, HciIs, RecordIs};
 
-use acl::{Fragment, read_fragment, read_h4};
+use acl::{Excerpt, Fragment};
 use words::{get_be32, get_be64, same};
 
 // Datalinks that are read here: HCI packets by their flags, H4 packets, and packets of a monitor.
@@ -80,43 +79,42 @@ fn index_of(flags: u32) -> u32
 }
 
 // The packet of a monitor's record.
-fn read_monitor(file: &[u8], lo: usize, end: usize, flags: u32) -> Option<Fragment>
-    requires { AclPre file.now lo end 0 0 }
-    ensures { MonitorIs file.now lo end flags result }
+fn read_monitor(packet: Excerpt, flags: u32) -> Option<Fragment>
+    ensures { MonitorIs packet.entry flags result }
 {
     let op = flags % 65536;
     let index = index_of(flags);
     match op {
-        4 => read_fragment(file, lo, end, index, 0),
-        5 => read_fragment(file, lo, end, index, 1),
+        4 => packet.read_fragment(index, 0),
+        5 => packet.read_fragment(index, 1),
         _ => None,
     }
 }
 
 // The packet of an HCI record.
-fn read_hci(file: &[u8], lo: usize, end: usize, datalink: u32, flags: u32) -> Option<Fragment>
-    requires { AclPre file.now lo end 0 0 }
-    ensures { HciIs file.now lo end datalink flags result }
+fn read_hci(packet: Excerpt, datalink: u32, flags: u32) -> Option<Fragment>
+    ensures { HciIs packet.entry datalink flags result }
 {
     if flags / 2 % 2 == 1 {
         return None;
     }
     if datalink == H4 {
-        return read_h4(file, lo, end, flags % 2);
+        return packet.read_h4(flags % 2);
     }
-    read_fragment(file, lo, end, 0, flags % 2)
+    packet.read_fragment(0, flags % 2)
 }
 
-// The packet of the record from one place up to another.
-pub fn read_packet(file: &[u8], at: usize, end: usize, datalink: u32) -> Option<Fragment>
-    requires { RecordPre file.now at end }
-    ensures { RecordIs file.now at end datalink result }
+// The packet of a record.
+pub fn read_packet(r: Excerpt, datalink: u32) -> Option<Fragment>
+    requires { 24 ≤ length r.bytes.now }
+    ensures { RecordIs r.entry datalink result }
 {
-    let flags = get_be32(file, at + 8);
+    let flags = get_be32(r.bytes, 8);
+    let packet = r.after(24);
     if datalink == MONITOR {
-        return read_monitor(file, at + 24, end, flags);
+        return read_monitor(packet, flags);
     }
-    read_hci(file, at + 24, end, datalink, flags)
+    read_hci(packet, datalink, flags)
 }
 
 // The milliseconds of the record at a place.

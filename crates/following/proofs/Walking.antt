@@ -7,7 +7,6 @@ use mathlib.Core.List.{List, [], ◌∷◌}
 use mathlib.Core.Option.{Option, none, some}
 use native.Mathlib.Omega.{arith}
 use lib.ListN.{length}
-use denote.Ref.{Bor}
 use Rattle.laws.proofs.Choice.{split≤, no_way}
 use Rattle.laws.specs.Keys.{Key}
 use Rattle.laws.specs.Keyed.{after}
@@ -16,8 +15,11 @@ use Rattle.container.specs.Packets.{Packet}
 use Rattle.acl.specs.Reading.{between}
 use Rattle.trace.specs.Formats.{file_head, packet_by, packets_by}
 use Rattle.trace.specs.Walk.{RecordAt}
-use Rattle.trace.specs.Finding.{bytes_of, FoundHere, Found}
-use Rattle.trace.proofs.Finding.{found_here, found_told, found_none}
+use Rattle.trace.specs.Reader.{Starts}
+use Rattle.trace.specs.Finding.{bytes_of, FoundHere, Reads}
+use Rattle.trace.proofs.Finding.{reads_same, found_here, found_told, found_end, found_none}
+use Rattle.trace.specs.declared.Trace.{Trace}
+use Rattle.trace.specs.declared.reader.Reader.{Reader}
 use Rattle.trace.specs.declared.Format.{Format}
 use Rattle.packets.specs.PacketTable.{packet_at, packets_from, Read}
 use Rattle.packets.proofs.PacketFrames.{packets_next, packets_front}
@@ -76,14 +78,8 @@ module _ (g : Format) (f w : List ℕ) (count : ℕ) (pre : Read g f w count) (q
       ends = refl;
     }
 
-    pub follow_start : (s : Pass) → s ≡ first_pass q n → (at : ℕ) → (at ≡ file_head g) × (at ≤ 24) → Following g f v q count v s (coming g f at)
-    follow_start s z at h = rw (z, h.0, coming_start g f) first_follows
-
--- work keeps its length
-pub follow_size :
-    (g : Format) (f w₀ : List ℕ) (q count : ℕ) (w : List ℕ) (s : Pass) (rest : List (Placed Packet)) → Following g f w₀ q count w s rest →
-    (u : List ℕ) (n : ℕ) → LinkedTo u q count w₀ n → length w ≡ length u
-follow_size g f w₀ q count w s rest v u n l = v.going.size ∙ l.size
+    follow_first : (s : Pass) → s ≡ first_pass q n → (at : ℕ) → at ≡ file_head g → Following g f v q count v s (coming g f at)
+    follow_first s z at h = rw (z, h, coming_start g f) first_follows
 
 -- ---- a record
 
@@ -100,37 +96,55 @@ module _ (g : Format) (f : List ℕ) (at e : ℕ) (here : RecordAt g f at e) whe
   unfolding coming placed_packet
   coming_some p o = rest_packets g f at e here (packet_by g) ∙ rw o
 
-module _
-    (g : Format) (f : Bor (List ℕ)) (w₀ : List ℕ) (q count : ℕ) (w : List ℕ) (s : Pass) (at : ℕ) (v : Following g f.now w₀ q count w s (coming g f.now at))
-    (x : Maybe Record) (h : Found g f at x) (r : Record) (z : x ≡ Some r) where
-  found : FoundHere g f at r
-  found = found_here g f at x h r z
+-- a reader of the trace stands before what is still to come
+pub record Walking (t : Trace) (w₀ : List ℕ) (q count : ℕ) (w : List ℕ) (s : Pass) (k : Reader) : Type 0 where
+  pub trace : k.trace ≡ t
+  pub follows : Following t.format t.file.now w₀ q count w s (coming t.format t.file.now k.at)
 
-  here : RecordAt g f.now at r.end
-  here = found_told g f at x h r z
+pub follow_start :
+    (t : Trace) (w : List ℕ) (count : ℕ) → Read t.format t.file.now w count → (q : ℕ) → q ≡ length t.file.now / 4 → (v : List ℕ) (n : ℕ) → LinkedTo w q count v n →
+    (s : Pass) → s ≡ first_pass q n → (k : Reader) → Starts t k → Walking t v q count v s k
+follow_start t w count pre q e v n l s z k h = record { trace = h.trace; follows = follow_first t.format t.file.now w count pre q e v n l s z k.at h.at }
 
-  bytes_are : bytes_of r ≡ between f.now at r.end
-  bytes_are = rw (found.same_file, found.starts)
+module _ (t : Trace) (w₀ : List ℕ) (q count : ℕ) (w : List ℕ) (s : Pass) (k : Reader) (v : Walking t w₀ q count w s k) where
+  module _ (x : Maybe Record) (n : Reader) (h : Reads k x n) (r : Record) (z : x ≡ Some r) where
+    abbrev g : Format
+    g = t.format
 
-  pub follow_pre : RecordTurn r w q s
-  unfolding is_none
-  follow_pre = record {
-    turn = rw (found.same_format, found.starts, found.same_file) (split_none (packet_by g (between f.now at r.end))
-        (λ o m. no_way (rw o) m)
-        (λ p o m. turn_pre g f.now w₀ q count w s (record { at = at; is = p }) (coming g f.now r.end) (rw (coming_some g f.now at r.end here p o) at v)));
-  }
+    abbrev f : List ℕ
+    f = t.file.now
 
-  pub follow_again : (u : List ℕ) (t : Pass) → RecordTurned r w q s u t → Following g f.now w₀ q count u t (coming g f.now r.end)
-  unfolding is_none
-  follow_again u t d =
-      split_none (packet_by g (between f.now at r.end))
-      (λ o.
-      let m : is_none (packet_by r.format (bytes_of r)) ≡ true = rw (found.same_format, bytes_are, o) in
-      rw ((d.skips m).0, (d.skips m).1) (rw (coming_none g f.now at r.end here o) at v))
-      (λ p o.
-      let m : is_none (packet_by r.format (bytes_of r)) ≡ false = rw (found.same_format, bytes_are, o) in
-      let k : Turned f.now w q at s u t = rw (found.same_file, found.starts) at (d.turned m) in
-      turn_next g f.now w₀ q count w s (record { at = at; is = p }) (coming g f.now r.end) (rw (coming_some g f.now at r.end here p o) at v) u t k)
+    found : FoundHere t k.at r
+    found = found_here t k v.trace x n h r z
+
+    here : RecordAt g f k.at r.end
+    here = found_told t k v.trace x n h r z
+
+    pub follow_pre : RecordTurn r w q s
+    unfolding is_none
+    follow_pre = record {
+      turn = rw (found.same, found.starts) (split_none (packet_by g (between f k.at r.end))
+          (λ o m. no_way (rw o) m)
+          (λ p o m. turn_pre g f w₀ q count w s (record { at = k.at; is = p }) (coming g f r.end) (rw (coming_some g f k.at r.end here p o) at v.follows)));
+    }
+
+    turned : (u : List ℕ) (d : Pass) → RecordTurned r w q s u d → Following g f w₀ q count u d (coming g f r.end)
+    unfolding is_none
+    turned u d m =
+        split_none (packet_by g (between f k.at r.end))
+        (λ o.
+        let l : is_none (packet_by r.trace.format (bytes_of r)) ≡ true = rw (found.same, found.starts, o) in
+        rw ((m.skips l).0, (m.skips l).1) (rw (coming_none g f k.at r.end here o) at v.follows))
+        (λ p o.
+        let l : is_none (packet_by r.trace.format (bytes_of r)) ≡ false = rw (found.same, found.starts, o) in
+        let y : Turned f w q k.at s u d = rw (found.same, found.starts) at (m.turned l) in
+        turn_next g f w₀ q count w s (record { at = k.at; is = p }) (coming g f r.end) (rw (coming_some g f k.at r.end here p o) at v.follows) u d y)
+
+    pub follow_again : (u : List ℕ) (d : Pass) → RecordTurned r w q s u d → Walking t w₀ q count u d n
+    follow_again u d m = record {
+      trace = reads_same t k v.trace x n h;
+      follows = rw (found_end t k v.trace x n h r z) (turned u d m);
+    }
 
 -- ---- the end
 
@@ -185,8 +199,6 @@ coming_nil : (g : Format) (f : List ℕ) (at : ℕ) → rest_at g f at ≡ [] �
 unfolding coming placed_packets
 coming_nil g f at e = rw e
 
-module _
-    (g : Format) (f : Bor (List ℕ)) (w₀ : List ℕ) (q count : ℕ) (w : List ℕ) (s : Pass) (at : ℕ) (v : Following g f.now w₀ q count w s (coming g f.now at))
-    (x : Maybe Record) (h : Found g f at x) where
-  pub follow_end : x ≡ None → FollowedTo g f.now count w s.signs
-  follow_end n = ended g f.now w₀ q count w s (rw (coming_nil g f.now at (rest_none g f.now at (found_none g f at x h n))) at v)
+module _ (t : Trace) (w₀ : List ℕ) (q count : ℕ) (w : List ℕ) (s : Pass) (k : Reader) (v : Walking t w₀ q count w s k) (x : Maybe Record) (n : Reader) (h : Reads k x n) where
+  pub follow_end : x ≡ None → FollowedTo t.format t.file.now count w s.signs
+  follow_end e = ended t.format t.file.now w₀ q count w s (rw (coming_nil t.format t.file.now k.at (rest_none t.format t.file.now k.at (found_none t k v.trace x n h e))) at v.follows)

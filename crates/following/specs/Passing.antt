@@ -33,11 +33,11 @@ pub record Turned (f w : List ℕ) (q at : ℕ) (s : Pass) (u : List ℕ) (r : P
 
 -- a packet in it is the next
 pub record RecordTurn (r : Record) (w : List ℕ) (q : ℕ) (s : Pass) : Type 0 where
-  pub turn : is_none (packet_by r.format (bytes_of r)) ≡ false → Turn r.file.now w q s
+  pub turn : is_none (packet_by r.trace.format (bytes_of r)) ≡ false → Turn r.trace.file.now w q s
 
 pub record RecordTurned (r : Record) (w : List ℕ) (q : ℕ) (s : Pass) (u : List ℕ) (t : Pass) : Type 0 where
-  pub skips : is_none (packet_by r.format (bytes_of r)) ≡ true → (u ≡ w) × (t ≡ s)
-  pub turned : is_none (packet_by r.format (bytes_of r)) ≡ false → Turned r.file.now w q r.at s u t
+  pub skips : is_none (packet_by r.trace.format (bytes_of r)) ≡ true → (u ≡ w) × (t ≡ s)
+  pub turned : is_none (packet_by r.trace.format (bytes_of r)) ≡ false → Turned r.trace.file.now w q r.at s u t
 
 -- ---- the file
 

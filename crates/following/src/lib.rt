@@ -11,7 +11,7 @@ ghost use Rattle.following.specs.Passing.{first_pass, Turn, Turned, RecordTurn, 
 use fragments::link_packets;
 use l2cap::{Tables, look, row_of, run};
 use signs::{Gap, lacks_packet, note};
-use trace::{Format, Record, file_head, record_at};
+use trace::{Record, Trace};
 use words::get32;
 
 // Continuations with nothing open, and starts that give up a partial PDU.
@@ -73,7 +73,7 @@ fn follow_record(r: Record, w: &mut [u8], q: usize, s: Pass) -> Pass
     if lacks_packet(r) {
         return s;
     }
-    follow_packet(r.file, w, q, r.at, s)
+    follow_packet(r.trace.file, w, q, r.at, s)
 }
 
 // No packet is read, and there are so many rows of open PDUs.
@@ -99,17 +99,15 @@ fn first_pass(q: usize, rows: usize) -> Pass
 }
 
 // The signs of all packets, whose table stands at the start of work. Work then has the rows of what is open.
-pub fn follow_packets(file: &[u8], w: &mut [u8], format: Format, count: usize) -> Partial
-    requires { Read format file.now w.old count }
-    ensures { FollowedTo format file.now count w.new result }
+pub fn follow_packets(trace: Trace, w: &mut [u8], count: usize) -> Partial
+    requires { Read trace.format trace.file.now w.old count }
+    ensures { FollowedTo trace.entry.format trace.entry.file.now count w.new result }
 {
-    let q = file.len() / 4;
+    let q = trace.file.len() / 4;
     let rows = link_packets(w, q, count);
     let mut s = first_pass(q, rows);
-    let mut at = file_head(format);
-    while let Some(r) = record_at(file, at, format) {
+    for r in trace.records() {
         s = follow_record(r, w, q, s);
-        at = r.end;
     }
     s.signs
 }

@@ -72,16 +72,16 @@ module _ (b : Container) (f w : List ℕ) (tail : Tail) (x : Result Opened Refus
       record { answers = rw (← z) (stays y (gaps (format_of b f) f)); spared = op.spared }
 
   module _ (t : Opened) (e : x ≡ Ok t) where
-    pub find_packets : Read t.format f v t.packets.count
-    find_packets = (op.read t e).reads.read
+    pub find_packets : Read t.trace.format t.trace.file.now v t.packets.count
+    find_packets = rw (op.read t e).file (op.read t e).reads.read
 
     reads : opened (container_of b) f (length w) tail ≡ accepted []
     reads = sym op.answers ∙ rw e
 
-    pub find_found : (s : Signs) → signs_of s ≡ gaps t.format f → (u : List ℕ) → Finds b f w tail (Ok s) u
+    pub find_found : (s : Signs) → signs_of s ≡ gaps t.trace.format t.trace.file.now → (u : List ℕ) → Finds b f w tail (Ok s) u
     unfolding gaps_of or_values
     find_found s es u = record {
-      answers = rw (reads, es, (op.read t e).says);
+      answers = rw (reads, es, (op.read t e).says, (op.read t e).file);
       spared = λ h. no_way (opened_sized (container_of b) f (length w) tail [] reads) h;
     }
 

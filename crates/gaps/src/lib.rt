@@ -16,7 +16,7 @@ use options::{container_in, tail_in, tail_of};
 use recorded::{Recorded, record_signs};
 use signs::Gap;
 use telling::{Tell, tell_as};
-use trace::{Container, Format, Refusal};
+use trace::{Container, Refusal, Trace};
 
 // What records show, what packets show, and what is open at the end.
 #[derive(Clone, Copy)]
@@ -27,13 +27,13 @@ pub struct Signs {
 }
 
 // The signs of a trace whose packets stand in work.
-fn find_signs(file: &[u8], work: &mut [u8], format: Format, count: usize) -> Signs
-    requires { Read format file.now work.old count }
-    ensures { signs_of result ≡ gaps format file.now }
+fn find_signs(trace: Trace, work: &mut [u8], count: usize) -> Signs
+    requires { Read trace.format trace.file.now work.old count }
+    ensures { signs_of result ≡ gaps trace.entry.format trace.entry.file.now }
 {
-    let recorded = record_signs(file, format);
-    let partial = follow_packets(file, work, format, count);
-    let left = left_open(file, work, format);
+    let recorded = record_signs(trace);
+    let partial = follow_packets(trace, work, count);
+    let left = left_open(trace, work);
     Signs {
         recorded,
         partial,
@@ -51,7 +51,7 @@ pub fn find_gaps(
     ensures { Finds container file.now work.old (tail_of tail) result work.new }
 {
     let t = open_trace(file, work, container, tail)?;
-    Ok(find_signs(file, work, t.format, t.packets.count))
+    Ok(find_signs(t.trace, work, t.packets.count))
 }
 
 // The signs' numbers: for each how many, and where the first is.

@@ -7,18 +7,20 @@ use mathlib.Core.List.{List, [], ◌∷◌, ◌++◌, map, append_assoc, append-
 use mathlib.Core.Option.{Option, none, some}
 use native.Mathlib.Omega.{arith}
 use lib.ListN.{length, length-append}
-use denote.Ref.{Bor}
 use lib.Dec.{eqb}
 use Rattle.laws.proofs.Choice.{split_b, no_way}
 use Rattle.laws.specs.Keyed.{keep}
 use Rattle.laws.proofs.Keyed.{keep_append}
 use Rattle.container.specs.Packets.{Packet}
 use Rattle.acl.specs.Reading.{between}
-use Rattle.trace.specs.Formats.{file_head, packet_by}
-use Rattle.trace.specs.Finding.{bytes_of, FoundHere, Found}
-use Rattle.trace.proofs.Finding.{found_here, found_told, found_none}
+use Rattle.trace.specs.Formats.{packet_by}
+use Rattle.trace.specs.Reader.{Starts}
+use Rattle.trace.specs.Finding.{bytes_of, FoundHere, Reads}
+use Rattle.trace.proofs.Finding.{reads_same, found_here, found_told, found_end, found_none}
 use Rattle.trace.specs.declared.Format.{Format}
+use Rattle.trace.specs.declared.Trace.{Trace}
 use Rattle.trace.specs.declared.record.Record.{Record}
+use Rattle.trace.specs.declared.reader.Reader.{Reader}
 use Rattle.l2cap.specs.Steps.{open_from, row_at, open_in}
 use Rattle.l2cap.specs.declared.Open.{Open}
 use Rattle.signs.specs.Places.{Placed, placed_packet, placed_packets, packets_at}
@@ -52,14 +54,14 @@ pub counts_none : (w : List ℕ) (q i : ℕ) (g : Gap) (at : ℕ) (b : Bool) →
 unfolding counted_at
 counts_none w q i g at b e t = rw (← e, t)
 
-module _ (r : Record) (w : List ℕ) (q : ℕ) (m : Met) (b : Bool) (e : b ≡ is_none (packet_by r.format (bytes_of r))) where
-  pub meets_none : b ≡ true → record { packets = m.packets; left = m.left } ≡ met_at w q r.at m (is_none (packet_by r.format (bytes_of r)))
+module _ (r : Record) (w : List ℕ) (q : ℕ) (m : Met) (b : Bool) (e : b ≡ is_none (packet_by r.trace.format (bytes_of r))) where
+  pub meets_none : b ≡ true → record { packets = m.packets; left = m.left } ≡ met_at w q r.at m (is_none (packet_by r.trace.format (bytes_of r)))
   unfolding met_at
   meets_none t = rw (← e, t)
 
   pub meets_one :
       b ≡ false → (l : Gap) → l ≡ counted_at w q m.packets m.left r.at →
-      record { packets = m.packets + 1; left = l } ≡ met_at w q r.at m (is_none (packet_by r.format (bytes_of r)))
+      record { packets = m.packets + 1; left = l } ≡ met_at w q r.at m (is_none (packet_by r.trace.format (bytes_of r)))
   unfolding met_at
   meets_one t l n = rw (← e, t, n)
 
@@ -101,17 +103,18 @@ module _ (g : Format) (f w : List ℕ) (count : ℕ) (d : Followed g f w count) 
 unfoldable pub left_of : List (Placed Packet) → List (Placed Packet) → List ℕ
 left_of ps few = map (λ a. a.at) (keep (λ a. began_at (at_end ps (placed_key a)) a.at) few)
 
--- the packets before a place are met
-pub record Leaving (g : Format) (f : List ℕ) (at : ℕ) (m : Met) : Type 0 where
+-- the packets before where a reader stands are met
+pub record Leaving (t : Trace) (q : Reader) (m : Met) : Type 0 where
+  pub trace : q.trace ≡ t
   pub before : List (Placed Packet)
-  pub all : before ++ placed_packets (packet_by g) (rest_at g f at) ≡ packets_at g f
+  pub all : before ++ placed_packets (packet_by t.format) (rest_at t.format t.file.now q.at) ≡ packets_at t.format t.file.now
   pub number : m.packets ≡ length before
   pub few : m.left.many ≤ m.packets
-  pub counted : Counted (left_of (packets_at g f) before) m.left
+  pub counted : Counted (left_of (packets_at t.format t.file.now) before) m.left
 
-pub leaving_start : (g : Format) (f : List ℕ) (at : ℕ) → (at ≡ file_head g) × (at ≤ 24) → Leaving g f at (record { packets = 0; left = record { many = 0; first = 0 } })
+pub leaving_start : (t : Trace) (q : Reader) → Starts t q → Leaving t q (record { packets = 0; left = record { many = 0; first = 0 } })
 unfolding left_of keep
-leaving_start g f at h = record { before = []; all = rw h.0 (packets_start g f); number = refl; few = omega arith; counted = counted_none }
+leaving_start t q h = record { trace = h.trace; before = []; all = rw h.at (packets_start t.format t.file.now); number = refl; few = omega arith; counted = counted_none }
 
 -- ---- one packet more
 
@@ -140,56 +143,67 @@ counted_next g f w count d before a rest e l c i n =
     (λ q. rw q (counted_one l (left_of (packets_at g f) before) a.at c))
     (λ q. rw (q, append-nil (left_of (packets_at g f) before)) c))
 
-module _ (g : Format) (b : Bor (List ℕ)) (w : List ℕ) (count : ℕ) (d : Followed g b.now w count) (at : ℕ) (m : Met) (l : Leaving g b.now at m) (x : Maybe Record) (h : Found g b at x) where
+module _ (t : Trace) (w : List ℕ) (count : ℕ) (d : Followed t.format t.file.now w count) (q : Reader) (m : Met) (l : Leaving t q m) where
+  abbrev g : Format
+  g = t.format
+
   abbrev f : List ℕ
-  f = b.now
+  f = t.file.now
 
-  module _ (r : Record) (y : x ≡ Some r) where
-    found : FoundHere g b at r
-    found = found_here g b at x h r y
+  module _ (x : Maybe Record) (z : Reader) (h : Reads q x z) where
+    module _ (r : Record) (y : x ≡ Some r) where
+      found : FoundHere t q.at r
+      found = found_here t q l.trace x z h r y
 
-    abbrev later : List (Placed Packet)
-    later = placed_packets (packet_by g) (rest_at g f r.end)
+      abbrev later : List (Placed Packet)
+      later = placed_packets (packet_by g) (rest_at g f r.end)
 
-    -- the record's packet comes next, if there is one
-    next : l.before ++ (placed_packet at (packet_by g (between f at r.end)) ++ later) ≡ packets_at g f
-    unfolding placed_packets
-    next = rw (rest_turn g f at r.end (found_told g b at x h r y)) at l.all
+      -- the record's packet comes next, if there is one
+      next : l.before ++ (placed_packet q.at (packet_by g (between f q.at r.end)) ++ later) ≡ packets_at g f
+      unfolding placed_packets
+      next = rw (rest_turn g f q.at r.end (found_told t q l.trace x z h r y)) at l.all
 
-    few_packets : m.packets ≤ count
-    few_packets = omega (arith, l.number, places_many g f w count d.list, ap length l.all, length-append l.before (placed_packets (packet_by g) (rest_at g f at)))
+      few_packets : m.packets ≤ count
+      few_packets = omega (arith, l.number, places_many g f w count d.list, ap length l.all, length-append l.before (placed_packets (packet_by g) (rest_at g f q.at)))
 
-    pub leaving_pre : MeetPre r w (length f / 4) m
-    unfolding is_none placed_packet
-    leaving_pre = record {
-      few = omega (arith, few_packets, d.tabled.total, d.small);
-      count = rw (found.same_format, found.starts, found.same_file) (go (packet_by g (between f at r.end)) next);
-    } where
-      go : (o : Option Packet) → l.before ++ (placed_packet at o ++ later) ≡ packets_at g f → is_none o ≡ false → CountPre w (length f / 4) m.packets m.left
-      go none n q = no_way refl q
-      go (some p) n q =
-          let less : m.packets < count = rw l.number (number_less g f w count d l.before (record { at = at; is = p }) later n) in
-          record {
-            began = record { row = d.rows m.packets less; room = d.room m.packets less };
-            note = record { small = omega (arith, l.few, less, d.tabled.total, d.small) };
-          }
+      pub leaving_pre : MeetPre r w (length f / 4) m
+      unfolding is_none placed_packet
+      leaving_pre = record {
+        few = omega (arith, few_packets, d.tabled.total, d.small);
+        count = rw (found.same, found.starts) (go (packet_by g (between f q.at r.end)) next);
+      } where
+        go : (o : Option Packet) → l.before ++ (placed_packet q.at o ++ later) ≡ packets_at g f → is_none o ≡ false → CountPre w (length f / 4) m.packets m.left
+        go none n e = no_way refl e
+        go (some p) n e =
+            let less : m.packets < count = rw l.number (number_less g f w count d l.before (record { at = q.at; is = p }) later n) in
+            record {
+              began = record { row = d.rows m.packets less; room = d.room m.packets less };
+              note = record { small = omega (arith, l.few, less, d.tabled.total, d.small) };
+            }
 
-    pub leaving_turn : (n : Met) → n ≡ met_at w (length f / 4) r.at m (is_none (packet_by r.format (bytes_of r))) → Leaving g f r.end n
-    unfolding met_at is_none placed_packet
-    leaving_turn n z = rw met (go (packet_by g (between f at r.end)) next) where
-      met : n ≡ met_at w (length f / 4) at m (is_none (packet_by g (between f at r.end)))
-      met = z ∙ rw (found.same_format, found.starts, found.same_file)
+      pub leaving_turn : (n : Met) → n ≡ met_at w (length f / 4) r.at m (is_none (packet_by r.trace.format (bytes_of r))) → Leaving t z n
+      unfolding met_at is_none placed_packet
+      leaving_turn n e = rw met (go (packet_by g (between f q.at r.end)) next) where
+        met : n ≡ met_at w (length f / 4) q.at m (is_none (packet_by g (between f q.at r.end)))
+        met = e ∙ rw (found.same, found.starts)
 
-      go : (o : Option Packet) → l.before ++ (placed_packet at o ++ later) ≡ packets_at g f → Leaving g f r.end (met_at w (length f / 4) at m (is_none o))
-      go none n = record { before = l.before; all = n; number = l.number; few = l.few; counted = l.counted }
-      go (some p) n = record {
-        before = l.before ++ (record { at = at; is = p } ∷ []);
-        all = append_assoc l.before (record { at = at; is = p } ∷ []) later ∙ n;
-        number = omega (arith, l.number, length-append l.before (record { at = at; is = p } ∷ []));
-        few = counted_few w (length f / 4) m.packets m.left at l.few;
-        counted = counted_next g f w count d l.before (record { at = at; is = p }) later n m.left l.counted m.packets l.number;
-      }
+        same : z.trace ≡ t
+        same = reads_same t q l.trace x z h
 
-  pub leaving_end : x ≡ None → Counted (left_open (packets_at g f)) m.left
-  unfolding left_open left_of placed_packets
-  leaving_end n = let z : l.before ≡ packets_at g f = sym (append-nil l.before) ∙ (rw (rest_none g f at (found_none g b at x h n)) at l.all) in rw z at l.counted
+        at_end_of : z.at ≡ r.end
+        at_end_of = found_end t q l.trace x z h r y
+
+        go : (o : Option Packet) → l.before ++ (placed_packet q.at o ++ later) ≡ packets_at g f → Leaving t z (met_at w (length f / 4) q.at m (is_none o))
+        go none n = record { trace = same; before = l.before; all = rw at_end_of n; number = l.number; few = l.few; counted = l.counted }
+        go (some p) n = record {
+          trace = same;
+          before = l.before ++ (record { at = q.at; is = p } ∷ []);
+          all = rw at_end_of (append_assoc l.before (record { at = q.at; is = p } ∷ []) later ∙ n);
+          number = omega (arith, l.number, length-append l.before (record { at = q.at; is = p } ∷ []));
+          few = counted_few w (length f / 4) m.packets m.left q.at l.few;
+          counted = counted_next g f w count d l.before (record { at = q.at; is = p }) later n m.left l.counted m.packets l.number;
+        }
+
+    pub leaving_end : x ≡ None → Counted (left_open (packets_at g f)) m.left
+    unfolding left_open left_of placed_packets
+    leaving_end n = let e : l.before ≡ packets_at g f = sym (append-nil l.before) ∙ (rw (rest_none g f q.at (found_none t q l.trace x z h n)) at l.all) in rw e at l.counted

@@ -33,4 +33,4 @@ pub record CountPre (w : List ℕ) (q i : ℕ) (g : Gap) : Type 0 where
 
 pub record MeetPre (r : Record) (w : List ℕ) (q : ℕ) (m : Met) : Type 0 where
   pub few : m.packets ≤ 1048576
-  pub count : is_none (packet_by r.format (bytes_of r)) ≡ false → CountPre w q m.packets m.left
+  pub count : is_none (packet_by r.trace.format (bytes_of r)) ≡ false → CountPre w q m.packets m.left

@@ -14,7 +14,7 @@ ghost use Rattle.leftover.specs.Meeting.{began_by, counted_at, met_at, BeganPre,
 
 use l2cap::{look, row_of};
 use signs::{Gap, lacks_packet, note};
-use trace::{Format, Record, file_head, record_at};
+use trace::{Record, Trace};
 
 // The packets met so far, and those of them that began what is open at the end.
 #[derive(Clone, Copy)]
@@ -48,7 +48,7 @@ fn count_packet(w: &[u8], q: usize, i: usize, g: Gap, at: usize) -> Gap
 // A record. Only a packet takes the next number.
 fn meet(r: Record, w: &[u8], q: usize, m: Met) -> Met
     requires { MeetPre r w.now q m }
-    ensures { result ≡ met_at w.now q r.entry.at m (is_none (packet_by r.entry.format (bytes_of r.entry))) }
+    ensures { result ≡ met_at w.now q r.entry.at m (is_none (packet_by r.entry.trace.format (bytes_of r.entry))) }
 {
     if lacks_packet(r) {
         return m;
@@ -60,19 +60,17 @@ fn meet(r: Record, w: &[u8], q: usize, m: Met) -> Met
 }
 
 // The PDUs that are open at the end: how many, and where the record starts that holds the first packet of the first.
-pub fn left_open(file: &[u8], w: &[u8], format: Format) -> Gap
-    requires { Followed format file.now w.now (length (packets_at format file.now)) }
-    ensures { Counted (left_open (packets_at format file.now)) result }
+pub fn left_open(trace: Trace, w: &[u8]) -> Gap
+    requires { Followed trace.format trace.file.now w.now (length (packets_at trace.format trace.file.now)) }
+    ensures { Counted (left_open (packets_at trace.entry.format trace.entry.file.now)) result }
 {
-    let q = file.len() / 4;
+    let q = trace.file.len() / 4;
     let mut m = Met {
         packets: 0,
         left: Gap { many: 0, first: 0 },
     };
-    let mut at = file_head(format);
-    while let Some(r) = record_at(file, at, format) {
+    for r in trace.records() {
         m = meet(r, w, q, m);
-        at = r.end;
     }
     m.left
 }

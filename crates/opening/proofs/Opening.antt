@@ -16,6 +16,7 @@ use Rattle.trace.proofs.Formats.{lawful, head_of, tail_of_law}
 use Rattle.trace.proofs.Headers.{header_as}
 use Rattle.trace.specs.declared.Container.{Container}
 use Rattle.trace.specs.declared.Format.{Format}
+use Rattle.trace.specs.declared.Trace.{Trace}
 use Rattle.trace.specs.declared.Refusal.{Refusal}
 use Rattle.trace.specs.declared.Refusal.TheVariants.{FileLong, WorkShort, Truncated}
 use Rattle.packets.specs.Adding.{ReadPre, ReadTo}
@@ -49,7 +50,13 @@ not_true : (b : Bool) → not b ≡ false → b ≡ true
 not_true true e = refl
 not_true false e = no_way refl e
 
-module _ (g : Format) (f w : List ℕ) (p : Packets) (rp : ReadTo g f w p) where
+module _ (x : Trace) (w : List ℕ) (p : Packets) (rp : ReadTo x.format x.file.now w p) where
+  abbrev g : Format
+  g = x.format
+
+  abbrev f : List ℕ
+  f = x.file.now
+
   cut_off : (tail : Tail) → truncates tail p.tail (length f) ≡ true → refused 5 (tail_by g f ∷ []) ≡ ends_by g f (tail_of tail)
   unfolding truncates
   cut_off Strict q = rw (not_not (eqb (tail_by g f) (length f)) (rw rp.tail at q))
@@ -61,11 +68,11 @@ module _ (g : Format) (f w : List ℕ) (p : Packets) (rp : ReadTo g f w p) where
   whole Tolerant q = refl
 
   module _ (tail : Tail) (t : Bool) (et : t ≡ truncates tail p.tail (length f)) where
-    pub records_truncated : t ≡ true → RecordsOpen g f (tail_of tail) (Err (Truncated p.tail)) w
+    pub records_truncated : t ≡ true → RecordsOpen x (tail_of tail) (Err (Truncated p.tail)) w
     records_truncated q = record { answers = rw rp.tail (cut_off tail (sym et ∙ q)); read = λ t e. no_read cc }
 
-    pub records_read : t ≡ false → RecordsOpen g f (tail_of tail) (Ok (record { format = g; packets = p })) w
-    records_read q = record { answers = whole tail (sym et ∙ q); read = λ o e. (let i : record { format = g; packets = p } ≡ o = cc in rw (← i) (refl, rp)) }
+    pub records_read : t ≡ false → RecordsOpen x (tail_of tail) (Ok (record { trace = x; packets = p })) w
+    records_read q = record { answers = whole tail (sym et ∙ q); read = λ o e. (let i : record { trace = x; packets = p } ≡ o = cc in rw (← i) (refl, rp)) }
 
 -- a file's header says how it ends
 ends_by_law : (b : Container) (f : List ℕ) (tail : import.Tail) → ends_by (format_of b f) f tail ≡ ends (container_of b) f tail
@@ -87,13 +94,13 @@ module _ (b : Container) (f : List ℕ) (h : Result Format Refusal) (m : HeaderI
     unfolding heads
     header_refused x q u = record { answers = header_as b f h (Err x) m q (ends (container_of b) f tail); read = λ t e. no_read cc }
 
-    pub header_read : (g : Format) → h ≡ Ok g → (r : Result Opened Refusal) (u : List ℕ) → RecordsOpen g f tail r u → HeaderOpens b f tail r u
+    pub header_read : (t : Trace) → t.file.now ≡ f → h ≡ Ok t.format → (r : Result Opened Refusal) (u : List ℕ) → RecordsOpen t tail r u → HeaderOpens b f tail r u
     unfolding heads headed
-    header_read g q r u o =
-        let k = header_as b f h (Ok g) m q in
+    header_read t s q r u o =
+        let k = header_as b f h (Ok t.format) m q in
         record {
-          answers = rw (k.0, k.1) (o.answers ∙ rw k.2 (ends_by_law b f tail));
-          read = λ t e. let y = o.read t e in record { says = y.0 ∙ k.2; reads = rw y.0 y.1 };
+          answers = rw (k.0, k.1) (o.answers ∙ rw (s, k.2) (ends_by_law b f tail));
+          read = λ x e. let y = o.read x e in record { file = rw y.0 s; says = rw y.0 k.2; reads = rw (y.0, ← s) y.1 };
         }
 
 -- ---- the call

@@ -6,8 +6,8 @@ use Rattle.trace.specs.Formats.{container_of, format_of, tail_by}
 use Rattle.trace.specs.Headers.{told_refusal, headed}
 use Rattle.trace.specs.declared.Container.{Container}
 use Rattle.trace.specs.declared.Format.{Format}
+use Rattle.trace.specs.declared.Trace.{Trace}
 use Rattle.packets.specs.Adding.{ReadTo}
-use Rattle.packets.specs.declared.Packets.{Packets}
 use Rattle.outcome.specs.Import.{fits, work_suffices, ends_well}
 use Rattle.outcome.specs.Import as import
 use Rattle.opening.specs.declared.Tail.{Tail}
@@ -37,15 +37,16 @@ abbrev pub told_opened : Result Opened Refusal → Answer
 told_opened (Ok t) = accepted []
 told_opened (Err x) = told_refusal x
 
--- what a trace that is read leaves in work, by what its header says
-pub record Reads (b : Container) (f w : List ℕ) (g : Format) (p : Packets) : Type 0 where
-  pub says : g ≡ format_of b f
-  pub reads : ReadTo g f w p
+-- what a trace that is read is, and leaves in work, by what its header says
+pub record Reads (b : Container) (f w : List ℕ) (t : Opened) : Type 0 where
+  pub file : t.trace.file.now ≡ f
+  pub says : t.trace.format ≡ format_of b f
+  pub reads : ReadTo t.trace.format f w t.packets
 
 -- The answer by the definition; where the trace is read, its packets stand in work; work is unchanged after 1 and 2.
 pub record Opens (b : Container) (f w : List ℕ) (tail : import.Tail) (r : Result Opened Refusal) (w' : List ℕ) : Type 0 where
   pub answers : told_opened r ≡ opened (container_of b) f (length w) tail
-  pub read : (t : Opened) → r ≡ Ok t → Reads b f w' t.format t.packets
+  pub read : (t : Opened) → r ≡ Ok t → Reads b f w' t
   pub spared : (fits f && work_suffices f (length w)) ≡ false → w' ≡ w
 
 -- ---- from the header on, from the records on
@@ -56,16 +57,16 @@ pub record Sized (f w : List ℕ) : Type 0 where
 
 pub record HeaderOpens (b : Container) (f : List ℕ) (tail : import.Tail) (r : Result Opened Refusal) (w' : List ℕ) : Type 0 where
   pub answers : told_opened r ≡ heads (container_of b) f tail
-  pub read : (t : Opened) → r ≡ Ok t → Reads b f w' t.format t.packets
+  pub read : (t : Opened) → r ≡ Ok t → Reads b f w' t
 
 -- by the format alone: whose file it is is not known here
 abbrev pub ends_by : Format → List ℕ → import.Tail → Answer
 ends_by g f import.strict = cond (eqb (tail_by g f) (length f)) (accepted []) (refused 5 (tail_by g f ∷ []))
 ends_by g f import.tolerant = accepted []
 
-pub record RecordsOpen (g : Format) (f : List ℕ) (tail : import.Tail) (r : Result Opened Refusal) (w' : List ℕ) : Type 0 where
-  pub answers : told_opened r ≡ ends_by g f tail
-  pub read : (t : Opened) → r ≡ Ok t → (t.format ≡ g) × ReadTo g f w' t.packets
+pub record RecordsOpen (t : Trace) (tail : import.Tail) (r : Result Opened Refusal) (w' : List ℕ) : Type 0 where
+  pub answers : told_opened r ≡ ends_by t.format t.file.now tail
+  pub read : (o : Opened) → r ≡ Ok o → (o.trace ≡ t) × ReadTo t.format t.file.now w' o.packets
 
 -- 5, strict only
 unfoldable pub truncates : Tail → ℕ → ℕ → Bool

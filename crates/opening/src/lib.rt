@@ -6,7 +6,7 @@ ghost use Rattle.packets.specs.Adding.{ReadPre};
 ghost use Rattle.opening.specs.Opening.{tail_of, Opens, Sized, HeaderOpens, RecordsOpen, truncates};
 
 use packets::{Packets, read_packets};
-use trace::{Container, Format, Refusal, read_header};
+use trace::{Container, Refusal, Trace, read_header};
 
 // Where a record passes the end: refuse, or read what comes before it.
 #[derive(Clone, Copy)]
@@ -15,10 +15,10 @@ pub enum Tail {
     Tolerant,
 }
 
-// A trace that is open: what its header says, and how many packets it has and where its whole records end.
+// A trace that is open: how many packets it has, and where its whole records end.
 #[derive(Clone, Copy)]
-pub struct Opened {
-    pub format: Format,
+pub struct Opened<'a> {
+    pub trace: Trace<'a>,
     pub packets: Packets,
 }
 
@@ -32,40 +32,44 @@ fn is_truncated(tail: Tail, at: usize, end: usize) -> bool
     }
 }
 
-// Reads the packets of a file whose header is read.
-fn open_records(file: &[u8], work: &mut [u8], tail: Tail, format: Format) -> Result<Opened, Refusal>
-    requires { ReadPre format file.now work.old }
-    ensures { RecordsOpen format file.now (tail_of tail) result work.new }
+// Reads the packets of a trace whose header is read.
+fn open_records<'a>(
+    trace: Trace<'a>,
+    work: &mut [u8],
+    tail: Tail,
+) -> Result<Opened<'a>, Refusal>
+    requires { ReadPre trace.format trace.file.now work.old }
+    ensures { RecordsOpen trace.entry (tail_of tail) result work.new }
 {
-    let packets = read_packets(file, work, format);
+    let packets = read_packets(trace, work);
     let at = packets.tail;
-    if is_truncated(tail, at, file.len()) {
+    if is_truncated(tail, at, trace.file.len()) {
         return Err(Refusal::Truncated(at));
     }
-    Ok(Opened { format, packets })
+    Ok(Opened { trace, packets })
 }
 
 // Opens a file of a size that is taken, with work enough.
-fn open_header(
-    file: &[u8],
+fn open_header<'a>(
+    file: &'a [u8],
     work: &mut [u8],
     container: Container,
     tail: Tail,
-) -> Result<Opened, Refusal>
+) -> Result<Opened<'a>, Refusal>
     requires { Sized file.now work.old }
     ensures { HeaderOpens container file.now (tail_of tail) result work.new }
 {
     let format = read_header(file, container)?;
-    open_records(file, work, tail, format)
+    open_records(Trace { file, format }, work, tail)
 }
 
 // Opens a trace. A file that is too long, and work that is too short, are refused first.
-pub fn open_trace(
-    file: &[u8],
+pub fn open_trace<'a>(
+    file: &'a [u8],
     work: &mut [u8],
     container: Container,
     tail: Tail,
-) -> Result<Opened, Refusal>
+) -> Result<Opened<'a>, Refusal>
     ensures { Opens container file.now work.old (tail_of tail) result work.new }
 {
     let n = file.len();

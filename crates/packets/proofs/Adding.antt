@@ -10,7 +10,6 @@ use native.Mathlib.Omega.{arith}
 use native.Mathlib.Numerals.{add-one}
 use lib.ListN.{length, get_or, take, drop, length-drop}
 use lib.Seq.{length-take-le}
-use denote.Ref.{Bor}
 use borrow.Author.Tests.{le-leb, lt-leb, eqb-true}
 use lib.Dec.{eqb}
 use Rattle.laws.proofs.Choice.{split≤, split_b}
@@ -21,7 +20,8 @@ use Rattle.words.specs.Rows.{put_words}
 use Rattle.words.proofs.Rows.{length_puts, front_puts, word_puts, long_puts}
 use Rattle.container.specs.Container.{is_whole}
 use Rattle.container.specs.Packets.{Packet, or_none, packets}
-use Rattle.acl.specs.Reading.{between, packet_from, shown}
+use Rattle.acl.specs.Reading.{Held, StandsIn, between, bytes_in, end_of, packet_from, shown}
+use Rattle.acl.specs.declared.excerpt.Excerpt.{Excerpt}
 use Rattle.acl.specs.declared.Fragment.{Fragment}
 use Rattle.btsnoop.specs.Reading as btsnoop_reading
 use Rattle.btsnoop.specs.Packets as btsnoop_packets
@@ -31,13 +31,16 @@ use Rattle.pcap.specs.declared.Encoding.{Encoding}
 use Rattle.trace.specs.Formats.{file_head, record_head, size_by, time_by, packet_by, records_from}
 use Rattle.trace.proofs.Formats.{head_least, head_most, file_head_least, size_least, packet_room, packet_none, time_part}
 use Rattle.trace.specs.Walk.{RecordAt, is_empty}
-use Rattle.trace.specs.Finding.{bytes_of, FoundHere, Found}
-use Rattle.trace.proofs.Finding.{bytes_length, found_here, found_told, found_none}
+use Rattle.trace.specs.Reader.{Moves, Starts}
+use Rattle.trace.specs.Finding.{bytes_of, FoundHere, Reads}
+use Rattle.trace.proofs.Finding.{bytes_length, reads_same, found_here, found_told, found_end, found_none, none_end}
 use Rattle.trace.proofs.Walk.{flat_step}
 use Rattle.trace.proofs.ReaderLaws.{empty_told}
 use Rattle.trace.specs.declared.Format.{Format}
 use Rattle.trace.specs.declared.Format.TheVariants.{Btsnoop as ByDatalink, Pcap as ByEncoding}
+use Rattle.trace.specs.declared.Trace.{Trace}
 use Rattle.trace.specs.declared.record.Record.{Record}
+use Rattle.trace.specs.declared.reader.Reader.{Reader}
 use Rattle.packets.specs.PacketTable.{packet_at, packets_from, data_of}
 use Rattle.packets.proofs.PacketFrames.{packets_front, packets_snoc, data_front}
 use Rattle.packets.specs.Adding.{RecordIs, AddPre, Added, Passed, ReadPre, ReadTo, Walking, put_packet, row_of}
@@ -45,35 +48,45 @@ use Rattle.packets.specs.Adding.{RecordIs, AddPre, Added, Passed, ReadPre, ReadT
 -- ---- the packet and the time of a record, by the case that the format is
 
 module _ (r : Record) where
-  module _ (d : ℕ) (q : r.format ≡ ByDatalink d) where
-    pub btsnoop_pre : btsnoop_reading.RecordPre r.file.now r.at r.end
+  -- its bytes as an excerpt of the file
+  bytes_end : r.at + length (bytes_of r) ≡ r.end
+  bytes_end = omega (arith, bytes_length r, r.whole.least)
+
+  pub bytes_within : (b : List ℕ) → b ≡ bytes_of r → r.at + length b ≤ 1048576
+  bytes_within b e = rw e (omega (arith, bytes_end, r.whole.most, r.whole.small))
+
+  module _ (x : Excerpt) (e : bytes_in x ≡ bytes_of r) (p : x.place ≡ r.at) where
+    stands : StandsIn r.trace.file.now x
+    stands = record { same = rw (e, p, bytes_length r) }
+
+    held_in : (y : Option Fragment) → Held (end_of x) y → Held r.end y
+    held_in y h = let z : end_of x ≡ r.end = rw (e, p) bytes_end in rw z at h
+
+    module _ (d : ℕ) (q : r.trace.format ≡ ByDatalink d) where
+      pub btsnoop_packet : (y : Option Fragment) → btsnoop_reading.RecordIs x d y → RecordIs r y
+      unfolding packet_by time_by
+      btsnoop_packet y m = record { shows = rw (q, ← e) (m.shows r.trace.file.now stands); held = held_in y m.held }
+
+    module _ (c : Encoding) (q : r.trace.format ≡ ByEncoding c) where
+      pub pcap_packet : (y : Option Fragment) → pcap_reading.RecordIs x y → RecordIs r y
+      unfolding packet_by time_by pcap_packets.packet_of
+      pcap_packet y m = record { shows = rw (q, ← e) (m.shows r.trace.file.now stands (pcap_packets.milliseconds c.big c.nano (bytes_in x))); held = held_in y m.held }
+
+  module _ (d : ℕ) (q : r.trace.format ≡ ByDatalink d) where
+    pub btsnoop_room : r.at + 24 ≤ length r.trace.file.now
     unfolding record_head
-    btsnoop_pre = let h : r.at + 24 ≤ r.end = rw q at r.whole.least in record { least = h; most = r.whole.most; small = r.whole.small }
+    btsnoop_room = let h : r.at + 24 ≤ r.end = rw q at r.whole.least in omega (arith, r.whole.most)
 
-    pub btsnoop_packet : (x : Option Fragment) → btsnoop_reading.RecordIs r.file.now r.at r.end d x → RecordIs r x
-    unfolding packet_by time_by
-    btsnoop_packet x m = record { shows = rw q m.shows; held = m.held }
-
-    pub btsnoop_room : r.at + 24 ≤ length r.file.now
-    btsnoop_room = omega (arith, btsnoop_pre.least, btsnoop_pre.most)
-
-    pub btsnoop_time : (t : ℕ) → t ≡ btsnoop_packets.milliseconds (drop r.at r.file.now) → t ≡ time_by r.format (drop r.at r.file.now)
+    pub btsnoop_time : (t : ℕ) → t ≡ btsnoop_packets.milliseconds (drop r.at r.trace.file.now) → t ≡ time_by r.trace.format (drop r.at r.trace.file.now)
     unfolding time_by
     btsnoop_time t e = rw q e
 
-  module _ (e : Encoding) (q : r.format ≡ ByEncoding e) where
-    pub pcap_pre : pcap_reading.RecordPre r.file.now r.at r.end
+  module _ (e : Encoding) (q : r.trace.format ≡ ByEncoding e) where
+    pub pcap_room : r.at + 8 ≤ length r.trace.file.now
     unfolding record_head
-    pcap_pre = let h : r.at + 16 ≤ r.end = rw q at r.whole.least in record { least = h; most = r.whole.most; small = r.whole.small }
+    pcap_room = let h : r.at + 16 ≤ r.end = rw q at r.whole.least in omega (arith, r.whole.most)
 
-    pub pcap_packet : (x : Option Fragment) → pcap_reading.RecordIs r.file.now r.at r.end x → RecordIs r x
-    unfolding packet_by time_by pcap_packets.packet_of
-    pcap_packet x m = record { shows = rw q (m.shows (pcap_packets.milliseconds e.big e.nano (bytes_of r))); held = m.held }
-
-    pub pcap_room : r.at + 8 ≤ length r.file.now
-    pcap_room = omega (arith, pcap_pre.least, pcap_pre.most)
-
-    pub pcap_time : (t : ℕ) → t ≡ pcap_packets.milliseconds e.big e.nano (drop r.at r.file.now) → t ≡ time_by r.format (drop r.at r.file.now)
+    pub pcap_time : (t : ℕ) → t ≡ pcap_packets.milliseconds e.big e.nano (drop r.at r.trace.file.now) → t ≡ time_by r.trace.format (drop r.at r.trace.file.now)
     unfolding time_by
     pcap_time t n = rw q n
 
@@ -105,10 +118,10 @@ put_all w i x t a b c d u y p o q r s e = e ∙ rw (s, r, q, p, o, bool_word x.s
 
 module _ (r : Record) (w : List ℕ) (count : ℕ) (pre : AddPre r w count) (x : Option Fragment) (is : RecordIs r x) where
   abbrev g : Format
-  g = r.format
+  g = r.trace.format
 
   abbrev f : List ℕ
-  f = r.file.now
+  f = r.trace.file.now
 
   pub add_none : x ≡ None → Added r w count w count
   unfolding shown
@@ -170,9 +183,18 @@ module _ (r : Record) (w : List ℕ) (count : ℕ) (pre : AddPre r w count) (x :
           size = rw eu (length_puts (row_of y ms) w (6 * count));
         }
 
-pub walk_start : (g : Format) (f w : List ℕ) → ReadPre g f w → (at : ℕ) → at ≡ file_head g → Walking g f w w at 0
+pub walk_start : (t : Trace) (w : List ℕ) → ReadPre t.format t.file.now w → (q : Reader) → Starts t q → Walking t w w q 0
 unfolding packets_from data_of
-walk_start g f w p at e = record { least = omega (arith, file_head_least g); within = rw e p.some; size = refl; fits = record { fits = λ i h. absurd (omega arith) }; total = omega (arith, file_head_least g); same = rw e; tail = rw e }
+walk_start t w p q s = record {
+  trace = s.trace;
+  least = omega (arith, file_head_least t.format, s.at);
+  within = rw s.at p.some;
+  size = refl;
+  fits = record { fits = λ i h. absurd (omega arith) };
+  total = omega (arith, file_head_least t.format, s.at);
+  same = rw s.at;
+  tail = rw s.at;
+}
 
 or_none_append : (o : Maybe Packet) (xs : List Packet) → or_none o [] ++ xs ≡ or_none o xs
 or_none_append none xs = refl
@@ -229,71 +251,71 @@ module _ (g : Format) (f : List ℕ) (head : ℕ) (eh : head ≡ record_head g) 
   pub pass_less : length f - (i + head) < length f - i
   pass_less = omega (arith, here_empty.most, head_least g)
 
-  pub pass_fits : i + head ≤ length f
-  pass_fits = here_empty.most
-
 -- ---- all records
 
-module _ (g : Format) (b : Bor (List ℕ)) (w₀ : List ℕ) (p : ReadPre g b.now w₀) (w : List ℕ) (at count : ℕ) (v : Walking g b.now w₀ w at count) (x : Option Record) (n : Found g b at x) where
-  module _ (r : Record) (q : x ≡ Some r) where
-    found : FoundHere g b at r
-    found = found_here g b at x n r q
+module _ (t : Trace) (w₀ : List ℕ) (p : ReadPre t.format t.file.now w₀) (w : List ℕ) (q : Reader) (count : ℕ) (v : Walking t w₀ w q count) where
+  abbrev by : Format
+  by = t.format
 
-    here : RecordAt g b.now at r.end
-    here = found_told g b at x n r q
+  abbrev file : List ℕ
+  file = t.file.now
 
-    pub walk_in : r.end ≤ length b.now
-    walk_in = here.most
+  module _ (x : Option Record) (z : Reader) (n : Reads q x z) where
+    module _ (r : Record) (e : x ≡ Some r) where
+      found : FoundHere t q.at r
+      found = found_here t q v.trace x z n r e
 
-    pub walk_pre : AddPre r w count
-    walk_pre = record {
-      fits = rw found.same_file v.fits;
-      room = omega (arith, v.total, v.size, p.room, here.least, here.most);
-    }
+      here : RecordAt by file q.at r.end
+      here = found_told t q v.trace x z n r e
 
-    pub walk_turn : (u : List ℕ) (c : ℕ) → Added r w count u c → Walking g b.now w₀ u r.end c
-    unfolding packets
-    walk_turn u c a =
-        let l : packets_from b.now u 0 c ≡ packets_from b.now w 0 count ++ or_none (packet_by g (between b.now at r.end)) [] = rw (found.same_format, found.starts, found.same_file) at a.list in
-        record {
-          least = omega (arith, v.least, here.least);
-          within = here.most;
-          size = a.size ∙ v.size;
-          fits = rw found.same_file at a.fits;
-          total = omega (arith, a.total, v.total, here.least, found.starts);
-          same = rw (
-            l,
-            append_assoc,
-            or_none_append (packet_by g (between b.now at r.end)) (packets (packet_by g) (records_from g b.now r.end)),
-          ) (rw here.list at v.same);
-          tail = sym (flat_step g b.now at r.end here) ∙ v.tail;
-        }
+      to_end : z.at ≡ r.end
+      to_end = found_end t q v.trace x z n r e
 
-    module _ (head : ℕ) (eh : head ≡ record_head g) (h : r.end ≡ at + head) (to : ℕ) (z : Passed g b.now r.end to) where
-      pub walk_pass_less : length b.now - to < length b.now - at
-      walk_pass_less = omega (arith, head_least g, here.least, here.most, z.least)
-
-      pub walk_pass : Walking g b.now w₀ w to count
-      walk_pass =
-          let y : Passed g b.now at to = pass_then g b.now at r.end to (pass_one g b.now at r.end here (h ∙ rw eh)) z in
+      pub walk_turn : (u : List ℕ) (c : ℕ) → Added r w count u c → Walking t w₀ u z c
+      unfolding packets
+      walk_turn u c a =
+          let l : packets_from file u 0 c ≡ packets_from file w 0 count ++ or_none (packet_by by (between file q.at r.end)) [] = rw (found.same, found.starts) at a.list in
           record {
-            least = omega (arith, v.least, y.least);
-            within = y.most;
-            size = v.size;
-            fits = v.fits;
-            total = omega (arith, v.total, y.least);
-            same = rw y.list at v.same;
-            tail = sym y.tail ∙ v.tail;
+            trace = reads_same t q v.trace x z n;
+            least = omega (arith, v.least, here.least, to_end);
+            within = rw to_end here.most;
+            size = a.size ∙ v.size;
+            fits = rw found.same at a.fits;
+            total = omega (arith, a.total, v.total, here.least, found.starts, to_end);
+            same = rw (
+              to_end,
+              l,
+              append_assoc,
+              or_none_append (packet_by by (between file q.at r.end)) (packets (packet_by by) (records_from by file r.end)),
+            ) (rw here.list at v.same);
+            tail = rw to_end (sym (flat_step by file q.at r.end here) ∙ v.tail);
           }
 
-  pub ended : x ≡ None → ReadTo g b.now w (record { count = count; tail = at })
-  unfolding packets
-  ended m =
-      let s : records_from g b.now at ≡ [] = found_none g b at x n m in
-      record {
-        read = record {
-          tabled = record { fits = v.fits; total = omega (arith, v.total, v.within); small = p.small; room = rw v.size p.room };
-          list = sym (append-nil (packets_from b.now w 0 count)) ∙ (rw s at v.same);
-        };
-        tail = (let z : at + 0 ≡ at = omega arith in sym z) ∙ (rw s at v.tail);
-      }
+      module _ (head : ℕ) (eh : head ≡ record_head by) (h : r.end ≡ r.at + head) (to : ℕ) (y : Passed by file r.end to) (k : Reader) (m : Moves z to k) where
+        passed : Passed by file q.at to
+        passed = pass_then by file q.at r.end to (pass_one by file q.at r.end here (h ∙ rw (eh, found.starts))) y
+
+        pub walk_pass : Walking t w₀ w k count
+        walk_pass = record {
+          trace = m.trace ∙ reads_same t q v.trace x z n;
+          least = omega (arith, v.least, passed.least, m.at);
+          within = rw m.at passed.most;
+          size = v.size;
+          fits = v.fits;
+          total = omega (arith, v.total, passed.least, m.at);
+          same = rw m.at (rw passed.list at v.same);
+          tail = rw m.at (sym passed.tail ∙ v.tail);
+        }
+
+    pub ended : x ≡ None → ReadTo by file w (record { count = count; tail = z.at })
+    unfolding packets
+    ended m =
+        let s : records_from by file q.at ≡ [] = found_none t q v.trace x z n m in
+        let o : z.at ≡ q.at = none_end t q v.trace x z n m in
+        record {
+          read = record {
+            tabled = record { fits = v.fits; total = omega (arith, v.total, v.within); small = p.small; room = rw v.size p.room };
+            list = sym (append-nil (packets_from file w 0 count)) ∙ (rw s at v.same);
+          };
+          tail = rw o ((let z : q.at + 0 ≡ q.at = omega arith in sym z) ∙ (rw s at v.tail));
+        }

@@ -8,14 +8,16 @@ use Rattle.acl.specs.declared.Fragment.{Fragment}
 use Rattle.trace.specs.Formats.{file_head, time_by, packet_by, records_from, packets_by, tail_by}
 use Rattle.trace.specs.Finding.{bytes_of}
 use Rattle.trace.specs.declared.Format.{Format}
+use Rattle.trace.specs.declared.Trace.{Trace}
 use Rattle.trace.specs.declared.record.Record.{Record}
+use Rattle.trace.specs.declared.reader.Reader.{Reader}
 use Rattle.packets.specs.PacketTable.{packets_from, data_of, Fits, Read}
 use Rattle.packets.specs.declared.Packets.{Packets}
 
 -- ---- the packet of a record
 
 pub record RecordIs (r : Record) (x : Option Fragment) : Type 0 where
-  pub shows : packet_by r.format (bytes_of r) ≡ shown r.file.now (time_by r.format (bytes_of r)) x
+  pub shows : packet_by r.trace.format (bytes_of r) ≡ shown r.trace.file.now (time_by r.trace.format (bytes_of r)) x
   pub held : Held r.end x
 
 -- ---- a packet as a row of words
@@ -29,12 +31,12 @@ put_packet w i x t = put_words w (6 * i) (row_of x t)
 -- ---- one packet more
 
 pub record AddPre (r : Record) (w : List ℕ) (count : ℕ) : Type 0 where
-  pub fits : Fits r.file.now w count
+  pub fits : Fits r.trace.file.now w count
   pub room : 24 * count + 24 ≤ length w
 
 pub record Added (r : Record) (w : List ℕ) (count : ℕ) (u : List ℕ) (n : ℕ) : Type 0 where
-  pub list : packets_from r.file.now u 0 n ≡ packets_from r.file.now w 0 count ++ or_none (packet_by r.format (bytes_of r)) []
-  pub fits : Fits r.file.now u n
+  pub list : packets_from r.trace.file.now u 0 n ≡ packets_from r.trace.file.now w 0 count ++ or_none (packet_by r.trace.format (bytes_of r)) []
+  pub fits : Fits r.trace.file.now u n
   pub total : 25 * n + data_of u n ≤ 25 * count + data_of w count + (r.end - r.at)
   pub more : n ≤ count + 1
   pub size : length u ≡ length w
@@ -59,11 +61,13 @@ pub record ReadTo (g : Format) (f u : List ℕ) (r : Packets) : Type 0 where
   pub read : Read g f u r.count
   pub tail : r.tail ≡ tail_by g f
 
-pub record Walking (g : Format) (f w₀ w : List ℕ) (at count : ℕ) : Type 0 where
-  pub least : 16 ≤ at
-  pub within : at ≤ length f
+-- a reader of the trace, after the packets in the table
+pub record Walking (t : Trace) (w₀ w : List ℕ) (q : Reader) (count : ℕ) : Type 0 where
+  pub trace : q.trace ≡ t
+  pub least : 16 ≤ q.at
+  pub within : q.at ≤ length t.file.now
   pub size : length w ≡ length w₀
-  pub fits : Fits f w count
-  pub total : 16 + 25 * count + data_of w count ≤ at
-  pub same : packets_from f w 0 count ++ packets (packet_by g) (records_from g f at) ≡ packets_by g f
-  pub tail : at + length (flat (records_from g f at)) ≡ tail_by g f
+  pub fits : Fits t.file.now w count
+  pub total : 16 + 25 * count + data_of w count ≤ q.at
+  pub same : packets_from t.file.now w 0 count ++ packets (packet_by t.format) (records_from t.format t.file.now q.at) ≡ packets_by t.format t.file.now
+  pub tail : q.at + length (flat (records_from t.format t.file.now q.at)) ≡ tail_by t.format t.file.now

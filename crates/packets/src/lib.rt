@@ -6,27 +6,32 @@ ghost use Rattle.trace.specs.Formats.{time_by};
 ghost use Rattle.trace.specs.Walk.{is_empty};
 ghost use Rattle.packets.specs.Adding.{RecordIs, put_packet, AddPre, Added, Passed, ReadPre, ReadTo};
 
-use acl::Fragment;
-use trace::{Format, Record, file_head, record_at, record_head, size_at};
+use acl::{Excerpt, Fragment};
+use trace::{Format, Record, Trace, record_head};
 use words::{put32, put64};
 
 // The packet of a record.
 fn read_packet(r: Record) -> Option<Fragment>
     ensures { RecordIs r.entry result }
 {
-    match r.format {
-        Format::Btsnoop(datalink) => btsnoop::read_packet(r.file, r.at, r.end, datalink),
-        Format::Pcap(_) => pcap::read_packet(r.file, r.at, r.end),
+    let bytes = Excerpt {
+        bytes: r.bytes(),
+        place: r.at,
+    };
+    match r.trace.format {
+        Format::Btsnoop(datalink) => btsnoop::read_packet(bytes, datalink),
+        Format::Pcap(_) => pcap::read_packet(bytes),
     }
 }
 
 // The milliseconds of a record.
 fn time_of(r: Record) -> u64
-    ensures { result ≡ time_by r.entry.format (drop r.entry.at r.entry.file.now) }
+    ensures { result ≡ time_by r.entry.trace.format (drop r.entry.at r.entry.trace.file.now) }
 {
-    match r.format {
-        Format::Btsnoop(_) => btsnoop::time_at(r.file, r.at),
-        Format::Pcap(e) => pcap::time_at(r.file, r.at, e),
+    let file = r.trace.file;
+    match r.trace.format {
+        Format::Btsnoop(_) => btsnoop::time_at(file, r.at),
+        Format::Pcap(e) => pcap::time_at(file, r.at, e),
     }
 }
 
@@ -65,46 +70,48 @@ pub struct Packets {
 }
 
 // Whether a whole record without bytes stands at a place.
-fn is_empty(file: &[u8], at: usize, format: Format) -> bool
-    requires { at ≤ length file.now }
-    ensures { result ≡ is_empty format (drop at file.now) }
+fn is_empty(trace: Trace, at: usize) -> bool
+    requires { at ≤ length trace.file.now }
+    ensures { result ≡ is_empty trace.entry.format (drop at trace.entry.file.now) }
 {
-    let head = record_head(format);
-    if file.len() - at < head {
+    let head = record_head(trace.format);
+    if trace.file.len() - at < head {
         return false;
     }
-    size_at(file, at, format) == head
+    trace.size_at(at) == head
 }
 
 // The place after the records without bytes that stand at a place: they hold no packets.
-// Each is as long as the first, so the next place does not wait for a length that is read, as that of a reader does.
-fn pass_empty(file: &[u8], at: usize, format: Format) -> usize
-    requires { at ≤ length file.now }
-    ensures { Passed format file.now at result }
+fn pass_empty(trace: Trace, at: usize) -> usize
+    requires { at ≤ length trace.file.now }
+    ensures { Passed trace.entry.format trace.entry.file.now at result }
 {
-    let head = record_head(format);
+    let head = record_head(trace.format);
     let mut i = at;
-    while is_empty(file, i, format) {
+    // Stays: moved by hand; each is as long as the first, so the next place does not wait for a length that is read, as that of a reader does.
+    while is_empty(trace, i) {
         i += head;
     }
     i
 }
 
-// Reads the packets of the file's whole records into the table at the start of work, by a reader.
-pub fn read_packets(file: &[u8], w: &mut [u8], format: Format) -> Packets
-    requires { ReadPre format file.now w.old }
-    ensures { ReadTo format file.now w.new result }
+// Reads the packets of the trace's whole records into the table at the start of work, by a reader.
+pub fn read_packets(trace: Trace, w: &mut [u8]) -> Packets
+    requires { ReadPre trace.format trace.file.now w.old }
+    ensures { ReadTo trace.entry.format trace.entry.file.now w.new result }
 {
-    let head = record_head(format);
-    let mut at = file_head(format);
+    let head = record_head(trace.format);
+    let mut records = trace.records();
     let mut count = 0;
-    while let Some(r) = record_at(file, at, format) {
-        if r.end == at + head {
-            at = pass_empty(file, r.end, format);
+    while let Some(r) = records.next() {
+        if r.end == r.at + head {
+            records = records.moved(pass_empty(trace, r.end));
         } else {
             count = add_packet(r, w, count);
-            at = r.end;
         }
     }
-    Packets { count, tail: at }
+    Packets {
+        count,
+        tail: records.at,
+    }
 }

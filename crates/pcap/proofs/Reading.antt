@@ -1,22 +1,24 @@
 -- The size, the time and the packet of a record that stands at a place of a file.
 use Rattle.std.specs.Prelude.{Option, None}
-use Prim.Native.Nat.{ℕ, ◌+◌, ◌-◌, ◌*◌, ◌/◌, ◌<◌, ◌≤◌}
+use Prim.Native.Nat.{ℕ, ◌+◌, ◌*◌, ◌/◌, ◌<◌, ◌≤◌}
 use mathlib.Core.Path.{◌≡◌, sym, ◌∙◌}
 use mathlib.Core.Bool.{Bool, true, false, cond}
 use mathlib.Core.List.{List, ◌++◌}
 use native.Mathlib.Omega.{arith}
 use lib.ListN.{length, drop, length-drop}
-use lib.Seq.{length-take-le}
+use lib.Seq.{drop-drop}
 use borrow.Author.Tests.{eq-eqb, ne_eqb}
 use Rattle.laws.proofs.Choice.{split≤}
 use Rattle.laws.specs.Numbers.{be32}
-use Rattle.acl.proofs.Parts.{be32_part, be32_drop, le32_drop, drop_part}
-use Rattle.acl.specs.Reading.{AclPre, H4Is, between, shown}
+use Rattle.acl.proofs.Parts.{be32_drop, le32_drop}
+use Rattle.acl.proofs.Reading.{after_end, after_stands}
+use Rattle.acl.specs.Reading.{After, H4Is, bytes_in, shown}
 use Rattle.acl.specs.declared.Fragment.{Fragment}
+use Rattle.acl.specs.declared.excerpt.Excerpt.{Excerpt}
 use Rattle.pcap.specs.Header.{number}
 use Rattle.pcap.specs.Records.{record_size}
 use Rattle.pcap.specs.Packets.{milliseconds, directed_packet}
-use Rattle.pcap.specs.Reading.{RecordPre, RecordIs}
+use Rattle.pcap.specs.Reading.{RecordIs}
 use Rattle.pcap.proofs.Laws.{number_front, too_short}
 
 -- ---- a fraction of a second
@@ -50,39 +52,29 @@ time_front big nano r x h = rw (number_front big r x 0 (omega arith), number_fro
 
 -- ---- the packet
 
-module _ (f : List ℕ) (at end : ℕ) (pre : RecordPre f at end) where
-  part : drop 16 (between f at end) ≡ between f (at + 16) end
-  part = let z : end - at - 16 ≡ end - (at + 16) = omega arith in drop_part f at (end - at) 16 (omega (arith, pre.least)) ∙ rw z
+module _ (x : Excerpt) where
+  abbrev b : List ℕ
+  b = bytes_in x
 
-  part_length : length (between f (at + 16) end) ≡ end - (at + 16)
-  part_length = length-take-le (end - (at + 16)) (drop (at + 16) f) (simp length-drop (omega (arith, pre.most)))
-
-  pub packet_short : end - at < 20 → RecordIs f at end None
+  pub packet_short : 16 ≤ length b → length b < 20 → RecordIs x None
   unfolding shown
-  packet_short h = record { shows = λ time. rw part (too_short time (between f (at + 16) end) (omega (arith, part_length))); held = tt }
+  packet_short h s = record { shows = λ f z time. rw (too_short time (drop 16 b) (omega (arith, length-drop 16 b))); held = tt }
 
-  module _ (h : 20 ≤ end - at) (way : ℕ) (e : way ≡ be32 f (at + 16)) where
-    pub packet_pre : way < 2 → AclPre f (at + 20) end 0 way
-    packet_pre g = record { order = omega arith; inside = pre.most; small = pre.small; adapter = omega arith; way = omega arith }
+  module _ (h : 20 ≤ length b) (way : ℕ) (e : way ≡ be32 b 16) where
+    way_is : be32 (drop 16 b) 0 ≡ way
+    way_is = be32_drop b 16 0 ∙ sym e
 
-    way_is : be32 (between f (at + 16) end) 0 ≡ way
-    way_is = let z : at + 16 + 0 ≡ at + 16 = omega arith in be32_part f (at + 16) (end - (at + 16)) 0 (omega arith) ∙ rw z (sym e)
-
-    rest_is : drop 4 (between f (at + 16) end) ≡ between f (at + 20) end
-    rest_is =
-        let z : end - (at + 16) - 4 ≡ end - (at + 20) = omega arith in
-        let y : at + 16 + 4 ≡ at + 20 = omega arith in
-        drop_part f (at + 16) (end - (at + 16)) 4 (omega arith) ∙ rw (z, y)
-
-    pub packet_other : 2 ≤ way → RecordIs f at end None
+    pub packet_other : 2 ≤ way → RecordIs x None
     unfolding shown directed_packet
-    packet_other g = record { shows = λ time. rw (part, way_is, ne_eqb way 0 (λ z. absurd (omega arith)), ne_eqb way 1 (λ z. absurd (omega arith))); held = tt }
+    packet_other g = record { shows = λ f s time. rw (way_is, ne_eqb way 0 (λ z. absurd (omega arith)), ne_eqb way 1 (λ z. absurd (omega arith))); held = tt }
 
-    pub packet_directed : way < 2 → (r : Option Fragment) → H4Is f (at + 20) end way r → RecordIs f at end r
+    pub packet_directed : way < 2 → (y : Excerpt) → After x 20 y → (r : Option Fragment) → H4Is y way r → RecordIs x r
     unfolding directed_packet
-    packet_directed g r a = record {
-      shows = λ time. rw (part, way_is, rest_is) (split≤ 1 way
-          (λ l. let z : way ≡ 1 = omega arith in rw (ne_eqb way 0 (λ y. absurd (omega arith)), eq-eqb way 1 z, ← z) (a.shows time))
-          (λ l. let z : way ≡ 0 = omega arith in rw (eq-eqb way 0 z, ← z) (a.shows time)));
-      held = a.held;
+    packet_directed g y a r m = record {
+      shows = λ f s time.
+        let d = m.shows f (after_stands x 20 y a h f s) time in
+        rw (way_is, drop-drop 4 16 b, ← a.rest) (split≤ 1 way
+            (λ l. let z : way ≡ 1 = omega arith in rw (ne_eqb way 0 (λ y. absurd (omega arith)), eq-eqb way 1 z, ← z) d)
+            (λ l. let z : way ≡ 0 = omega arith in rw (eq-eqb way 0 z, ← z) d));
+      held = rw (after_end x 20 y a h) at m.held;
     }

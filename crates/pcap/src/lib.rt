@@ -6,9 +6,9 @@ ghost use Rattle.pcap.specs.Header.{number};
 ghost use Rattle.pcap.specs.Headers.{encoding_of, header_of};
 ghost use Rattle.pcap.specs.Records.{record_size};
 ghost use Rattle.pcap.specs.Packets.{milliseconds};
-ghost use Rattle.pcap.specs.Reading.{RecordPre, RecordIs};
+ghost use Rattle.pcap.specs.Reading.{RecordIs};
 
-use acl::{Fragment, read_h4};
+use acl::{Excerpt, Fragment};
 use words::{get_be32, get_le32, same};
 
 // How the numbers of a file are written, by its magic: the highest byte first, fractions of a second in nanoseconds.
@@ -80,17 +80,17 @@ pub fn record_size(file: &[u8], at: usize, big: bool) -> usize
     16 + get_number(file, at + 8, big) as usize
 }
 
-// The packet of the record from one place up to another: a direction, then H4.
-pub fn read_packet(file: &[u8], at: usize, end: usize) -> Option<Fragment>
-    requires { RecordPre file.now at end }
-    ensures { RecordIs file.now at end result }
+// The packet of a record: a direction, then H4.
+pub fn read_packet(r: Excerpt) -> Option<Fragment>
+    requires { 16 ≤ length r.bytes.now }
+    ensures { RecordIs r.entry result }
 {
-    if end - at < 20 {
+    if r.bytes.len() < 20 {
         return None;
     }
-    let way = get_be32(file, at + 16);
+    let way = get_be32(r.bytes, 16);
     if way < 2 {
-        return read_h4(file, at + 20, end, way);
+        return r.after(20).read_h4(way);
     }
     None
 }

@@ -21,7 +21,7 @@ use Rattle.signs.specs.Recorded.{is_short, is_zeros, is_acl, is_none, is_skipped
 -- ---- its numbers
 
 module _ (r : Record) (b : List ℕ) (s : b ≡ bytes_of r) where
-  module _ (d : ℕ) (q : r.format ≡ ByDatalink d) where
+  module _ (d : ℕ) (q : r.trace.format ≡ ByDatalink d) where
     pub original_btsnoop : 0 + 4 ≤ length b
     original_btsnoop = omega (arith, bytes_btsnoop r b s d q)
 
@@ -31,22 +31,22 @@ module _ (r : Record) (b : List ℕ) (s : b ≡ bytes_of r) where
     pub count_btsnoop : 12 + 4 ≤ length b
     count_btsnoop = omega (arith, bytes_btsnoop r b s d q)
 
-    pub short_btsnoop : (x y : ℕ) → x ≡ be32 b 4 → y ≡ be32 b 0 → ltb x y ≡ is_short r.format (bytes_of r)
+    pub short_btsnoop : (x y : ℕ) → x ≡ be32 b 4 → y ≡ be32 b 0 → ltb x y ≡ is_short r.trace.format (bytes_of r)
     unfolding is_short
     short_btsnoop x y ex ey = rw (q, ← s, ex, ey)
 
-    pub drops_btsnoop : (n : ℕ) → n ≡ be32 b 12 → n ≡ drops r.format (bytes_of r)
+    pub drops_btsnoop : (n : ℕ) → n ≡ be32 b 12 → n ≡ drops r.trace.format (bytes_of r)
     unfolding drops
     drops_btsnoop n e = rw (q, ← s) e
 
-  module _ (x : Encoding) (q : r.format ≡ ByEncoding x) where
+  module _ (x : Encoding) (q : r.trace.format ≡ ByEncoding x) where
     pub captured_pcap : 8 + 4 ≤ length b
     captured_pcap = omega (arith, bytes_pcap r b s x q)
 
     pub original_pcap : 12 + 4 ≤ length b
     original_pcap = omega (arith, bytes_pcap r b s x q)
 
-    pub short_pcap : (n m : ℕ) → n ≡ number x.big b 8 → m ≡ number x.big b 12 → ltb n m ≡ is_short r.format (bytes_of r)
+    pub short_pcap : (n m : ℕ) → n ≡ number x.big b 8 → m ≡ number x.big b 12 → ltb n m ≡ is_short r.trace.format (bytes_of r)
     unfolding is_short
     short_pcap n m en em = rw (q, ← s, en, em)
 

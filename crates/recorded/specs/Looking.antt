@@ -71,5 +71,5 @@ pub record Bounded (s : Seen) (at : ℕ) : Type 0 where
   pub zeros : 16 * s.signs.zeros.many ≤ at
 
 pub record Looks (r : Record) (s t : Seen) : Type 0 where
-  pub is : t ≡ looked r.format s r.at (bytes_of r)
+  pub is : t ≡ looked r.trace.format s r.at (bytes_of r)
   pub bounded : Bounded t r.end

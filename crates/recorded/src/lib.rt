@@ -9,7 +9,7 @@ ghost use Rattle.recorded.specs.Looking.{recorded_of, Readable, noted_if, GapPre
 
 use pcap::get_number;
 use signs::{Gap, is_acl, lacks_packet, note};
-use trace::{Format, Record, file_head, record_at};
+use trace::{Format, Record, Trace};
 use words::get_be32;
 
 // The signs: records stored short, the recorder's drops, ACL packets skipped because data is not there, records of zeros.
@@ -30,10 +30,10 @@ struct Seen {
 
 // Whether a record is stored short.
 fn is_short(r: Record) -> bool
-    ensures { result ≡ is_short r.entry.format (bytes_of r.entry) }
+    ensures { result ≡ is_short r.entry.trace.format (bytes_of r.entry) }
 {
     let bytes = r.bytes();
-    match r.format {
+    match r.trace.format {
         Format::Btsnoop(_) => get_be32(bytes, 4) < get_be32(bytes, 0),
         Format::Pcap(e) => get_number(bytes, 8, e.big) < get_number(bytes, 12, e.big),
     }
@@ -41,9 +41,9 @@ fn is_short(r: Record) -> bool
 
 // The packets that the recorder dropped up to a record. A pcap file does not say.
 fn drops_of(r: Record) -> u32
-    ensures { result ≡ drops r.entry.format (bytes_of r.entry) }
+    ensures { result ≡ drops r.entry.trace.format (bytes_of r.entry) }
 {
-    match r.format {
+    match r.trace.format {
         Format::Btsnoop(_) => get_be32(r.bytes(), 12),
         Format::Pcap(_) => 0,
     }
@@ -51,7 +51,7 @@ fn drops_of(r: Record) -> u32
 
 // Whether it is ACL data and holds no packet that import takes.
 fn is_skipped(r: Record) -> bool
-    ensures { result ≡ is_skipped r.entry.format (bytes_of r.entry) }
+    ensures { result ≡ is_skipped r.entry.trace.format (bytes_of r.entry) }
 {
     is_acl(r) && lacks_packet(r)
 }
@@ -101,10 +101,10 @@ fn look_at(r: Record, s: Seen) -> Seen
     Seen { signs, last: here }
 }
 
-// What the file's whole records show: stored short, the recorder's drops, ACL packets skipped, records of zeros.
-pub fn record_signs(file: &[u8], format: Format) -> Recorded
-    requires { Readable file.now }
-    ensures { recorded_of result ≡ record_gaps format file.now }
+// What the trace's whole records show: stored short, the recorder's drops, ACL packets skipped, records of zeros.
+pub fn record_signs(trace: Trace) -> Recorded
+    requires { Readable trace.file.now }
+    ensures { recorded_of result ≡ record_gaps trace.entry.format trace.entry.file.now }
 {
     let none = Gap { many: 0, first: 0 };
     let mut s = Seen {
@@ -116,10 +116,8 @@ pub fn record_signs(file: &[u8], format: Format) -> Recorded
         },
         last: 0,
     };
-    let mut at = file_head(format);
-    while let Some(r) = record_at(file, at, format) {
+    for r in trace.records() {
         s = look_at(r, s);
-        at = r.end;
     }
     s.signs
 }

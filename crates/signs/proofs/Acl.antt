@@ -96,10 +96,10 @@ module _ (b : List ℕ) where
 
 -- by the case that the format is
 module _ (r : Record) (b : List ℕ) (s : b ≡ bytes_of r) where
-  pub acl_flagged : (d : ℕ) → r.format ≡ ByDatalink d → (t : Bool) → t ≡ is_acl (ByDatalink d) b → t ≡ is_acl r.format (bytes_of r)
+  pub acl_flagged : (d : ℕ) → r.trace.format ≡ ByDatalink d → (t : Bool) → t ≡ is_acl (ByDatalink d) b → t ≡ is_acl r.trace.format (bytes_of r)
   acl_flagged d q t e = rw (q, ← s) e
 
-  pub acl_directed : (x : Encoding) → r.format ≡ ByEncoding x → (t : Bool) → DirectedIs b t → t ≡ is_acl r.format (bytes_of r)
+  pub acl_directed : (x : Encoding) → r.trace.format ≡ ByEncoding x → (t : Bool) → DirectedIs b t → t ≡ is_acl r.trace.format (bytes_of r)
   acl_directed x q t e = rw (q, ← s) (e.is x)
 
 -- ---- its packet
@@ -244,15 +244,15 @@ acl_long (ByEncoding x) r h t = split≤ 21 (length r)
     let z : eqb (get_or (drop 20 r) 0 0) 2 ≡ false = rw n in
     no_way t (rw z (and_false (eqb (be32 (drop 16 r) 0) 0 || eqb (be32 (drop 16 r) 0) 1))))
 
-module _ (r : Record) (a : Bool) (h : a ≡ is_acl r.format (bytes_of r)) where
-  module _ (e : a ≡ true) (n : ℕ) (q : n ≡ before_packet r.format) (b : List ℕ) (s : b ≡ bytes_of r) where
+module _ (r : Record) (a : Bool) (h : a ≡ is_acl r.trace.format (bytes_of r)) where
+  module _ (e : a ≡ true) (n : ℕ) (q : n ≡ before_packet r.trace.format) (b : List ℕ) (s : b ≡ bytes_of r) where
     pub packet_lies : n ≤ length b
-    packet_lies = rw (q, s) (acl_long r.format (bytes_of r) (bytes_least r) (sym h ∙ e))
+    packet_lies = rw (q, s) (acl_long r.trace.format (bytes_of r) (bytes_least r) (sym h ∙ e))
 
-    pub packet_lacks : (t : Bool) → t ≡ lacks_data (rest b n) → t ≡ is_none (packet_by r.format (bytes_of r))
+    pub packet_lacks : (t : Bool) → t ≡ lacks_data (rest b n) → t ≡ is_none (packet_by r.trace.format (bytes_of r))
     packet_lacks t et =
         let z : rest b n ≡ drop n b = take_rest b n in
-        et ∙ sym (acl_data r.format (bytes_of r) (sym h ∙ e) ∙ rw (z, s, q))
+        et ∙ sym (acl_data r.trace.format (bytes_of r) (sym h ∙ e) ∙ rw (z, s, q))
 
-  pub packet_none : a ≡ false → not a ≡ is_none (packet_by r.format (bytes_of r))
-  packet_none e = rw e (sym (acl_none r.format (bytes_of r) (sym h ∙ e)))
+  pub packet_none : a ≡ false → not a ≡ is_none (packet_by r.trace.format (bytes_of r))
+  packet_none e = rw e (sym (acl_none r.trace.format (bytes_of r) (sym h ∙ e)))

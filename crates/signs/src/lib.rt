@@ -41,8 +41,7 @@ pub fn note(g: Gap, by: u64, at: usize) -> Gap
 fn is_monitor_acl(flags: u32) -> bool
     ensures { result ≡ (eqb (flags % 65536) 4 || eqb (flags % 65536) 5) }
 {
-    let op = flags % 65536;
-    op == 4 || op == 5
+    matches!(flags % 65536, 4 | 5)
 }
 
 // Whether an H4 packet's first byte is there and says ACL data.
@@ -83,10 +82,10 @@ fn is_directed_acl(bytes: &[u8]) -> bool
 
 // Whether a record is ACL data.
 pub fn is_acl(r: Record) -> bool
-    ensures { result ≡ is_acl r.entry.format (bytes_of r.entry) }
+    ensures { result ≡ is_acl r.entry.trace.format (bytes_of r.entry) }
 {
     let bytes = r.bytes();
-    match r.format {
+    match r.trace.format {
         Format::Btsnoop(datalink) => is_flagged_acl(bytes, datalink),
         Format::Pcap(_) => is_directed_acl(bytes),
     }
@@ -115,7 +114,7 @@ fn before_packet(format: Format) -> usize
 
 // Whether a record holds no ACL packet that import takes. It does not read the packet.
 pub fn lacks_packet(r: Record) -> bool
-    ensures { result ≡ is_none (packet_by r.entry.format (bytes_of r.entry)) }
+    ensures { result ≡ is_none (packet_by r.entry.trace.format (bytes_of r.entry)) }
 {
-    !is_acl(r) || lacks_data(&r.bytes()[before_packet(r.format)..])
+    !is_acl(r) || lacks_data(&r.bytes()[before_packet(r.trace.format)..])
 }

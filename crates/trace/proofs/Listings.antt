@@ -1,5 +1,5 @@
 -- The loop that lists the records, and where a record stands that starts at an offset of the list.
-use Rattle.std.specs.Prelude.{Result, Ok, Err}
+use Rattle.std.specs.Prelude.{Option, Some, None, Result, Ok, Err}
 use Prim.Native.Nat.{ℕ, zero, suc, ◌+◌, ◌-◌, ◌<◌, ◌≤◌}
 use mathlib.Core.Path.{◌≡◌, refl, sym, ap, ◌∙◌}
 use mathlib.Core.List.{List, [], ◌∷◌}
@@ -17,48 +17,58 @@ use Rattle.trace.proofs.Formats.{head_least, file_head_most, head_of, records_of
 use Rattle.trace.proofs.Headers.{header_as}
 use Rattle.trace.specs.Walk.{RecordAt}
 use Rattle.trace.proofs.Walk.{records_eq, flat_step}
-use Rattle.trace.specs.Reader.{step_of}
-use Rattle.trace.proofs.ReaderLaws.{record_told, all_met, whole_fits, whole_list}
+use Rattle.trace.specs.Reader.{Starts}
+use Rattle.trace.proofs.ReaderLaws.{whole_fits, whole_list}
+use Rattle.trace.specs.Finding.{Reads}
+use Rattle.trace.proofs.Finding.{reads_same, found_here, found_told, found_end, found_none, none_end}
 use Rattle.trace.specs.Listing.{listing, starts_from, starts_of, if_accepted, Lists}
 use Rattle.trace.specs.declared.Container.{Container}
 use Rattle.trace.specs.declared.Format.{Format}
 use Rattle.trace.specs.declared.Refusal.{Refusal}
 use Rattle.trace.specs.declared.Refusal.TheVariants.{FileLong, WorkShort, NotBtsnoop, Datalink, NotPcap, LinkType, Truncated}
-use Rattle.trace.specs.declared.Step.{Step}
-use Rattle.trace.specs.declared.Step.TheVariants.{Record}
+use Rattle.trace.specs.declared.Trace.{Trace}
 use Rattle.trace.specs.declared.Walked.{Walked}
+use Rattle.trace.specs.declared.record.Record.{Record}
+use Rattle.trace.specs.declared.reader.Reader.{Reader}
 use Rattle.trace.specs.Listings.{Listing, WalkedTo}
 
-pub listing_start : (g : Format) (f d : List ℕ) (at : ℕ) → at ≡ file_head g → Listing g f d d at 0
-listing_start g f d at e = record { least = omega arith; most = omega (arith, file_head_most g); long = refl; number = rw e (omega arith); tail = rw e; done = rw e }
+pub listing_start : (t : Trace) (d : List ℕ) (q : Reader) → Starts t q → Listing t d d q 0
+listing_start t d q s =
+    let g = t.format in
+    record { trace = s.trace; least = omega arith; most = rw s.at (omega (arith, file_head_most g)); long = refl; number = rw s.at (omega arith); tail = rw s.at; done = rw s.at }
 
-module _ (g : Format) (f d₀ d : List ℕ) (at count : ℕ) (l : Listing g f d₀ d at count) (x : Step) (h : x ≡ step_of g f at) where
-  pub listing_less : (e : ℕ) → x ≡ Record e → length f - e < length f - at
-  listing_less e q = let r : RecordAt g f at e = record_told g f at e (sym q ∙ h) in omega (arith, head_least g, r.least, r.most)
+module _ (t : Trace) (d₀ d : List ℕ) (q : Reader) (count : ℕ) (l : Listing t d₀ d q count) where
+  module _ (x : Option Record) (z : Reader) (h : Reads q x z) where
+    module _ (r : Record) (e : x ≡ Some r) where
+      told : RecordAt t.format t.file.now q.at r.end
+      told = found_told t q l.trace x z h r e
 
-  pub listing_turn : (e : ℕ) → x ≡ Record e → (d' : List ℕ) → d' ≡ set d count at → Listing g f d₀ d' e (count + 1)
-  unfolding starts_from
-  listing_turn e q d' s =
-      let r : RecordAt g f at e = record_told g f at e (sym q ∙ h) in
-      let m : at + length (take (e - at) (drop at f)) ≡ e = (let k : length (take (e - at) (drop at f)) ≡ e - at = length-take-le (e - at) (drop at f) (simp length-drop (omega (arith, r.most))) in omega (arith, r.least)) in
-      record {
-        least = omega (arith, head_least g, l.least, r.least);
-        most = omega (arith, r.most);
-        long = rw s (length-set d count at) ∙ l.long;
-        number = (let k : count + suc (length (records_from g f e)) ≡ length (records_by g f) = rw r.list at l.number in omega arith);
-        tail = sym (flat_step g f at e r) ∙ l.tail;
-        done = rw (s, add-one) (rw (r.list, m) at l.done);
-      }
+      pub listing_turn : (d' : List ℕ) → d' ≡ set d count r.at → Listing t d₀ d' z (count + 1)
+      unfolding starts_from
+      listing_turn d' s =
+          let a : r.at ≡ q.at = (found_here t q l.trace x z h r e).starts in
+          let o : z.at ≡ r.end = found_end t q l.trace x z h r e in
+          let m : q.at + length (take (r.end - q.at) (drop q.at t.file.now)) ≡ r.end =
+          (let k : length (take (r.end - q.at) (drop q.at t.file.now)) ≡ r.end - q.at = length-take-le (r.end - q.at) (drop q.at t.file.now) (simp length-drop (omega (arith, told.most))) in omega (arith, told.least)) in
+          record {
+            trace = reads_same t q l.trace x z h;
+            least = omega (arith, head_least t.format, l.least, told.least, o);
+            most = omega (arith, told.most, o);
+            long = rw s (length-set d count r.at) ∙ l.long;
+            number = rw o (let k : count + suc (length (records_from t.format t.file.now r.end)) ≡ length (records_by t.format t.file.now) = rw told.list at l.number in omega arith);
+            tail = rw o (sym (flat_step t.format t.file.now q.at r.end told) ∙ l.tail);
+            done = rw (o, s, a, add-one) (rw (told.list, m) at l.done);
+          }
 
-  pub ended : ((e : ℕ) → x ≡ Record e → ⊥) → WalkedTo g f d₀ d (record { count = count; tail = at })
-  unfolding starts_from
-  ended n =
-      let r : records_from g f at ≡ [] = all_met g f at x h n in
-      record {
-        count = (let k : count + 0 ≡ length (records_by g f) = rw r at l.number in omega arith);
-        tail = (let k : at + 0 ≡ tail_by g f = rw r at l.tail in omega arith);
-        starts = rw r at l.done;
-      }
+    pub ended : x ≡ None → WalkedTo t.format t.file.now d₀ d (record { count = count; tail = z.at })
+    unfolding starts_from
+    ended n =
+        let r : records_from t.format t.file.now q.at ≡ [] = found_none t q l.trace x z h n in
+        record {
+          count = (let k : count + 0 ≡ length (records_by t.format t.file.now) = rw r at l.number in omega arith);
+          tail = rw (none_end t q l.trace x z h n) (let k : q.at + 0 ≡ tail_by t.format t.file.now = rw r at l.tail in omega arith);
+          starts = rw r at l.done;
+        }
 
 -- ---- the answers
 

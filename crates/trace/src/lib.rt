@@ -7,11 +7,12 @@ ghost use Rattle.trace.specs.Headers.{btsnoop_refusal, pcap_refusal, HeaderIs};
 ghost use Rattle.trace.specs.Reader.{step_of, Starts, Moves};
 ghost use Rattle.trace.specs.Listing.{Lists};
 ghost use Rattle.trace.specs.Listings.{WalkedTo};
-ghost use Rattle.trace.specs.Finding.{Found};
 
+mod reader;
 mod record;
 
 use pcap::Encoding;
+pub use reader::Reader;
 pub use record::Record;
 
 // The container of a trace's file. The caller says which; nothing is guessed.
@@ -95,25 +96,14 @@ pub fn record_head(format: Format) -> usize
     }
 }
 
-// The size of the record at a place, from its front.
-pub fn size_at(file: &[u8], at: usize, format: Format) -> usize
-    requires { at + 16 ≤ length file.now }
-    ensures { result ≡ size_by format (drop at file.now) }
-{
-    match format {
-        Format::Btsnoop(_) => btsnoop::record_size(file, at),
-        Format::Pcap(e) => pcap::record_size(file, at, e.big),
-    }
-}
-
-// A reader over the lent capture: the next record starts at an offset of it.
+// A trace whose header is read: its file, and how the records in it are read.
 #[derive(Clone, Copy)]
-pub struct Reader<'a> {
+pub struct Trace<'a> {
     pub file: &'a [u8],
-    pub at: usize,
+    pub format: Format,
 }
 
-// What a reader finds at its offset.
+// What stands at an offset.
 #[derive(Clone, Copy)]
 pub enum Step {
     // a whole record: where it ends
@@ -124,70 +114,46 @@ pub enum Step {
     End,
 }
 
-// What stands at an offset.
-pub fn step_at(file: &[u8], at: usize, format: Format) -> Step
-    ensures { result ≡ step_of format file.now at }
-{
-    let n = file.len();
-    if n <= at {
-        return Step::End;
+impl<'a> Trace<'a> {
+    // The size of the record at a place, from its front.
+    pub fn size_at(self, at: usize) -> usize
+        requires { at + 16 ≤ length self.file.now }
+        ensures { result ≡ size_by self.entry.format (drop at self.entry.file.now) }
+    {
+        match self.format {
+            Format::Btsnoop(_) => btsnoop::record_size(self.file, at),
+            Format::Pcap(e) => pcap::record_size(self.file, at, e.big),
+        }
     }
-    let left = n - at;
-    if left < 16 {
-        return Step::Cut(at);
+
+    // What stands at an offset.
+    pub fn step_at(self, at: usize) -> Step
+        ensures { result ≡ step_of self.entry.format self.entry.file.now at }
+    {
+        let n = self.file.len();
+        if n <= at {
+            return Step::End;
+        }
+        let left = n - at;
+        if left < 16 {
+            return Step::Cut(at);
+        }
+        let size = self.size_at(at);
+        if left < size {
+            return Step::Cut(at);
+        }
+        Step::Record(at + size)
     }
-    let size = size_at(file, at, format);
-    if left < size {
-        return Step::Cut(at);
+
+    // A reader of its records, at the first.
+    pub fn records(self) -> Reader<'a>
+        ensures { Starts self.entry result }
+    {
+        Reader {
+            trace: self,
+            at: file_head(self.format),
+        }
     }
-    Step::Record(at + size)
-}
-
-// The reader of a capture, at its first record.
-pub fn start<'a>(file: &'a [u8], head: usize) -> Reader<'a>
-    ensures { Starts file.entry head result }
-{
-    Reader { file, at: head }
-}
-
-// What a reader finds.
-pub fn next_step<'a>(r: Reader<'a>, format: Format) -> Step
-    ensures { result ≡ step_of format r.entry.file.now r.entry.at }
-{
-    step_at(r.file, r.at, format)
-}
-
-// The reader after a record that ends at an offset.
-pub fn moved<'a>(r: Reader<'a>, end: usize) -> Reader<'a>
-    ensures { Moves r.entry end result }
-{
-    Reader {
-        file: r.file,
-        at: end,
-    }
-}
-
-// What a reader of a capture finds at an offset, for callers that hold no reader.
-pub fn read_at(file: &[u8], at: usize, format: Format) -> Step
-    ensures { result ≡ step_of format file.now at }
-{
-    next_step(Reader { file, at }, format)
-}
-
-// The whole record at an offset, if there is one.
-pub fn record_at<'a>(file: &'a [u8], at: usize, format: Format) -> Option<Record<'a>>
-    requires { length file.now ≤ 1048576 }
-    ensures { Found format file.entry at result }
-{
-    let Step::Record(end) = read_at(file, at, format) else {
-        return None;
-    };
-    Some(Record {
-        file,
-        format,
-        at,
-        end,
-    })
 }
 
 // What walking the records finds: how many there are, and the tail offset.
@@ -207,17 +173,20 @@ fn put_start(starts: &mut [u64], i: usize, at: usize)
 }
 
 // Walks the records by a reader, and stores where each starts, as many as there is room for.
-fn walk_records(file: &[u8], starts: &mut [u64], format: Format) -> Walked
-    ensures { WalkedTo format file.now starts.old starts.new result }
+fn walk_records(trace: Trace, starts: &mut [u64]) -> Walked
+    requires { length trace.file.now ≤ 1048576 }
+    ensures { WalkedTo trace.entry.format trace.entry.file.now starts.old starts.new result }
 {
-    let mut at = file_head(format);
+    let mut records = trace.records();
     let mut count = 0;
-    while let Step::Record(end) = read_at(file, at, format) {
-        put_start(starts, count, at);
+    while let Some(r) = records.next() {
+        put_start(starts, count, r.at);
         count += 1;
-        at = end;
     }
-    Walked { count, tail: at }
+    Walked {
+        count,
+        tail: records.at,
+    }
 }
 
 // Stores where each whole record starts at the front of a list, as many as there is room for.
@@ -232,5 +201,5 @@ pub fn list_records(
         return Err(Refusal::FileLong);
     }
     let format = read_header(file, container)?;
-    Ok(walk_records(file, starts, format))
+    Ok(walk_records(Trace { file, format }, starts))
 }

@@ -3,16 +3,15 @@
 
 ghost use Rattle.trace.specs.Walk.{RecordPre};
 
-use crate::Format;
+use crate::Trace;
 
-// A whole record of a trace's file: where it starts and ends.
+// A whole record of a trace: where it starts and ends in the file.
 #[derive(Clone, Copy)]
 pub struct Record<'a> {
-    pub file: &'a [u8],
-    pub format: Format,
+    pub trace: Trace<'a>,
     pub at: usize,
     pub end: usize,
-    pub ghost whole: { RecordPre format file.now at end },
+    pub ghost whole: { RecordPre trace.format trace.file.now at end },
 }
 
 impl<'a> Record<'a> {
@@ -23,6 +22,6 @@ impl<'a> Record<'a> {
     pub fn bytes(self) -> &'a [u8]
         ensures { result.now ≡ bytes_of self.entry }
     {
-        &self.file[self.at..self.end]
+        &self.trace.file[self.at..self.end]
     }
 }

@@ -1,11 +1,8 @@
-use Rattle.btsnoop.proofs.Reading.{monitor_pre, monitor_tx, monitor_rx, monitor_none}
+use Rattle.btsnoop.proofs.Reading.{monitor_tx, monitor_rx, monitor_none}
 use Rattle.btsnoop.proofs.read_monitor.Goals as goal
 
 pub returns-in-4 : goal.returns-in-4
 returns-in-4 c = search monitor_tx
-
-pub read_fragment-requires-in-5 : goal.read_fragment-requires-in-5
-read_fragment-requires-in-5 c = search monitor_pre
 
 pub returns-in-5 : goal.returns-in-5
 returns-in-5 c = search monitor_rx

@@ -1,4 +1,3 @@
-use Rattle.trace.proofs.Finding.{found_less}
 use Rattle.following.proofs.Walking.{follow_start, follow_pre, follow_again, follow_end}
 use Rattle.l2cap.proofs.Running.{link_room}
 use Rattle.following.proofs.follow_packets.Goals as goal
@@ -7,13 +6,10 @@ pub link_packets-rows-requires : goal.link_packets-rows-requires
 link_packets-rows-requires c = search link_room
 
 pub loop-r-init : goal.loop-r-init
-loop-r-init c = search follow_start
+loop-r-init c = rw c.into_iter-r-iterator.ensures.into_iter_gives (search follow_start)
 
 pub follow_record-s-requires : goal.follow_record-s-requires
 follow_record-s-requires c = search follow_pre
-
-pub loop-r-smaller : goal.loop-r-smaller
-loop-r-smaller c = search found_less
 
 pub loop-r-preserved : goal.loop-r-preserved
 loop-r-preserved c = search follow_again

@@ -4,7 +4,7 @@ use Rattle.packets.specs.Adding.{Walking}
 use Rattle.packets.proofs.read_packets.Given as goal
 
 abbrev pub invariant-loop-r : goal.invariant-loop-r
-invariant-loop-r l = Walking l.format l.file l.initial.w l.w l.at l.count
+invariant-loop-r l = Walking l.trace l.initial.w l.w l.records l.count
 
 abbrev pub decreases-loop-r : goal.decreases-loop-r
-decreases-loop-r l = length l.file - l.at
+decreases-loop-r l = length l.records.trace.file.now - l.records.at

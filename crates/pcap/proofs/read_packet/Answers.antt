@@ -1,8 +1,8 @@
 use Rattle.pcap.proofs.Reading.{packet_short, packet_directed, packet_other}
 use Rattle.pcap.proofs.read_packet.Goals as goal
 
-pub returns-then-end-at-lt20 : goal.returns-then-end-at-lt20
-returns-then-end-at-lt20 c = search packet_short
+pub returns-then-r-lt20 : goal.returns-then-r-lt20
+returns-then-r-lt20 c = search packet_short
 
 pub returns-then-way-lt2 : goal.returns-then-way-lt2
 returns-then-way-lt2 c = search packet_directed

@@ -3,8 +3,8 @@ use Prim.Native.Nat.{◌-◌}
 use lib.ListN.{length}
 use Rattle.trace.proofs.walk_records.Given as goal
 
-abbrev pub invariant-loop-end : goal.invariant-loop-end
-invariant-loop-end l = Listing l.format l.file l.initial.starts l.starts l.at l.count
+abbrev pub invariant-loop-r : goal.invariant-loop-r
+invariant-loop-r l = Listing l.trace l.initial.starts l.starts l.records l.count
 
-abbrev pub decreases-loop-end : goal.decreases-loop-end
-decreases-loop-end l = length l.file - l.at
+abbrev pub decreases-loop-r : goal.decreases-loop-r
+decreases-loop-r l = length l.records.trace.file.now - l.records.at

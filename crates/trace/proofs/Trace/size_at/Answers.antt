@@ -1,5 +1,5 @@
 use Rattle.trace.proofs.Formats.{size_btsnoop, size_pcap}
-use Rattle.trace.proofs.size_at.Goals as goal
+use Rattle.trace.proofs.Trace.size_at.Goals as goal
 
 pub returns-in-Btsnoop : goal.returns-in-Btsnoop
 returns-in-Btsnoop c = search size_btsnoop

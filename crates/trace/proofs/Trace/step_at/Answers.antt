@@ -1,5 +1,5 @@
 use Rattle.trace.proofs.ReaderLaws.{step_end, step_short, step_cut, step_whole}
-use Rattle.trace.proofs.step_at.Goals as goal
+use Rattle.trace.proofs.Trace.step_at.Goals as goal
 
 pub returns-then-n-at : goal.returns-then-n-at
 returns-then-n-at c = search step_end
