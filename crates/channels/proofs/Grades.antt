@@ -17,7 +17,6 @@ use Rattle.table.specs.Table.{Slot, none, some, lookup, upd, find_in}
 use Rattle.table.proofs.Table.{lookup_found, lookup_nothing}
 use Rattle.tree.specs.Tree.{EnterPre, Entered}
 use Rattle.tree.specs.Seats.{seat_of, Seated}
-use Rattle.table.specs.declared.Row.{Row}
 use Rattle.tree.specs.declared.Table.{Table}
 use Rattle.tree.specs.declared.Seating.{Seating}
 use Rattle.tree.proofs.Seats.{seated_value, seat_first}

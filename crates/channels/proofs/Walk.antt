@@ -6,7 +6,7 @@ use denote.Enum.Bare.{sameb}
 use mathlib.Core.Bool.{Bool, true, false, cond, not, ◌&&◌, ◌||◌, and-true, and-false, or-false}
 use mathlib.Core.List.{List, [], ◌∷◌, ◌++◌, append_assoc}
 use native.Mathlib.Omega.{arith}
-use lib.Dec.{leb, ltb, eqb}
+use lib.Dec.{leb, eqb}
 use lib.ListN.{length, take, drop, length-take, drop_of_length-le}
 use borrow.Author.Tests.{le-leb, lt-leb, eq-eqb, ne_eqb}
 use Rattle.laws.proofs.Choice.{split≤}
@@ -14,8 +14,7 @@ use Rattle.words.specs.Words.{word}
 use Rattle.words.specs.Front.{Front}
 use Rattle.words.proofs.Front.{front_refl, front_then, front_less, front_word}
 use Rattle.table.specs.Table.{lookup, Agree}
-use Rattle.tree.specs.Tree.{Indexed, Stands, SeekPre, EnterPre, ClearPre, Cleared}
-use Rattle.tree.proofs.Index.{stands_less, stands_same}
+use Rattle.tree.specs.Tree.{Indexed, Stands, ClearPre, Cleared}
 use Rattle.tree.specs.declared.Tree.{Tree}
 use Rattle.tree.specs.declared.Table.{Table}
 use Rattle.items.specs.Items.{rx_of}
@@ -165,20 +164,11 @@ pub record NotingIn (f w₀ : List ℕ) (row : ℕ) (t₀ : Table) (w : List ℕ
   pub indexed : Indexed w t.at t.count
 
 module _ (f w₀ : List ℕ) (row : ℕ) (t₀ : Table) (p : NotePreIn f w₀ row t₀) where
-  pub noting_begun : NotingIn f w₀ row t₀ w₀ t₀ 0
-  noting_begun = record { place = refl; noting = noting_start f w₀ row t₀.at.rows t₀.count p.pre; indexed = p.indexed }
-
   module _ (w : List ℕ) (t : Table) (at : ℕ) (v : NotingIn f w₀ row t₀ w t at) where
     pub noting_done : (c : ℕ) → c ≡ word w₀ (row + 1) → c ≡ 1 → word w₀ (row + 4) ≤ at → PduNotedIn f w₀ row t₀ w t.count
     noting_done c e g h = record { noted = noting_end f w₀ row t₀.at.rows t₀.count p.pre w t.count at v.noting c e g h; indexed = rw v.place at v.indexed }
 
     module _ (more : at < word w₀ (row + 4)) where
-      pub noting_enter : EnterPre w t
-      noting_enter = record {
-        stands = rw v.place (stands_less w t₀.at (t₀.count + word w₀ (row + 4) / 8 + 1) (t.count + 1) (omega (arith, v.noting.few)) (stands_same w w₀ t₀.at (t₀.count + word w₀ (row + 4) / 8 + 1) v.noting.size p.stands));
-        indexed = v.indexed;
-      }
-
       pub noting_more : (r : Step) → StepIs (pdu_at f w row).payload at (pdu_at f w row).link (pdu_at f w row).rx r → (u : List ℕ) (m : ℕ) → NotedIn w t r.said u m →
           NotingIn f w₀ row t₀ u (record { at = t.at; count = m }) r.next
       noting_more r st u m n = record {
@@ -329,9 +319,6 @@ module _ (w : List ℕ) (b n side cid : ℕ) where
         (e ∙ sym (or-false (not (sameb the_type v Named)))))
 
 module _ (w : List ℕ) (q n side cid : ℕ) (t : Tries w q n) (x : Tree) (ex : x ≡ channel_index q) where
-  pub tries_seek : SeekPre w (record { at = x; count = n })
-  tries_seek = rw ex (record { stands = t.stands; indexed = t.indexed })
-
   module _ (g : Option Grade) (p : g ≡ standing_of (lookup w x.rows n (side * 65536 + cid))) where
     pub tries_unnamed : g ≡ None → Judged w (3 * q) n side cid (leb 0x40 cid)
     unfolding channel_index

@@ -12,26 +12,16 @@ use Rattle.laws.proofs.Choice.{split≡}
 use Rattle.words.specs.Words.{word, long, put_word}
 use Rattle.words.proofs.Words.{length_put, word_put_same, word_put_other}
 use Rattle.words.specs.Front.{Front}
-use Rattle.words.proofs.Front.{front_refl, front_less, front_put, front_then, front_word}
+use Rattle.words.proofs.Front.{front_refl, front_put, front_then, front_word}
 use Rattle.table.specs.Table.{find_in, lookup, upd, sum_of, some}
 use Rattle.table.proofs.Table.{find_below, lookup_agree, long_agree, sum_agree}
-use Rattle.tree.specs.Tree.{Indexed, EnterPre, ClearPre, Cleared}
+use Rattle.tree.specs.Tree.{Indexed}
 use Rattle.tree.proofs.Index.{indexed_agree, find_agree, found_key}
 use Rattle.tree.specs.Seats.{Seated}
 use Rattle.tree.proofs.Seats.{split_row}
-use Rattle.tree.specs.declared.Tree.{Tree}
 use Rattle.tree.specs.declared.Seating.{Seating}
-use Rattle.fragments.specs.Links.{soonest, tag_at, Blank, first_of, index_of, open_in, blank_row, SeatKey, head_in, head_at, head_of, head_with, Head, noted, Note, LinkStep, LinkedStep, LinkRoom, LinkBegun, LinkedTo}
+use Rattle.fragments.specs.Links.{soonest, tag_at, Blank, first_of, index_of, open_in, blank_row, head_in, head_at, head_of, head_with, noted, Note, LinkStep, LinkedStep, LinkRoom, LinkBegun, LinkedTo}
 use Rattle.fragments.proofs.Chains.{soonest_agree, tag_empty, tag_full}
-
--- ---- the row of a key
-
-module _ (w : List ℕ) (q n : ℕ) (p : SeatKey w q n) (x : Tree) (ex : x ≡ index_of q) where
-  pub seat_pre : EnterPre w (record { at = x; count = n })
-  seat_pre = rw ex p.enter
-
-  pub seat_is : (key k : ℕ) → k ≡ key → (u : List ℕ) (r : Seating) → Seated w (record { at = x; count = n }) (blank_row k) u r → Seated w (open_in q n) (blank_row key) u r
-  seat_is key k e u r s = rw (ex, e) at s
 
 -- ---- what is noted of a packet
 
@@ -122,9 +112,6 @@ blank_agree u w b n a s = record { says = λ k. ap first_of (lookup_agree u w b 
 module _
     (w : List ℕ) (q n i x : ℕ) (p : LinkStep w q n i) (key : ℕ) (ek : key ≡ word w (6 * i))
     (v : List ℕ) (t : Seating) (s : Seated w (open_in q n) (blank_row key) v t) where
-  pub link_head : Head v q t.at
-  link_head = record { room = omega (arith, p.few, p.room, s.few, s.most, s.size); small = p.seat.small }
-
   pub link_note : Note v q i t.at
   link_note = record { room = omega (arith, p.low, p.room, s.size); low = omega (arith, p.few, s.few, s.most); small = p.seat.small }
 
@@ -252,24 +239,6 @@ module _ (w₀ : List ℕ) (q count : ℕ) (b : LinkBegun w₀ q count) where
   }
 
   module _ (w : List ℕ) (s : Seating) (i : ℕ) (v : Linking w₀ q count w s i) (p : 0 < i) where
-    pub linking_step : LinkStep w q s.rows (i - 1)
-    linking_step = record {
-      seat = record {
-        enter = record {
-          stands = record {
-            rows = omega (arith, v.few, g.low);
-            room = omega (arith, v.few, g.low, g.room, v.size);
-            few = omega (arith, v.few, g.low, g.small);
-          };
-          indexed = v.indexed;
-        };
-        small = g.small;
-      };
-      few = omega (arith, v.few, g.low);
-      low = omega (arith, v.within, g.low);
-      room = omega (arith, g.room, v.size);
-    }
-
     module _ (x : ℕ) (ex : x ≡ count + 1) (u : List ℕ) (r : Seating) (d : LinkedStep w q s.rows (i - 1) x u r) where
       more : (j : ℕ) → i - 1 ≤ j → (j ≡ i - 1 → ⊥) → i - 1 < j
       more j l n = split≡ j (i - 1) (λ e. absurd (n e)) (λ e. omega arith)
@@ -348,26 +317,3 @@ module _ (w₀ : List ℕ) (q count : ℕ) (b : LinkBegun w₀ q count) where
         (j : ℕ) → j < count →
         soonest (tag_at w₀ (key_in w₀ j)) (key_in w₀ j) (suc j) (count - suc j) ≡ soonest (tag_at w (key_in w j)) (key_in w j) (suc j) (count - suc j)
     same j l = rw (← key j l) (tags (key_in w₀ j) j)
-
--- ---- the table empty, and then all packets
-
-module _ (w : List ℕ) (q count : ℕ) (g : LinkRoom w q count) (x : Tree) (ex : x ≡ index_of q) where
-  pub link_clear : ClearPre w x
-  link_clear = rw ex (record { some = omega arith; many = omega (arith, g.small); room = omega (arith, g.some, g.room) })
-
-  module _ (v : List ℕ) (c : Cleared w x v) where
-    pub link_begun : LinkBegun v q count
-    link_begun = record {
-      room = record { some = g.some; low = g.low; small = g.small; room = rw c.size g.room };
-      indexed = rw ex at c.indexed;
-    }
-
-    pub link_cleared : (u : List ℕ) (n : ℕ) → LinkedTo v q count u n → LinkedTo w q count u n
-    link_cleared u n t = record {
-      linked = t.linked;
-      seats = t.seats;
-      few = t.few;
-      blank = t.blank;
-      front = front_then (4 * (3 * q)) u v w t.front (front_less (4 * (3 * q)) (4 * (5 * q)) v w (omega arith) (rw ex at c.front));
-      size = t.size ∙ c.size;
-    }

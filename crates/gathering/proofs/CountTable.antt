@@ -15,11 +15,11 @@ use Rattle.laws.specs.Keyed.{put}
 use Rattle.words.specs.Words.{word, put_word}
 use Rattle.table.specs.Table.{Slot, none, some, lookup, upd, Stored, Agree, find_in}
 use Rattle.table.proofs.Table.{find_below, lookup_found, lookup_nothing, lookup_agree}
-use Rattle.tree.specs.Tree.{SeekPre, Entered}
+use Rattle.tree.specs.Tree.{SeekPre}
 use Rattle.tree.specs.Seats.{seat_of, Seated}
 use Rattle.tree.specs.declared.Table.{Table}
 use Rattle.tree.specs.declared.Seating.{Seating}
-use Rattle.tree.proofs.Seats.{seated_value, seated_room, seat_first}
+use Rattle.tree.proofs.Seats.{seated_value, seat_first}
 use Rattle.rfcomm.specs.Pieces.{Counts, Kind, counted, no_counts}
 use Rattle.gathering.specs.CountTable.{value_of, count_index, UpPre, CountedUp, Counted}
 
@@ -41,9 +41,6 @@ module _ (w : List ℕ) (t : Table) (k : ℕ) where
     unfolding seat_of value_of
     seat_value none y z e = cc
     seat_value (some v a) y z e = cc
-
-    pub up_row : 4 * (t.at.rows + 4 * r.at + 2) + 4 ≤ length u
-    up_row = omega (arith, seated_room w t (record { key = k; a = 0; b = 0 }) u r s p.enter)
 
     -- the count before
     up_value : (v : ℕ) → v ≡ word u (t.at.rows + 4 * r.at + 2) → v ≡ value_of (lookup w t.at.rows t.count k)

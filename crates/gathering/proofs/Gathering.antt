@@ -6,7 +6,7 @@ use mathlib.Core.List.{List, [], ◌∷◌, ◌++◌, append_assoc, append-nil}
 use native.Mathlib.Omega.{arith}
 use native.Mathlib.Numerals.{add-one}
 use lib.ListN.{length, get_or, set, replicate, take, drop, get_or-eq_default}
-use lib.Seq.{set_out, get_or-set_same, get_or-set_other}
+use lib.Seq.{get_or-set_same, get_or-set_other}
 use lib.Dec.{eqb}
 use borrow.Author.Tests.{eq-eqb, ne_eqb}
 use Rattle.laws.proofs.Choice.{split≤, split≡}
@@ -60,9 +60,6 @@ pub take_put : (w : List ℕ) (row : ℕ) (t : Table) (i : Info) (at : ℕ) (p :
 unfolding part_of
 take_put w row t i at p h e = rw e (record { room = h.room; sessions = h.few (64 * (word w row / 2) + 0); links = h.few (64 * (word w row / 2) + i.dlci); len = h.piece.len })
 
-pub row_put : (w : List ℕ) (row : ℕ) (t : Table) (i : Info) (at : ℕ) (p : Part) (time : ℕ) (u : List ℕ) → p ≡ part_of w row t i → time ≡ long w (row + 5) → u ≡ put_words w at (row_of p time) → u ≡ put_words w at (row_of (part_of w row t i) (long w (row + 5)))
-row_put w row t i at p time u ep et eu = eu ∙ rw (ep, et)
-
 pub judge_pre : (f w : List ℕ) (q rows : ℕ) (t : Taken) (j : ℕ) (a : List ℕ) → Ready f w q rows t j a → JudgePre f w (2 * q + 7 * j) q rows
 judge_pre f w q rows t j a r = record { lent = r.lent; tries = r.tries }
 
@@ -72,9 +69,6 @@ link_is f w at = refl
 
 -- one more on a DLCI, of the frames with a wrong FCS that v counts
 module _ (v : List ℕ) (d : ℕ) where
-  pub note_past : length v ≤ d → v ≡ set v d (get_or v d 0 + 1)
-  note_past h = sym (set_out v d (get_or v d 0 + 1) h)
-
   wrong_more : (e : ℕ) → e < length v → get_or (set v d (get_or v d 0 + 1)) e 0 ≡ get_or v e 0 + cond (is_wrong e (wrong d)) 1 0
   unfolding is_wrong
   wrong_more e h = split≡ e d
@@ -115,10 +109,6 @@ module _ (f w : List ℕ) (q rows : ℕ) (t : Taken) (j : ℕ) (a : List ℕ) (r
 
     pub piece_pre : (fcs : Bool) (v : Verdict) (i : Info) → VerdictIs fcs f w (2 * q + 7 * j) (3 * q) rows v → v ≡ Carries i → TakePre w (2 * q + 7 * j) (record { at = x; count = t.counts }) i (5 * q + 8 * t.pieces)
     piece_pre fcs v i is e = rw ex (take_here i (carries_held fcs f w (2 * q + 7 * j) (3 * q) rows v is i e))
-
-  -- the counts of frames with a wrong FCS can grow
-  pub wrong_small : (d : ℕ) → get_or a d 0 < 4294967295
-  wrong_small d = omega (arith, r.wrongs d, r.few, r.small)
 
   -- ---- the five ways
 

@@ -97,14 +97,15 @@ fn piece_of(counts: Forest, row: usize, i: Info, near: Near) -> Placed
     requires { PiecePre counts.w.now row i }
     ensures { result.part ≡ part_of counts.entry.w.now row counts.entry.table i }
 {
-    let side = get32(counts.w, row);
+    let w = counts.w;
+    let side = get32(w, row);
     let link = side / 2;
     let sessions = count_of(counts, count_key(link, 0), near.sessions);
     let links = count_of(counts, count_key(link, i.dlci), near.links);
     let part = Part {
         dlci: i.dlci,
         way: side,
-        cid: get32(counts.w, row + 1),
+        cid: get32(w, row + 1),
         sessions: sessions.value,
         links: links.value,
         start: i.start as u32,

@@ -7,7 +7,7 @@ use mathlib.Core.HLevel.{⊥_prop}
 use Prim.Native.Nat.{ℕ, zero, suc, ◌+◌, ◌-◌, ◌*◌, ◌/◌, ◌%◌, ◌<◌, ◌≤◌}
 use native.Mathlib.Omega.{arith}
 use native.Mathlib.Numerals.{add-one}
-use native.Mathlib.Nat.{div-lt_iff_lt-mul, mul-le-mul, mul-lt-mul_of_pos_right}
+use native.Mathlib.Nat.{div-lt_iff_lt-mul, mul-lt-mul_of_pos_right}
 use lib.ListN.{length}
 use borrow.Author.Tests.{eq-eqb, ne_eqb}
 use Rattle.laws.proofs.Choice.{split≡, split≤}
@@ -24,7 +24,7 @@ use Rattle.table.specs.declared.Row.{Row}
 use Rattle.tree.specs.declared.Tree.{Tree}
 use Rattle.tree.specs.declared.Table.{Table}
 use Rattle.tree.specs.declared.Spot.{Spot}
-use Rattle.tree.specs.declared.Spot.TheVariants.{Taken, Free}
+use Rattle.tree.specs.declared.Spot.TheVariants.{Free}
 use Rattle.tree.proofs.Paths.{node_step, node_past, node_below, node_kept, Grew, grew_keeps, grew_slots, grew_apart, slots_agree, apart_agree}
 
 pub stands_less : (w : List ℕ) (x : Tree) (n m : ℕ) → m ≤ n → Stands w x n → Stands w x m
@@ -44,14 +44,6 @@ part_less a m h o =
 pub tree_less : (m n : ℕ) → 0 < m → tree_of m n < m
 unfolding tree_of
 tree_less m n o = part_less (((n % 4294967296) * 2654435769) % 4294967296) m (omega arith) o
-
-pub tree_fits : (n m : ℕ) → (0 < m) × (m ≤ 1048576) → (n % 4294967296 * 2654435769 % 4294967296) * m < 18446744073709551616
-tree_fits n m h = go (n % 4294967296 * 2654435769 % 4294967296) (omega arith) where
-  go : (a : ℕ) → a < 4294967296 → a * m < 18446744073709551616
-  go a l =
-      let s : a ≤ 4294967296 = omega arith in
-      let b : a * m ≤ 4294967296 * 1048576 = mul-le-mul s h.1 in
-      omega (arith, b)
 
 pub tree_is : (n m : ℕ) → (0 < m) × (m ≤ 1048576) → TreeIs n m (n % 4294967296 * 2654435769 % 4294967296 * m / 4294967296)
 unfolding tree_of
@@ -145,23 +137,8 @@ module _ (w : List ℕ) (t : Table) (k : ℕ) (p : SeekPre w t) where
       row : suc (v - 1) ≡ v
       row = omega (arith, some)
 
-      pub seeking_key : 4 * (t.at.rows + 4 * (v - 1)) + 8 ≤ length w
-      seeking_key = omega (arith, seeking_row, some, p.stands.rows, p.stands.room)
-
       module _ (y : ℕ) (e : y ≡ long w (t.at.rows + 4 * (v - 1))) where
-        pub seeking_hit : y ≡ k → SpotIs w t k (Taken (v - 1))
-        seeking_hit d = record {
-          taken = λ i f. let z : v - 1 ≡ i = cc in rw (← z) (rw (sym e ∙ d) at (s.own (v - 1) (omega (arith, some, seeking_row))));
-          free = λ a f. let z : ◌≡◌ {A = ℕ} 0 1 = cc in absurd (omega arith);
-        }
-
         module _ (d : y ≡ k → ⊥) (bit : ℕ) (eb : bit ≡ rest % 2) where
-          after : at < links_in t.at + 2 * (v - 1)
-          after = rw (← (ev ∙ ec)) at (s.slots.later at q.low q.high) some
-
-          pub seeking_less : links_in t.at + 2 * t.count - (links_in t.at + 2 * (v - 1) + bit) < links_in t.at + 2 * t.count - at
-          seeking_less = omega (arith, after, seeking_row, some)
-
           pub seeking_turn : Seeking w t k (links_in t.at + 2 * (v - 1) + bit) (rest / 2)
           unfolding rest_at
           seeking_turn = record {
@@ -186,9 +163,6 @@ module _ (w : List ℕ) (t : Table) (k : ℕ) where
   pub seek_none : t.count ≡ 0 → None ≡ find_in w t.at.rows k t.count
   unfolding find_in
   seek_none e = rw e
-
-  pub seek_taken : (r : Spot) → SpotIs w t k r → (i : ℕ) → r ≡ Taken i → Some i ≡ find_in w t.at.rows k t.count
-  seek_taken r s i e = sym (s.taken i e)
 
   pub seek_free : (r : Spot) → SpotIs w t k r → (at : ℕ) → r ≡ Free at → None ≡ find_in w t.at.rows k t.count
   seek_free r s at e = sym (s.free at e).none

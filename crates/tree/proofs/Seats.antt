@@ -4,12 +4,10 @@ use mathlib.Core.Path.{◌≡◌, refl, sym, ◌∙◌}
 use mathlib.Core.List.{List}
 use Prim.Native.Nat.{ℕ, ◌+◌, ◌*◌, ◌<◌, ◌≤◌}
 use native.Mathlib.Omega.{arith}
-use mathlib.Core.Bool.{Bool, true}
 use lib.ListN.{length}
-use lib.Dec.{eqb, ltb}
-use borrow.Author.Tests.{eq-eqb, ne_eqb, eqb-true, ltb-true}
+use borrow.Author.Tests.{eq-eqb, ne_eqb}
 use Rattle.laws.proofs.Choice.{split≡}
-use Rattle.words.specs.Words.{word, long, put_word}
+use Rattle.words.specs.Words.{word, put_word}
 use Rattle.words.proofs.Words.{length_put, word_put_same, word_put_other}
 use Rattle.words.specs.Front.{Front}
 use Rattle.words.proofs.Front.{front_then, front_put, front_refl}
@@ -17,7 +15,7 @@ use Rattle.table.specs.Table.{find_in, Slot, none, some, lookup, upd, second, su
 use Rattle.table.proofs.Table.{find_below, lookup_found, lookup_nothing, long_agree, store_old}
 use Rattle.tree.specs.Tree.{Indexed, SeekPre, EnterPre, Entered, Added, SpotIs, put_new, key_at}
 use Rattle.tree.proofs.Index.{find_agree, indexed_agree, stands_less, stands_same, enter_new}
-use Rattle.tree.specs.Seats.{seat_of, Seated, Sits, Nearby}
+use Rattle.tree.specs.Seats.{seat_of, Seated, Nearby}
 use Rattle.table.specs.declared.Row.{Row}
 use Rattle.tree.specs.declared.Table.{Table}
 use Rattle.tree.specs.declared.Seating.{Seating}
@@ -91,23 +89,6 @@ module _ (w : List ℕ) (t : Table) (row : Row) (p : EnterPre w t) where
 
   pub enter_seek : SeekPre w t
   enter_seek = record { stands = stands_less w t.at (t.count + 1) t.count (omega arith) p.stands; indexed = p.indexed }
-
--- ---- a row near another
-
-pub near_none : (w : List ℕ) (t : Table) (k : ℕ) → Nearby w t k None
-near_none w t k = record { has = λ i e. no_row None i refl e }
-
-pub near_row : (w : List ℕ) (t : Table) (k i : ℕ) (b : Bool) → Sits w t k i b → b ≡ true → Nearby w t k (Some i)
-near_row w t k i b s e = record { has = λ j f. rw (← same_row (Some i) i j refl f) (s.own e) }
-
-pub sits_past : (w : List ℕ) (t : Table) (k i : ℕ) → t.count ≤ i → Sits w t k i (ltb i t.count)
-sits_past w t k i h = record { own = λ e. absurd (omega (arith, ltb-true i t.count e)) }
-
-pub sits_is : (w : List ℕ) (t : Table) (k i : ℕ) → SeekPre w t → i < t.count → (y : ℕ) → y ≡ long w (t.at.rows + 4 * i) → Sits w t k i (eqb y k)
-sits_is w t k i p l y e = record { own = λ b. rw (sym e ∙ eqb-true y k b) at (p.indexed.own i l) }
-
-pub near_seek : (w : List ℕ) (t : Table) (k i : ℕ) (r : Option ℕ) → Nearby w t k r → r ≡ Some i → Some i ≡ find_in w t.at.rows k t.count
-near_seek w t k i r s e = sym (s.has i e)
 
 -- ---- the values of a row stored
 

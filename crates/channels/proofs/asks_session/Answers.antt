@@ -1,9 +1,6 @@
-use Rattle.channels.proofs.Commands.{asking_start, asking_found, asking_turn, asking_end, command_within, command_more}
+use Rattle.channels.proofs.Commands.{asking_found, asking_turn, asking_end, command_within, command_more}
 use native.Mathlib.Omega.{arith}
 use Rattle.channels.proofs.asks_session.Goals as goal
-
-pub loop-at-init : goal.loop-at-init
-loop-at-init c = search asking_start
 
 pub overflow_add-end : goal.overflow_add-end
 overflow_add-end c = omega (arith, command_within c.args.s.now c.loop-at.at _ c.loop-at-test.true c.command_len.ensures)

@@ -1,11 +1,8 @@
-use Rattle.fragments.proofs.Linking.{linking_start, linking_step, linking_turn, linking_end}
+use Rattle.fragments.proofs.Linking.{linking_start, linking_turn, linking_end}
 use Rattle.fragments.proofs.link_rows.Goals as goal
 
 pub loop-i-init : goal.loop-i-init
 loop-i-init c = search linking_start
-
-pub link_row-s-requires : goal.link_row-s-requires
-link_row-s-requires c = search linking_step
 
 pub loop-i-preserved : goal.loop-i-preserved
 loop-i-preserved c = search linking_turn

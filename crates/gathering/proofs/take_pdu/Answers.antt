@@ -1,21 +1,14 @@
-use Rattle.rfcomm.proofs.Judging.{opens_small}
-use Rattle.gathering.proofs.Gathering.{up_pre, wrong_small, taken_passed, taken_wrong, taken_asks, taken_opens, taken_piece, piece_pre}
+use Rattle.gathering.proofs.Gathering.{up_pre, taken_passed, taken_wrong, taken_asks, taken_opens, taken_piece, piece_pre}
 use Rattle.gathering.proofs.take_pdu.Goals as goal
 
 pub count_up-s-requires : goal.count_up-s-requires
 count_up-s-requires c = search up_pre
-
-pub count_key-requires-in-Opens : goal.count_key-requires-in-Opens
-count_key-requires-in-Opens c = search opens_small
 
 pub count_up-s-requires-in-Opens : goal.count_up-s-requires-in-Opens
 count_up-s-requires-in-Opens c = search up_pre
 
 pub take_piece-found-requires : goal.take_piece-found-requires
 take_piece-found-requires c = search piece_pre
-
-pub note_wrong-requires : goal.note_wrong-requires
-note_wrong-requires c = search wrong_small
 
 pub returns-in-Asks : goal.returns-in-Asks
 returns-in-Asks c = search taken_asks
