@@ -112,15 +112,15 @@ module _
   bytes_are : bytes_of r ≡ between f.now at r.end
   bytes_are = rw (found.same_file, found.starts)
 
-  pub follow_pre : RecordTurn r w q s
+  pub follow_pre : RecordTurn r w s
   unfolding is_none
   follow_pre = record {
-    turn = rw (found.same_format, found.starts, found.same_file) (split_none (packet_by g (between f.now at r.end))
+    turn = rw (found.same_format, found.starts, found.same_file, ← v.going.run.ready.quarter) (split_none (packet_by g (between f.now at r.end))
         (λ o m. no_way (rw o) m)
         (λ p o m. turn_pre g f.now w₀ q count w s (record { at = at; is = p }) (coming g f.now r.end) (rw (coming_some g f.now at r.end here p o) at v)));
   }
 
-  pub follow_again : (u : List ℕ) (t : Pass) → RecordTurned r w q s u t → Following g f.now w₀ q count u t (coming g f.now r.end)
+  pub follow_again : (u : List ℕ) (t : Pass) → RecordTurned r w s u t → Following g f.now w₀ q count u t (coming g f.now r.end)
   unfolding is_none
   follow_again u t d =
       split_none (packet_by g (between f.now at r.end))
@@ -129,7 +129,7 @@ module _
       rw ((d.skips m).0, (d.skips m).1) (rw (coming_none g f.now at r.end here o) at v))
       (λ p o.
       let m : is_none (packet_by r.format (bytes_of r)) ≡ false = rw (found.same_format, bytes_are, o) in
-      let k : Turned f.now w q at s u t = rw (found.same_file, found.starts) at (d.turned m) in
+      let k : Turned f.now w q at s u t = rw (found.same_file, found.starts, ← v.going.run.ready.quarter) at (d.turned m) in
       turn_next g f.now w₀ q count w s (record { at = at; is = p }) (coming g f.now r.end) (rw (coming_some g f.now at r.end here p o) at v) u t k)
 
 -- ---- the end
