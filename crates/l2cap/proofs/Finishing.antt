@@ -6,7 +6,7 @@ use mathlib.Core.Logic.{inl, inr}
 use Prim.Native.Nat.{ℕ, suc, ◌+◌, ◌-◌, ◌*◌, ◌/◌, ◌%◌, ◌<◌, ◌≤◌}
 use native.Mathlib.Omega.{arith}
 use lib.ListN.{length, get_or, set, take, drop, length-take, length-drop}
-use lib.Seq.{sets, length-sets, get_or-set_other, drop-drop, length-take-le, sets-eq, take-take, take_all, take-append-le, drop-append-le, drop_at}
+use lib.Seq.{sets, get_or-set_other, drop-drop, length-take-le, sets-eq, take-take, take-append-le, drop-append-le, drop_at}
 use Rattle.std.proofs.lemmas.List.{take-append-drop}
 use Rattle.laws.proofs.Choice.{split≤}
 use Rattle.laws.specs.Numbers.{le16}
@@ -19,7 +19,7 @@ use Rattle.words.proofs.Front.{front_refl, front_then, front_part, front_sets, p
 use Rattle.table.specs.Table.{Agree}
 use Rattle.packets.specs.PacketTable.{packet_at}
 use Rattle.fragments.specs.Bytes.{begun, Walk}
-use Rattle.fragments.proofs.Walking.{since_one, piece_own, work_inside, work_rows, work_walk, work_bytes}
+use Rattle.fragments.proofs.Walking.{since_one, piece_own, work_inside, work_walk, work_bytes}
 use Rattle.l2cap.specs.Pdus.{Pdu, pdu_of}
 use Rattle.l2cap.specs.PduTable.{pdu_at, pdus_from, pays_of, Inside}
 use Rattle.l2cap.specs.PduFrames.{Placed}

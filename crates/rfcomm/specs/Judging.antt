@@ -1,5 +1,5 @@
 -- What the PDU of a row is: the code's verdict against the kind that is defined.
-use Rattle.std.specs.Prelude.{ℕ, ◌+◌, ◌-◌, ◌*◌, ◌<◌, ◌≤◌, ◌≡◌, Bool, ◌||◌, cond, List, length, take, drop, eqb}
+use Rattle.std.specs.Prelude.{ℕ, ◌+◌, ◌-◌, ◌<◌, ◌≤◌, ◌≡◌, Bool, ◌||◌, cond, List, length, take, drop, eqb}
 use Rattle.words.specs.Words.{word}
 use Rattle.l2cap.specs.PduTable.{pdu_at}
 use Rattle.l2cap.specs.PduFrames.{Lent}
