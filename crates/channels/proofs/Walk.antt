@@ -22,6 +22,8 @@ use Rattle.items.specs.declared.Direction.{Direction}
 use Rattle.l2cap.specs.Pdus.{Pdu}
 use Rattle.l2cap.specs.PduTable.{pdu_at, pdus_from, pays_of, Inside, Reassembled}
 use Rattle.l2cap.specs.PduFrames.{Lent, Placed}
+use Rattle.l2cap.specs.Reading.{PduIs}
+use Rattle.l2cap.specs.declared.Pdu.{Pdu as ReadPdu}
 use Rattle.l2cap.proofs.PduFrames.{link_at, rx_at, cid_at, inside_top, payload_length, placed_agree, pdus_agree, pdus_next, pdus_none, pays_next, pays_mono, reassembled_front}
 use Rattle.channels.specs.Signals.{Signal, commands, code, body, signal_of, signals_in, pdu_signals, signals}
 use Rattle.channels.specs.Channels.{any, is_tried, asks_rfcomm, asks_session}
@@ -63,14 +65,14 @@ step_is s at n h e link d said t = record {
   within = command_within s at n h e;
 }
 
-module _ (f w : List ℕ) (row at : ℕ) (p : PduStepPre f w row at) (part : List ℕ) (e : part ≡ (pdu_at f w row).payload) where
-  pub step_inside : at < length part
-  step_inside = omega (arith, ap length e, payload_length f w row p.lent, p.inside)
+module _ (f w : List ℕ) (row at : ℕ) (p : PduStepPre f w row at) (pdu : ReadPdu) (is : PduIs f w row pdu) where
+  pub step_inside : at < length pdu.payload.now
+  step_inside = omega (arith, ap length is.payload, payload_length f w row p.lent, p.inside)
 
   pub pdu_step_is :
-      (side : ℕ) (d : Direction) (r : Step) → side ≡ word w row → rx_of d ≡ side % 2 → StepIs part at (side / 2) (rx_of d) r →
+      (d : Direction) (r : Step) → rx_of d ≡ pdu.side % 2 → StepIs pdu.payload.now at (pdu.side / 2) (rx_of d) r →
       StepIs (pdu_at f w row).payload at (pdu_at f w row).link (pdu_at f w row).rx r
-  pdu_step_is side d r se de q = rw (← e, link_at f w row, rx_at f w row, ← se, ← de) q
+  pdu_step_is d r de q = rw (← is.payload, link_at f w row, rx_at f w row, ← is.side, ← de) q
 
 -- ---- one PDU
 
@@ -290,14 +292,11 @@ module _ (f w₀ : List ℕ) (made : ℕ) (ps : List Pdu) (p : Reassembled f w�
 
 -- ---- what becomes of a PDU
 
-module _ (f w : List ℕ) (row c : ℕ) (e : c ≡ word w (row + 1)) where
-  pub asks_not : (c ≡ 1 → ⊥) → false ≡ asks_session (pdu_at f w row)
-  unfolding asks_session
-  asks_not n = rw (cid_at f w row, ne_eqb (word w (row + 1)) 1 (λ z. n (e ∙ z)))
-
-  pub asks_there : c ≡ 1 → (part : List ℕ) → part ≡ (pdu_at f w row).payload → (r : Bool) → r ≡ any asks_rfcomm (commands part) → r ≡ asks_session (pdu_at f w row)
-  unfolding asks_session
-  asks_there n part p r q = rw (cid_at f w row, eq-eqb (word w (row + 1)) 1 (sym e ∙ n), ← p) q
+-- what a PDU asks, as it is read from its row
+pub asks_is :
+    (f w : List ℕ) (row : ℕ) (p : ReadPdu) → PduIs f w row p → (r : Bool) → r ≡ (eqb p.cid 1 && any asks_rfcomm (commands p.payload.now)) → r ≡ asks_session (pdu_at f w row)
+unfolding asks_session
+asks_is f w row p is r e = e ∙ rw (cid_at f w row, ← is.cid, is.payload)
 
 module _ (w : List ℕ) (b n side cid : ℕ) where
   tried_by_law : (r : Bool) → r ≡ (says_admitted (lookup w b n (side * 65536 + cid)) || (leb 0x40 cid && not (says_named (lookup w b n (side * 65536 + cid))))) → Judged w b n side cid r

@@ -7,16 +7,15 @@ ghost use Rattle.table.specs.Table.{lookup};
 ghost use Rattle.tree.specs.Tree.{EnterPre};
 ghost use Rattle.items.specs.Items.{rx_of};
 ghost use Rattle.l2cap.specs.PduTable.{pdu_at, pdus_from, Reassembled};
-ghost use Rattle.l2cap.specs.PduFrames.{Lent};
 ghost use Rattle.channels.specs.Signals.{commands, body, opposite, signal_of};
-ghost use Rattle.channels.specs.Channels.{any, asks_rfcomm, asks_session};
+ghost use Rattle.channels.specs.Channels.{any, asks_rfcomm};
 ghost use Rattle.channels.specs.ChannelTable.{channel_key, channel_index};
 ghost use Rattle.channels.specs.Reading.{command_bytes, told};
 ghost use Rattle.channels.specs.Noting.{graded, word_of, standing_of, request_grade, response_grade, RaisedIn, NotedIn};
 ghost use Rattle.channels.specs.Passing.{StepIs, PduStepPre, NotePreIn, PduNotedIn, NoneNoted, ReadChannels, Tries, Judged};
 
 use items::Direction;
-use l2cap::payload;
+use l2cap::{Pdu, read_pdu};
 use table::Row;
 use tree::{Forest, Table, Tree, clear, seat};
 use words::{field16, get32, put32};
@@ -306,17 +305,12 @@ fn step_at(s: &[u8], at: usize, link: u32, direction: Direction) -> Step
 }
 
 // One signalling step over the payload of the PDU whose row is at word row.
-fn pdu_step<'a>(file: &'a [u8], w: &'a [u8], row: usize, at: usize) -> Step
+fn pdu_step(file: &[u8], w: &[u8], row: usize, at: usize) -> Step
     requires { PduStepPre file.now w.now row at }
     ensures { StepIs (pdu_at file.now w.now row).payload at (pdu_at file.now w.now row).link (pdu_at file.now w.now row).rx result }
 {
-    let side = get32(w, row);
-    step_at(
-        payload(file, w, row),
-        at,
-        side / 2,
-        Direction::in_side(side),
-    )
+    let p = read_pdu(file, w, row);
+    step_at(p.payload, at, p.side / 2, Direction::in_side(p.side))
 }
 
 // Notes what the PDU whose row is at word row says. Returns the count of rows.
@@ -378,15 +372,11 @@ pub fn read_channels(file: &[u8], w: &mut [u8], made: usize) -> usize
 
 // ---- what becomes of a PDU
 
-// Whether the PDU whose row is at word row asks for a session.
-pub fn asks<'a>(file: &'a [u8], w: &'a [u8], row: usize) -> bool
-    requires { Lent file.now w.now row }
-    ensures { result ≡ asks_session (pdu_at file.now w.now row) }
+// Whether a PDU asks for a session.
+pub fn asks(p: Pdu) -> bool
+    ensures { result ≡ (eqb p.entry.cid 1 && any asks_rfcomm (commands p.entry.payload.now)) }
 {
-    if get32(w, row + 1) == 1 {
-        return asks_session(payload(file, w, row));
-    }
-    false
+    p.cid == 1 && asks_session(p.payload)
 }
 
 // Whether a PDU is tried, by the first word of its row, 2 * link + direction, and its CID.

@@ -1,10 +1,11 @@
 -- What the functions on one packet and on one record return.
 use Rattle.std.specs.Prelude.{Option, Some, None}
-use Prim.Native.Nat.{ℕ, ◌+◌, ◌*◌}
+use Prim.Native.Nat.{ℕ, ◌+◌, ◌*◌, ◌/◌}
 use mathlib.Core.Path.{◌≡◌, refl, sym, ◌∙◌}
 use mathlib.Core.Bool.{Bool, true, false}
 use mathlib.Core.List.{List}
 use native.Mathlib.Omega.{arith}
+use lib.ListN.{length}
 use lib.Dec.{eqb}
 use Rattle.laws.proofs.Choice.{no_way}
 use Rattle.words.specs.Words.{word}
@@ -72,12 +73,12 @@ turn_done f w q at s g ge u t ran = record { count = refl; stepped = ran_one f q
 
 -- ---- one record
 
-module _ (r : Record) (w : List ℕ) (q : ℕ) (s : Pass) (b : Bool) (be : b ≡ is_none (packet_by r.trace.format (bytes_of r))) where
-  pub record_skip : b ≡ true → RecordTurned r w q s w s
+module _ (r : Record) (w : List ℕ) (s : Pass) (b : Bool) (be : b ≡ is_none (packet_by r.trace.format (bytes_of r))) where
+  pub record_skip : b ≡ true → RecordTurned r w s w s
   record_skip h = record { skips = λ z. (refl, refl); turned = λ z. no_way (sym be ∙ h) z }
 
-  pub record_turn : b ≡ false → RecordTurn r w q s → Turn r.trace.file.now w q s
+  pub record_turn : b ≡ false → RecordTurn r w s → Turn r.trace.file.now w (length r.trace.file.now / 4) s
   record_turn h p = p.turn (sym be ∙ h)
 
-  pub record_done : b ≡ false → (u : List ℕ) (t : Pass) → Turned r.trace.file.now w q r.at s u t → RecordTurned r w q s u t
+  pub record_done : b ≡ false → (u : List ℕ) (t : Pass) → Turned r.trace.file.now w (length r.trace.file.now / 4) r.at s u t → RecordTurned r w s u t
   record_done h u t d = record { skips = λ z. no_way z (sym be ∙ h); turned = λ z. d }

@@ -120,15 +120,15 @@ module _ (t : Trace) (w₀ : List ℕ) (q count : ℕ) (w : List ℕ) (s : Pass)
     here : RecordAt g f k.at r.end
     here = found_told t k v.trace x n h r z
 
-    pub follow_pre : RecordTurn r w q s
+    pub follow_pre : RecordTurn r w s
     unfolding is_none
     follow_pre = record {
-      turn = rw (found.same, found.starts) (split_none (packet_by g (between f k.at r.end))
+      turn = rw (found.same, found.starts, ← v.follows.going.run.ready.quarter) (split_none (packet_by g (between f k.at r.end))
           (λ o m. no_way (rw o) m)
           (λ p o m. turn_pre g f w₀ q count w s (record { at = k.at; is = p }) (coming g f r.end) (rw (coming_some g f k.at r.end here p o) at v.follows)));
     }
 
-    turned : (u : List ℕ) (d : Pass) → RecordTurned r w q s u d → Following g f w₀ q count u d (coming g f r.end)
+    turned : (u : List ℕ) (d : Pass) → RecordTurned r w s u d → Following g f w₀ q count u d (coming g f r.end)
     unfolding is_none
     turned u d m =
         split_none (packet_by g (between f k.at r.end))
@@ -137,10 +137,10 @@ module _ (t : Trace) (w₀ : List ℕ) (q count : ℕ) (w : List ℕ) (s : Pass)
         rw ((m.skips l).0, (m.skips l).1) (rw (coming_none g f k.at r.end here o) at v.follows))
         (λ p o.
         let l : is_none (packet_by r.trace.format (bytes_of r)) ≡ false = rw (found.same, found.starts, o) in
-        let y : Turned f w q k.at s u d = rw (found.same, found.starts) at (m.turned l) in
+        let y : Turned f w q k.at s u d = rw (found.same, found.starts, ← v.follows.going.run.ready.quarter) at (m.turned l) in
         turn_next g f w₀ q count w s (record { at = k.at; is = p }) (coming g f r.end) (rw (coming_some g f k.at r.end here p o) at v.follows) u d y)
 
-    pub follow_again : (u : List ℕ) (d : Pass) → RecordTurned r w q s u d → Walking t w₀ q count u d n
+    pub follow_again : (u : List ℕ) (d : Pass) → RecordTurned r w s u d → Walking t w₀ q count u d n
     follow_again u d m = record {
       trace = reads_same t k v.trace x n h;
       follows = rw (found_end t k v.trace x n h r z) (turned u d m);

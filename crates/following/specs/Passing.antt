@@ -1,5 +1,5 @@
 -- What the functions of the pass ask and promise: one packet, one record, the file.
-use Rattle.std.specs.Prelude.{ℕ, ◌+◌, ◌*◌, ◌≤◌, ◌≡◌, true, false, List, eqb}
+use Rattle.std.specs.Prelude.{ℕ, ◌+◌, ◌*◌, ◌/◌, ◌≤◌, ◌≡◌, true, false, List, length, eqb}
 use Rattle.words.specs.Words.{word}
 use Rattle.trace.specs.Formats.{packet_by}
 use Rattle.trace.specs.Finding.{bytes_of}
@@ -32,12 +32,12 @@ pub record Turned (f w : List ℕ) (q at : ℕ) (s : Pass) (u : List ℕ) (r : P
 -- ---- one record
 
 -- a packet in it is the next
-pub record RecordTurn (r : Record) (w : List ℕ) (q : ℕ) (s : Pass) : Type 0 where
-  pub turn : is_none (packet_by r.trace.format (bytes_of r)) ≡ false → Turn r.trace.file.now w q s
+pub record RecordTurn (r : Record) (w : List ℕ) (s : Pass) : Type 0 where
+  pub turn : is_none (packet_by r.trace.format (bytes_of r)) ≡ false → Turn r.trace.file.now w (length r.trace.file.now / 4) s
 
-pub record RecordTurned (r : Record) (w : List ℕ) (q : ℕ) (s : Pass) (u : List ℕ) (t : Pass) : Type 0 where
+pub record RecordTurned (r : Record) (w : List ℕ) (s : Pass) (u : List ℕ) (t : Pass) : Type 0 where
   pub skips : is_none (packet_by r.trace.format (bytes_of r)) ≡ true → (u ≡ w) × (t ≡ s)
-  pub turned : is_none (packet_by r.trace.format (bytes_of r)) ≡ false → Turned r.trace.file.now w q r.at s u t
+  pub turned : is_none (packet_by r.trace.format (bytes_of r)) ≡ false → Turned r.trace.file.now w (length r.trace.file.now / 4) r.at s u t
 
 -- ---- the file
 

@@ -1,7 +1,7 @@
 // Reassembly followed packet by packet: what the packets show of what is not in the trace, counted, and what is open at the end.
 #![tactic(auto)]
 
-ghost use Rattle.std.specs.Prelude.{◌≡◌, eqb, ◌+◌, ◌*◌, ◌≤◌};
+ghost use Rattle.std.specs.Prelude.{◌≡◌, eqb, ◌+◌, ◌*◌, ◌/◌, ◌≤◌, length};
 ghost use Rattle.words.specs.Words.{word};
 ghost use Rattle.packets.specs.PacketTable.{Read};
 ghost use Rattle.l2cap.specs.Steps.{row_at, open_in};
@@ -49,15 +49,15 @@ fn show(w: &[u8], q: usize, i: usize, at: usize, g: Partial) -> Partial
 }
 
 // One packet, whose record starts at a place.
-fn follow_packet(file: &[u8], w: &mut [u8], q: usize, at: usize, s: Pass) -> Pass
-    requires { Turn file.now w.old q s }
-    ensures { Turned file.now w.old q at s w.new result }
+fn follow_packet(file: &[u8], w: &mut [u8], at: usize, s: Pass) -> Pass
+    requires { Turn file.now w.old (length file.now / 4) s }
+    ensures { Turned file.now w.old (length file.now / 4) at s w.new result }
 {
     let i = s.count;
     let tables = s.tables;
     let signs = s.signs;
-    let g = show(w, q, i, at, signs);
-    let t = run(file, w, q, tables, i, i + 1);
+    let g = show(w, file.len() / 4, i, at, signs);
+    let t = run(file, w, tables, i, i + 1);
     Pass {
         count: i + 1,
         tables: t,
@@ -66,14 +66,14 @@ fn follow_packet(file: &[u8], w: &mut [u8], q: usize, at: usize, s: Pass) -> Pas
 }
 
 // One record: the next packet is in it, or none.
-fn follow_record(r: Record, w: &mut [u8], q: usize, s: Pass) -> Pass
-    requires { RecordTurn r w.old q s }
-    ensures { RecordTurned r.entry w.old q s w.new result }
+fn follow_record(r: Record, w: &mut [u8], s: Pass) -> Pass
+    requires { RecordTurn r w.old s }
+    ensures { RecordTurned r.entry w.old s w.new result }
 {
     if lacks_packet(r) {
         return s;
     }
-    follow_packet(r.trace.file, w, q, r.at, s)
+    follow_packet(r.trace.file, w, r.at, s)
 }
 
 // No packet is read, and there are so many rows of open PDUs.
@@ -107,7 +107,7 @@ pub fn follow_packets(trace: Trace, w: &mut [u8], count: usize) -> Partial
     let rows = link_packets(w, q, count);
     let mut s = first_pass(q, rows);
     for r in trace.records() {
-        s = follow_record(r, w, q, s);
+        s = follow_record(r, w, s);
     }
     s.signs
 }

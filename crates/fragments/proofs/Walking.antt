@@ -1,26 +1,27 @@
--- The packets of a key are walked again: a byte of what they bring, and the bytes joined.
+-- The packets of a key are walked again: a byte of what they bring, a number in it, and the bytes joined.
 use mathlib.Core.Path.{◌≡◌, refl, sym, ap, ◌∙◌}
 use mathlib.Core.List.{List, [], ◌∷◌, ◌++◌, append_assoc, append-nil}
 use Prim.Native.Nat.{ℕ, zero, suc, ◌+◌, ◌-◌, ◌*◌, ◌<◌, ◌≤◌, min}
 use native.Mathlib.Omega.{arith}
-use lib.ListN.{length, get_or, set, take, drop, length-take, length-drop, get_or-append}
-use lib.Seq.{sets, get_or-set_other, length-take-le, take_all, take-nil, take-take, get_or-append-add, get_or-take, get_or-drop}
+use mathlib.Core.Bool.{Bool, true, false, cond}
+use lib.ListN.{length, get_or, take, drop, length-take, length-drop, length-append, get_or-append}
+use lib.Seq.{length-take-le, take_all, take-nil, take-take, get_or-append-add, get_or-take, get_or-drop}
+use lib.Dec.{eqb}
 use borrow.Author.Tests.{eq-eqb, ne_eqb}
 use Rattle.laws.proofs.Choice.{split≡, split≤}
-use Rattle.laws.specs.Numbers.{le16}
+use Rattle.laws.specs.Numbers.{le16, le32}
 use Rattle.laws.specs.Stores.{Writes, Emitting}
-use Rattle.laws.proofs.Stores.{writes_long, emit_start, emit_turn, emit_end}
+use Rattle.laws.proofs.Stores.{emit_start, emit_turn, emit_end}
 use native.Mathlib.Numerals.{add-one}
 use Rattle.words.specs.Words.{word}
-use Rattle.words.proofs.Words.{word_of_bytes}
 use Rattle.words.specs.Front.{Front}
-use Rattle.words.proofs.Front.{front_then, front_sets, front_refl}
+use Rattle.words.proofs.Front.{front_word}
 use Rattle.container.specs.Packets.{Packet}
 use Rattle.packets.specs.PacketTable.{packet_at, packets_from}
-use Rattle.packets.proofs.PacketFrames.{packets_next, packets_none, packets_snoc, packet_front, packets_front, tabled_less, tabled_front}
-use Rattle.fragments.specs.Links.{soonest, tag_at, Linked}
-use Rattle.fragments.proofs.Chains.{soonest_from, soonest_tag, soonest_skip, tag_full, tag_key}
-use Rattle.fragments.specs.Bytes.{number_of, piece_of, gathered, since, begun, Next, Walk, Paste, Gather}
+use Rattle.packets.proofs.PacketFrames.{packets_next, packets_none, packets_snoc, packets_front}
+use Rattle.fragments.specs.Links.{soonest, tag_at}
+use Rattle.fragments.proofs.Chains.{soonest_from, soonest_tag, soonest_agree, soonest_skip, tag_full, tag_key}
+use Rattle.fragments.specs.Bytes.{number_of, piece_of, gathered, since, begun, Walk, InWork}
 
 -- ---- one packet
 
@@ -86,43 +87,62 @@ since_front n f u w k i upto h l a = ap (gathered k) (packets_front n f u w i (u
 
 -- ---- from a packet to the next of its key
 
-module _ (w : List ℕ) (q upto : ℕ) (l : Linked w q upto) (i : ℕ) where
-  link_is : i < upto → word w (7 * q + 2 * i) ≡ suc (soonest (tag_at w (word w (6 * i))) (word w (6 * i)) (suc i) (l.count - suc i))
-  link_is h = l.next i (omega (arith, l.most))
+module _ (f w l : List ℕ) (first upto : ℕ) (p : Walk f w l first upto) (i : ℕ) (h : i < upto) where
+  pub row_room : 24 * i + 24 ≤ length w
+  row_room = omega (arith, p.table)
 
-  pub link_some : i < upto → 0 < word w (7 * q + 2 * i)
-  link_some h = rw (link_is h) (omega arith)
+  pub link_room : 4 * (2 * i) + 4 ≤ length l
+  link_room = omega (arith, p.room)
 
-  module _ (r : ℕ) (h : i < upto) (e : word w (7 * q + 2 * i) ≡ r + 1) where
-    link_to : r ≡ soonest (tag_at w (word w (6 * i))) (word w (6 * i)) (suc i) (l.count - suc i)
-    link_to = let z : r + 1 ≡ suc (soonest (tag_at w (word w (6 * i))) (word w (6 * i)) (suc i) (l.count - suc i)) = sym e ∙ link_is h in omega (arith, z)
+  pub link_some : 0 < word l (2 * i)
+  link_some = omega (arith, p.next i h)
+
+  pub fit : word w (6 * i + 2) + word w (6 * i + 3) ≤ length f
+  fit = p.fits.fits i h
+
+  module _ (r : ℕ) (e : word l (2 * i) ≡ r + 1) where
+    link_to : min r upto ≡ soonest (tag_at w (word w (6 * i))) (word w (6 * i)) (suc i) (upto - suc i)
+    link_to = omega (arith, p.next i h)
 
     pub link_more : i < r
-    link_more = omega (arith, link_to, soonest_from (tag_at w (word w (6 * i))) (word w (6 * i)) (suc i) (l.count - suc i))
+    link_more = omega (arith, link_to, soonest_from (tag_at w (word w (6 * i))) (word w (6 * i)) (suc i) (upto - suc i))
 
-    pub link_key_law : (k : ℕ) → word w (6 * i) ≡ k → r < upto → word w (6 * r) ≡ k
-    link_key_law k m u =
-        let h : ℕ = word w (6 * i) in
-        tag_key w h r (rw link_to (soonest_tag (tag_at w h) h (suc i) (l.count - suc i) (rw (← link_to) (omega (arith, l.most))))) ∙ m
+    module _ (k : ℕ) (m : word w (6 * i) ≡ k) where
+      pub link_key : r < upto → word w (6 * r) ≡ k
+      link_key u =
+          let a : ℕ = word w (6 * i) in
+          let z : r ≡ soonest (tag_at w a) a (suc i) (upto - suc i) = omega (arith, link_to) in
+          tag_key w a r (rw z (soonest_tag (tag_at w a) a (suc i) (upto - suc i) (rw (← z) (omega arith)))) ∙ m
 
--- packets in between do not have the key
-pub since_jump :
-    (f w : List ℕ) (q upto key : ℕ) (l : Linked w q upto) (i r : ℕ) → i < upto → word w (7 * q + 2 * i) ≡ r + 1 → word w (6 * i) ≡ key →
-    since f w key (i + 1) upto ≡ since f w key r upto
-since_jump f w q upto key l i r h e m =
-    rw (link_to w q upto l i r h e, add-one)
-    (soonest_skip (λ j. since f w key j upto) (tag_at w (word w (6 * i))) (word w (6 * i)) (suc i) (l.count - suc i) skip) where
-      nothing : (j : ℕ) → (tag_at w (word w (6 * i)) j ≡ word w (6 * i) → ⊥) → piece_of key (packet_at f w j) ≡ []
-      nothing j n =
-          split≡ (word w (6 * j + 3)) 0
-          (λ z. piece_empty f w key j z)
-          (λ z. piece_other f w key j (λ x. n (tag_full w (word w (6 * i)) j z ∙ x ∙ sym m)))
+      -- packets in between do not have the key
+      pub since_jump : since f w k (i + 1) upto ≡ since f w k r upto
+      since_jump = ap (λ (j : ℕ). since f w k j upto) (add-one i) ∙ passed ∙ cut where
+        nothing : (j : ℕ) → (tag_at w (word w (6 * i)) j ≡ word w (6 * i) → ⊥) → piece_of k (packet_at f w j) ≡ []
+        nothing j n =
+            split≡ (word w (6 * j + 3)) 0
+            (λ z. piece_empty f w k j z)
+            (λ z. piece_other f w k j (λ x. n (tag_full w (word w (6 * i)) j z ∙ x ∙ sym m)))
 
-      skip : (j : ℕ) → (tag_at w (word w (6 * i)) j ≡ word w (6 * i) → ⊥) → since f w key j upto ≡ since f w key (suc j) upto
-      skip j n =
-          split≤ upto j
-          (λ u. since_stop f w key j upto u ∙ sym (since_stop f w key (suc j) upto (omega arith)))
-          (λ u. since_cons f w key j upto u ∙ rw (nothing j n, add-one))
+        skip : (j : ℕ) → (tag_at w (word w (6 * i)) j ≡ word w (6 * i) → ⊥) → since f w k j upto ≡ since f w k (suc j) upto
+        skip j n =
+            split≤ upto j
+            (λ u. since_stop f w k j upto u ∙ sym (since_stop f w k (suc j) upto (omega arith)))
+            (λ u. since_cons f w k j upto u ∙ rw (nothing j n, add-one))
+
+        passed : since f w k (suc i) upto ≡ since f w k (min r upto) upto
+        passed =
+            rw link_to
+            (soonest_skip (λ j. since f w k j upto) (tag_at w (word w (6 * i))) (word w (6 * i)) (suc i) (upto - suc i) skip)
+
+        cut : since f w k (min r upto) upto ≡ since f w k r upto
+        cut =
+            split≤ upto r
+            (λ u. since_stop f w k (min r upto) upto (omega arith) ∙ sym (since_stop f w k r upto u))
+            (λ u. let z : min r upto ≡ r = omega arith in rw z)
+
+      -- what it has from packet i on
+      pub since_next : since f w k i upto ≡ (packet_at f w i).bytes ++ since f w k r upto
+      since_next = since_own f w k i upto h m ∙ rw since_jump
 
 -- ---- a byte of what a key has
 
@@ -138,82 +158,68 @@ byte_here f w k i upto j h e fit l =
     (get_or-append (packet_at f w i).bytes (since f w k (i + 1) upto) 0 j (omega (arith, bytes_length f w i fit))
     ∙ rw (bytes_are f w i) (get_or-take (word w (6 * i + 3)) (drop (word w (6 * i + 2)) f) j 0 l ∙ get_or-drop (word w (6 * i + 2)) f j 0))
 
-pub record Seeking (f w : List ℕ) (q first upto at i j : ℕ) : Type 0 where
-  pub mine : i < upto → word w (6 * i) ≡ word w (6 * first)
-  pub less : j ≤ at
+-- the byte is number j of what the key has from packet i on
+pub record Seeking (f w : List ℕ) (first upto at i j : ℕ) : Type 0 where
+  pub before : i < upto
+  pub mine : word w (6 * i) ≡ word w (6 * first)
+  pub there : j < length (since f w (word w (6 * first)) i upto)
   pub same : get_or (since f w (word w (6 * first)) i upto) j 0 ≡ get_or (begun f w first upto) at 0
 
-module _ (f w : List ℕ) (q first upto at : ℕ) (pre : Walk f w q first upto) where
-  pub seek_start : Seeking f w q first upto at first at
-  seek_start = record { mine = λ h. refl; less = omega arith; same = refl }
+module _ (f w l : List ℕ) (first upto : ℕ) (p : Walk f w l first upto) (at : ℕ) where
+  pub seek_start : at < length (begun f w first upto) → Seeking f w first upto at first at
+  seek_start h = record { before = p.before; mine = refl; there = h; same = refl }
 
-  module _ (i j : ℕ) (s : Seeking f w q first upto at i j) where
-    pub seek_row : i < upto → 24 * i + 24 ≤ length w
-    seek_row h = omega (arith, pre.tabled.total, pre.tabled.room)
+  module _ (i j : ℕ) (s : Seeking f w first upto at i j) where
+    pub seek_row : 24 * i + 24 ≤ length w
+    seek_row = row_room f w l first upto p i s.before
 
-    pub seek_next : i < upto → Next w q i
-    seek_next h = record { room = omega (arith, pre.quarter, pre.tabled.total, pre.tabled.room); some = link_some w q upto pre.linked i h }
+    module _ (n : ℕ) (ne : n ≡ word w (6 * i + 3)) where
+      module _ (r : ℕ) (e : word l (2 * i) ≡ r + 1) where
+        pub seek_less : upto - r < upto - i
+        seek_less = omega (arith, s.before, link_more f w l first upto p i s.before r e)
 
-    pub seek_less : i < upto → (r : ℕ) → word w (7 * q + 2 * i) ≡ r + 1 → upto - r < upto - i
-    seek_less h r e = omega (arith, link_more w q upto pre.linked i r h e)
+        pub seek_turn : n ≤ j → Seeking f w first upto at r (j - n)
+        seek_turn h =
+            let k : ℕ = word w (6 * first) in
+            let b : List ℕ = (packet_at f w i).bytes in
+            let own : since f w k i upto ≡ b ++ since f w k r upto = since_next f w l first upto p i s.before r e k s.mine in
+            let long : length b ≡ n = bytes_length f w i (fit f w l first upto p i s.before) ∙ sym ne in
+            let more : j - n < length (since f w k r upto) = omega (arith, s.there, ap length own, length-append b (since f w k r upto), long) in
+            let in_range : r < upto =
+            split≤ upto r (λ u. let z : length (since f w k r upto) ≡ 0 = ap length (since_stop f w k r upto u) in absurd (omega arith)) (λ u. u) in
+            record {
+              before = in_range;
+              mine = link_key f w l first upto p i s.before r e k s.mine in_range;
+              there = more;
+              same = sym (rw (own, past b (since f w k r upto) j (omega (arith, long)), long)) ∙ s.same;
+            }
 
-    fit : i < upto → word w (6 * i + 2) + word w (6 * i + 3) ≤ length f
-    fit h = pre.tabled.fits.fits i h
+      module _ (h : j < n) (m : ℕ) (me : m ≡ word w (6 * i + 2)) where
+        pub seek_inside : m + j < length f
+        seek_inside = omega (arith, fit f w l first upto p i s.before)
 
-    pub seek_turn : (n : ℕ) → n ≡ word w (6 * i + 3) → i < upto → n ≤ j → (r : ℕ) → word w (7 * q + 2 * i) ≡ r + 1 → Seeking f w q first upto at r (j - n)
-    seek_turn n e h l r ne =
-        let p : length (packet_at f w i).bytes ≡ n = bytes_length f w i (fit h) ∙ sym e in
-        let k : ℕ = word w (6 * first) in
-        record {
-          mine = link_key_law w q upto pre.linked i r h ne k (s.mine h);
-          less = omega (arith, s.less);
-          same =
-              ap (λ (x : List ℕ). get_or x (j - n) 0) (sym (since_jump f w q upto k pre.linked i r h ne (s.mine h)))
-              ∙ sym (rw (since_own f w k i upto h (s.mine h), past (packet_at f w i).bytes (since f w k (i + 1) upto) j (omega arith), p))
-              ∙ s.same;
-        }
+        pub seek_fits : m + j < 18446744073709551616
+        seek_fits = omega (arith, seek_inside, p.small)
 
-    pub seek_inside : (n r : ℕ) → n ≡ word w (6 * i + 3) → i < upto → j < n → r ≡ word w (6 * i + 2) → r + j < length f
-    seek_inside n r e h l p = omega (arith, fit h)
+        pub seek_here : get_or f (m + j) 0 ≡ get_or (begun f w first upto) at 0
+        seek_here = rw me (sym (byte_here f w (word w (6 * first)) i upto j s.before s.mine (fit f w l first upto p i s.before) (omega arith)) ∙ s.same)
 
-    pub seek_fits : (n r : ℕ) → n ≡ word w (6 * i + 3) → i < upto → j < n → r ≡ word w (6 * i + 2) → r + j < 18446744073709551616
-    seek_fits n r e h l p = omega (arith, seek_inside n r e h l p, pre.tabled.small)
+  -- both bytes of a number lie in the first packet
+  module _ (n : ℕ) (ne : n ≡ word w (6 * first + 3)) (le : at + 2 ≤ n) (s : ℕ) (se : s ≡ word w (6 * first + 2)) where
+    pub half_inside : s + at + 2 ≤ length f
+    half_inside = omega (arith, fit f w l first upto p first p.before)
 
-    pub seek_here : (n r : ℕ) → n ≡ word w (6 * i + 3) → i < upto → j < n → r ≡ word w (6 * i + 2) → get_or f (r + j) 0 ≡ get_or (begun f w first upto) at 0
-    seek_here n r e h l p = rw p (sym (byte_here f w (word w (6 * first)) i upto j h (s.mine h) (fit h) (omega arith)) ∙ s.same)
+    pub half_fits : s + at < 18446744073709551616
+    half_fits = omega (arith, half_inside, p.small)
 
-    pub seek_end : upto ≤ i → 0 ≡ get_or (begun f w first upto) at 0
-    seek_end h = sym (rw (since_stop f w (word w (6 * first)) i upto h)) ∙ s.same
-
--- both bytes of a number lie in the first packet
-module _
-    (f w : List ℕ) (q first upto at : ℕ) (pre : Walk f w q first upto)
-    (n s : ℕ) (ne : n ≡ word w (6 * first + 3)) (le : at + 2 ≤ n) (se : s ≡ word w (6 * first + 2)) where
-  fit₀ : word w (6 * first + 2) + word w (6 * first + 3) ≤ length f
-  fit₀ = pre.tabled.fits.fits first pre.before
-
-  pub half_inside : s + at + 1 < length f
-  half_inside = omega (arith, fit₀)
-
-  pub half_first : s + at < length f
-  half_first = omega (arith, half_inside)
-
-  pub half_fits : s + at < 18446744073709551616
-  half_fits = omega (arith, half_inside, pre.tabled.small)
-
-  pub half_next : s + at + 1 < 18446744073709551616
-  half_next = omega (arith, half_inside, pre.tabled.small)
-
-  pub half_here : (r : ℕ) → ((r ≡ get_or f (s + at) 0 + 256 * get_or f (s + at + 1) 0) × (r < 65536)) → ((r ≡ le16 (begun f w first upto) at) × (r < 65536))
-  unfolding le16
-  half_here r e =
-      let z : s + at + 1 ≡ s + (at + 1) = omega arith in (
-        e.0 ∙ rw (z, se) (rw (
-          byte_here f w (word w (6 * first)) first upto at pre.before refl fit₀ (omega arith),
-          byte_here f w (word w (6 * first)) first upto (at + 1) pre.before refl fit₀ (omega arith),
-        )),
-        e.1,
-      )
+    pub half_here : (r : ℕ) → r ≡ le16 f (s + at) → r ≡ le16 (begun f w first upto) at
+    unfolding le16
+    half_here r e =
+        let z : s + at + 1 ≡ s + (at + 1) = omega arith in
+        e ∙ rw (z, se) (rw (
+          byte_here f w (word w (6 * first)) first upto at p.before refl (fit f w l first upto p first p.before) (omega arith),
+          byte_here f w (word w (6 * first)) first upto (at + 1) p.before refl (fit f w l first upto p first p.before) (omega arith),
+        ))
 
 -- ---- one packet's bytes stored
 
@@ -223,22 +229,21 @@ take_min a b l =
     (λ h. let z : min b a ≡ a = omega arith in rw z (take-take a b l h))
     (λ h. let z : min b a ≡ b = omega arith in rw z (take_all a (take b l) (simp length-take (omega arith))))
 
-pub paste_room :
-    (f w : List ℕ) (i left to : ℕ) → Paste f w i left to → (b n s : ℕ) → n ≡ min b left → (p : List ℕ) → p ≡ take n (drop s f) →
-    to + length p ≤ length w
-paste_room f w i left to pre b n s ne p e = rw e (simp length-take (omega (arith, pre.room)))
-
 module _
-    (f w : List ℕ) (i left to : ℕ) (pre : Paste f w i left to)
+    (f w : List ℕ) (i left : ℕ) (out : List ℕ) (at : ℕ)
     (b n s : ℕ) (be : b ≡ word w (6 * i + 3)) (ne : n ≡ min b left) (se : s ≡ word w (6 * i + 2)) where
-  pub paste_part : s + n ≤ length f
-  paste_part = omega (arith, pre.tabled.fits.fits i (omega arith))
+  pub paste_part : word w (6 * i + 2) + word w (6 * i + 3) ≤ length f → s + n ≤ length f
+  paste_part h = omega arith
 
-  pub paste_is : (p : List ℕ) → p ≡ take n (drop s f) → (r : ℕ) (u : List ℕ) → Writes w to p r u → Writes w to (take left (packet_at f w i).bytes) r u
-  paste_is p e r u v =
-      let q : p ≡ take left (packet_at f w i).bytes =
-      e ∙ sym (ap (take left) (bytes_are f w i) ∙ take_min left (word w (6 * i + 3)) (drop (word w (6 * i + 2)) f) ∙ rw (ne, be, se)) in
-      rw q at v
+  module _ (p : List ℕ) (e : p ≡ take n (drop s f)) where
+    pub paste_room : at + left ≤ length out → at + length p ≤ length out
+    paste_room h = rw e (simp length-take (omega arith))
+
+    pub paste_is : (r : ℕ) (u : List ℕ) → Writes out at p r u → Writes out at (take left (packet_at f w i).bytes) r u
+    paste_is r u v =
+        let q : p ≡ take left (packet_at f w i).bytes =
+        e ∙ sym (ap (take left) (bytes_are f w i) ∙ take_min left (word w (6 * i + 3)) (drop (word w (6 * i + 2)) f) ∙ rw (ne, be, se)) in
+        rw q at v
 
 -- ---- joining
 
@@ -247,91 +252,108 @@ take_app zero a b = let z : 0 - length a ≡ 0 = omega arith in rw z
 take_app (suc n) [] b = let z : suc n - 0 ≡ suc n = omega arith in rw z
 take_app (suc n) (x ∷ a) b = let z : suc n - suc (length a) ≡ n - length a = omega arith in rw (z, take_app n a b)
 
-byte_behind : (vs w : List ℕ) (at k : ℕ) → at + length vs ≤ k → get_or (sets w at vs) k 0 ≡ get_or w k 0
-byte_behind [] w at k h = refl
-byte_behind (x ∷ vs) w at k h =
-    byte_behind vs (set w at x) (suc at) k (omega arith) ∙ get_or-set_other w at k x 0 (λ e. omega arith)
+pub record Gathering (f w : List ℕ) (first upto need : ℕ) (out₀ out : List ℕ) (i at : ℕ) : Type 0 where
+  pub mine : i < upto → word w (6 * i) ≡ word w (6 * first)
+  pub ends : at ≤ need
+  pub emits : Emitting out₀ 0 (take need (begun f w first upto)) out at (take (need - at) (since f w (word w (6 * first)) i upto))
 
--- a run of stores leaves the words behind it
-pub word_behind : (vs w : List ℕ) (at j : ℕ) → at + length vs ≤ 4 * j → word (sets w at vs) j ≡ word w j
-word_behind vs w at j h = word_of_bytes (sets w at vs) w j (λ k lo hi. byte_behind vs w at k (omega arith))
-
-pub record Gathering (f w₀ : List ℕ) (q first upto need to : ℕ) (w : List ℕ) (i pos : ℕ) : Type 0 where
-  pub mine : i < upto → word w₀ (6 * i) ≡ word w₀ (6 * first)
-  pub low : to ≤ pos
-  pub ends : pos ≤ to + need
-  pub front : Front (24 * upto) w w₀
-  pub behind : (j : ℕ) → to + need ≤ 4 * j → word w j ≡ word w₀ j
-  pub emits : Emitting w₀ to (take need (begun f w₀ first upto)) w pos (take (to + need - pos) (since f w₀ (word w₀ (6 * first)) i upto))
-
-module _ (f w₀ : List ℕ) (q first upto need to : ℕ) (pre : Gather f w₀ q first upto need to) where
-  pub gather_start : Gathering f w₀ q first upto need to w₀ first to
+module _ (f w l : List ℕ) (first upto : ℕ) (p : Walk f w l first upto) (need : ℕ) (out₀ : List ℕ) where
+  pub gather_start : Gathering f w first upto need out₀ out₀ first 0
   gather_start =
-      let z : to + need - to ≡ need = omega arith in
-      record {
-        mine = λ h. refl;
-        low = omega arith;
-        ends = omega arith;
-        front = front_refl (24 * upto) w₀;
-        behind = λ j h. refl;
-        emits = rw z (emit_start w₀ to (take need (begun f w₀ first upto)));
-      }
+      let z : need - 0 ≡ need = omega arith in
+      record { mine = λ h. refl; ends = omega arith; emits = rw z (emit_start out₀ 0 (take need (begun f w first upto))) }
 
-  module _ (w : List ℕ) (i pos : ℕ) (g : Gathering f w₀ q first upto need to w i pos) where
-    pub gather_paste : i < upto → Paste f w i (to + need - pos) pos
-    gather_paste h = record {
-      tabled = tabled_less f w (i + 1) upto (omega arith) (tabled_front (24 * upto) f w w₀ upto (omega arith) g.front g.emits.long pre.walk.tabled);
-      room = omega (arith, pre.room, g.ends, g.emits.long);
+  module _ (out : List ℕ) (i at : ℕ) (g : Gathering f w first upto need out₀ out i at) where
+    pub gather_room : need ≤ length out₀ → at + (need - at) ≤ length out
+    gather_room h = omega (arith, g.ends, g.emits.long)
+
+    module _ (h : i < upto) (r : ℕ) (e : word l (2 * i) ≡ r + 1) where
+      pub gather_less : upto - r < upto - i
+      gather_less = omega (arith, link_more f w l first upto p i h r e)
+
+      pub gather_turn : (to : ℕ) (u : List ℕ) → Writes out at (take (need - at) (packet_at f w i).bytes) to u → Gathering f w first upto need out₀ u r to
+      gather_turn to u v =
+          let k : ℕ = word w (6 * first) in
+          let n : ℕ = need - at in
+          let b : List ℕ = (packet_at f w i).bytes in
+          let short : length (take n b) ≡ min n (length b) = length-take n b in
+          let left : n - length b ≡ need - to = omega (arith, v.next, short, g.ends) in
+          let eq : take n (since f w k i upto) ≡ take n b ++ take (need - to) (since f w k r upto) =
+          ap (take n) (since_next f w l first upto p i h r e k (g.mine h)) ∙ take_app n b (since f w k r upto) ∙ rw left in
+          record {
+            mine = link_key f w l first upto p i h r e k (g.mine h);
+            ends = omega (arith, v.next, short, g.ends);
+            emits =
+                emit_turn out₀ 0 (take need (begun f w first upto)) out at (take n (since f w k i upto)) g.emits
+                (take n b) (take (need - to) (since f w k r upto)) to u eq v;
+          }
+
+    pub gather_end : upto ≤ i → Writes out₀ 0 (take need (begun f w first upto)) at out
+    gather_end h =
+        let k : ℕ = word w (6 * first) in
+        emit_end out₀ 0 (take need (begun f w first upto)) out at (take (need - at) (since f w k i upto)) g.emits
+        (rw (since_stop f w k i upto h) (take-nil (need - at)))
+
+-- ---- what work has
+
+-- the first of more rows, cut at some of them
+soonest_cut : (b : ℕ → ℕ) (h i m n : ℕ) → n ≤ m → min (soonest b h i m) (i + n) ≡ soonest b h i n
+unfolding soonest
+soonest_cut b h i m zero l = omega (arith, soonest_from b h i m)
+soonest_cut b h i zero (suc n) l = absurd (omega arith)
+soonest_cut b h i (suc m) (suc n) l = go (eqb (b i) h) (soonest_cut b h (suc i) m n (omega arith)) where
+  go : (t : Bool) → min (soonest b h (suc i) m) (suc i + n) ≡ soonest b h (suc i) n → min (cond t i (soonest b h (suc i) m)) (i + suc n) ≡ cond t i (soonest b h (suc i) n)
+  go true e = omega arith
+  go false e = let z : i + suc n ≡ suc i + n = omega arith in rw z e
+
+word_drop : (w : List ℕ) (n i j : ℕ) → j ≡ n + i → word (drop (4 * n) w) i ≡ word w j
+unfolding word le32
+word_drop w n i j e =
+    let d : (k : ℕ) → get_or (drop (4 * n) w) k 0 ≡ get_or w (4 * n + k) 0 = λ k. get_or-drop (4 * n) w k 0 in
+    let z0 : 4 * n + 4 * i ≡ 4 * j = omega arith in
+    let z1 : 4 * n + (4 * i + 1) ≡ 4 * j + 1 = omega arith in
+    let z2 : 4 * n + (4 * i + 2) ≡ 4 * j + 2 = omega arith in
+    let z3 : 4 * n + (4 * i + 3) ≡ 4 * j + 3 = omega arith in
+    rw (d (4 * i), d (4 * i + 1), d (4 * i + 2), d (4 * i + 3), z0, z1, z2, z3)
+
+module _ (f w : List ℕ) (q first upto : ℕ) (p : InWork f w q first upto) where
+  pub work_inside : 28 * q ≤ length w
+  work_inside = omega (arith, p.quarter, p.tabled.room)
+
+  pub work_rows : 24 * upto ≤ length w
+  work_rows = omega (arith, p.tabled.total, p.tabled.room)
+
+  -- rows that are as those in work, and the links behind them
+  module _ (u l : List ℕ) (fr : Front (24 * upto) u w) (long : 24 * upto ≤ length u) (le : l ≡ drop (28 * q) w) where
+    same : (j n : ℕ) → j < upto → n < 6 → word u (6 * j + n) ≡ word w (6 * j + n)
+    same j n h m = front_word (24 * upto) u w (6 * j + n) (omega arith) fr
+
+    key : (j : ℕ) → j < upto → word u (6 * j) ≡ word w (6 * j)
+    key j h = front_word (24 * upto) u w (6 * j) (omega arith) fr
+
+    tag : (k j : ℕ) → j < upto → tag_at w k j ≡ tag_at u k j
+    unfolding tag_at
+    tag k j h = rw (key j h, same j 3 h (omega arith))
+
+    link : (i : ℕ) → word l (2 * i) ≡ word w (7 * q + 2 * i)
+    link i = let z : 4 * (7 * q) ≡ 28 * q = omega arith in rw (le, ← z) (word_drop w (7 * q) (2 * i) (7 * q + 2 * i) refl)
+
+    pub work_walk : Walk f u l first upto
+    work_walk = record {
+      fits = record { fits = λ i h. rw (same i 2 h (omega arith), same i 3 h (omega arith)) (p.tabled.fits.fits i h) };
+      small = p.tabled.small;
+      table = long;
+      room = rw le (simp length-drop (omega (arith, p.quarter, p.tabled.total, p.tabled.room)));
+      next = λ i h.
+          let k : ℕ = word w (6 * i) in
+          let n : ℕ = p.linked.count - suc i in
+          let m : ℕ = upto - suc i in
+          let a : word l (2 * i) ≡ suc (soonest (tag_at w k) k (suc i) n) = link i ∙ p.linked.next i (omega (arith, p.linked.most)) in
+          let b : min (soonest (tag_at w k) k (suc i) n) (suc i + m) ≡ soonest (tag_at w k) k (suc i) m = soonest_cut (tag_at w k) k (suc i) n m (omega (arith, p.linked.most)) in
+          let c : soonest (tag_at w k) k (suc i) m ≡ soonest (tag_at u k) k (suc i) m = soonest_agree (tag_at w k) (tag_at u k) k (suc i) m (λ j lo hi. tag k j (omega arith)) in
+          rw (key i h) (omega (arith, a, b, c));
+      before = p.before;
     }
 
-    module _ (h : i < upto) (r : ℕ) (u : List ℕ) (v : Writes w pos (take (to + need - pos) (packet_at f w i).bytes) r u) where
-      wrote : Writes w pos (take (to + need - pos) (packet_at f w₀ i).bytes) r u
-      wrote = rw (packet_front (24 * upto) f w w₀ i (omega arith) g.front) at v
-
-      short : length (take (to + need - pos) (packet_at f w₀ i).bytes) ≡ min (to + need - pos) (length (packet_at f w₀ i).bytes)
-      short = length-take (to + need - pos) (packet_at f w₀ i).bytes
-
-      behind₁ : (j : ℕ) → to + need ≤ 4 * j → word u j ≡ word w₀ j
-      behind₁ j l = rw wrote.writes (word_behind (take (to + need - pos) (packet_at f w₀ i).bytes) w pos j (omega (arith, short, g.ends))) ∙ g.behind j l
-
-      link₁ : word u (7 * q + 2 * i) ≡ word w₀ (7 * q + 2 * i)
-      link₁ = behind₁ (7 * q + 2 * i) (omega (arith, pre.high))
-
-      pub gather_next : Next u q i
-      gather_next = record {
-        room =
-            let l : length u ≡ length w = writes_long w pos (take (to + need - pos) (packet_at f w i).bytes) r u v in
-            omega (arith, l, g.emits.long, pre.walk.quarter, pre.walk.tabled.total, pre.walk.tabled.room);
-        some = rw link₁ (link_some w₀ q upto pre.walk.linked i h);
-      }
-
-      module _ (x : ℕ) (e : word u (7 * q + 2 * i) ≡ x + 1) where
-        pub gather_less : upto - x < upto - i
-        gather_less = omega (arith, link_more w₀ q upto pre.walk.linked i x h (sym link₁ ∙ e))
-
-        pub gather_turn : Gathering f w₀ q first upto need to u x r
-        gather_turn =
-            let lf : to + need - pos - length (packet_at f w₀ i).bytes ≡ to + need - r = omega (arith, wrote.next, short, g.ends) in
-            let k : ℕ = word w₀ (6 * first) in
-            let n : ℕ = to + need - pos in
-            let eq : take n (since f w₀ k i upto) ≡ take n (packet_at f w₀ i).bytes ++ take (to + need - r) (since f w₀ k x upto) =
-            ap (take n) (since_own f w₀ k i upto h (g.mine h) ∙ rw (since_jump f w₀ q upto k pre.walk.linked i x h (sym link₁ ∙ e) (g.mine h)))
-            ∙ take_app n (packet_at f w₀ i).bytes (since f w₀ k x upto)
-            ∙ rw lf in
-            let fr : Front (24 * upto) u w = rw wrote.writes (front_sets (24 * upto) (take n (packet_at f w₀ i).bytes) w pos (omega (arith, pre.low, g.low))) in
-            record {
-              mine = link_key_law w₀ q upto pre.walk.linked i x h (sym link₁ ∙ e) (word w₀ (6 * first)) (g.mine h);
-              low = omega (arith, wrote.next, g.low);
-              ends = omega (arith, wrote.next, short, g.ends);
-              front = front_then (24 * upto) u w w₀ fr g.front;
-              behind = behind₁;
-              emits =
-                  emit_turn w₀ to (take need (begun f w₀ first upto)) w pos (take n (since f w₀ k i upto)) g.emits
-                  (take n (packet_at f w₀ i).bytes) (take (to + need - r) (since f w₀ k x upto)) r u eq wrote;
-            }
-
-    pub gather_end : upto ≤ i → Writes w₀ to (take need (begun f w₀ first upto)) pos w
-    gather_end h =
-        let k : ℕ = word w₀ (6 * first) in
-        emit_end w₀ to (take need (begun f w₀ first upto)) w pos (take (to + need - pos) (since f w₀ k i upto)) g.emits
-        (rw (since_stop f w₀ k i upto h) (take-nil (to + need - pos)))
+    pub work_bytes : begun f u first upto ≡ begun f w first upto
+    work_bytes = rw (key first p.before) (since_front (24 * upto) f u w (word w (6 * first)) first upto (omega arith) (omega (arith, p.before)) fr)

@@ -1,9 +1,9 @@
--- The bytes of a key among the packets, and what the functions that walk them ask.
-use Rattle.std.specs.Prelude.{ℕ, ◌+◌, ◌-◌, ◌*◌, ◌/◌, ◌<◌, ◌≤◌, ◌≡◌, cond, List, [], ◌∷◌, ◌++◌, length, eqb}
+-- The bytes of a key among the packets, and what can be walked.
+use Rattle.std.specs.Prelude.{ℕ, suc, ◌+◌, ◌-◌, ◌*◌, ◌/◌, ◌<◌, ◌≤◌, ◌≡◌, cond, List, [], ◌∷◌, ◌++◌, length, eqb, min}
 use Rattle.words.specs.Words.{word}
 use Rattle.container.specs.Packets.{Packet}
-use Rattle.packets.specs.PacketTable.{packets_from, Tabled}
-use Rattle.fragments.specs.Links.{Linked}
+use Rattle.packets.specs.PacketTable.{packets_from, Fits, Tabled}
+use Rattle.fragments.specs.Links.{soonest, tag_at, Linked}
 
 -- a link and a direction as the one number that the tables keep
 abbrev pub number_of : Packet → ℕ
@@ -25,24 +25,20 @@ since f w k first upto = gathered k (packets_from f w first (upto - first))
 abbrev pub begun : List ℕ → List ℕ → ℕ → ℕ → List ℕ
 begun f w first upto = since f w (word w (6 * first)) first upto
 
--- the link of packet i can be read
-pub record Next (w : List ℕ) (q i : ℕ) : Type 0 where
-  pub room : 4 * (7 * q + 2 * i) + 4 ≤ length w
-  pub some : 0 < word w (7 * q + 2 * i)
+-- ---- the packets of a key, walked
 
--- the packets are linked
-pub record Walk (f w : List ℕ) (q first upto : ℕ) : Type 0 where
+-- Rows of packets and their links, from one packet on up to another. A link is cut there: what comes behind is not walked.
+pub record Walk (f rows links : List ℕ) (first upto : ℕ) : Type 0 where
+  pub fits : Fits f rows upto
+  pub small : length f ≤ 1048576
+  pub table : 24 * upto ≤ length rows
+  pub room : 8 * upto ≤ length links
+  pub next : (i : ℕ) → i < upto → min (word links (2 * i)) (suc upto) ≡ suc (soonest (tag_at rows (word rows (6 * i))) (word rows (6 * i)) (suc i) (upto - suc i))
+  pub before : first < upto
+
+-- the same in work, with q a quarter of the file's length
+pub record InWork (f w : List ℕ) (q first upto : ℕ) : Type 0 where
   pub tabled : Tabled f w upto
   pub quarter : q ≡ length f / 4
   pub linked : Linked w q upto
   pub before : first < upto
-
-pub record Paste (f w : List ℕ) (i left to : ℕ) : Type 0 where
-  pub tabled : Tabled f w (i + 1)
-  pub room : to + left ≤ length w
-
-pub record Gather (f w : List ℕ) (q first upto need to : ℕ) : Type 0 where
-  pub walk : Walk f w q first upto
-  pub low : 24 * upto ≤ to
-  pub high : to + need ≤ 28 * q
-  pub room : to + need ≤ length w

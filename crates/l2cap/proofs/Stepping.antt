@@ -21,7 +21,7 @@ use Rattle.tree.proofs.Index.{find_agree}
 use Rattle.packets.specs.PacketTable.{packet_at, data_of, Tabled}
 use Rattle.packets.proofs.PacketFrames.{data_next, data_front}
 use Rattle.fragments.specs.Links.{Seats}
-use Rattle.fragments.specs.Bytes.{since, begun, Walk}
+use Rattle.fragments.specs.Bytes.{since, begun, InWork}
 use Rattle.fragments.proofs.Walking.{number_at, bytes_length, piece_own, piece_other, since_one, since_snoc, since_front}
 use Rattle.l2cap.specs.Pdus.{joined, is_complete, still_open, completed}
 use Rattle.l2cap.specs.PduTable.{pdus_from, pays_of}
@@ -227,7 +227,7 @@ module _ (f w : List ℕ) (q : ℕ) (t : Tables) (i : ℕ) (p : Step f w q t i) 
     pub at_room : 4 * at + 16 ≤ length w
     at_room = seat_room f w q t.live (i + 1) p.tabled p.ready.quarter p.ready.live p.seats i (omega arith) at ae
 
-    pub full_room : (first need : ℕ) (v : List ℕ) (top : ℕ) → Finished f w (2 * q) t.made t.top i first need v top → 4 * at + 16 ≤ length v
+    pub full_room : (first need : ℕ) (v : List ℕ) (top : ℕ) → Finished f w q t i first need v top → 4 * at + 16 ≤ length v
     full_room first need v top fin = rw fin.size at_room
 
     -- the bytes so far
@@ -346,8 +346,11 @@ module _ (f w : List ℕ) (q : ℕ) (t : Tables) (i : ℕ) (p : Step f w q t i) 
         step_begun : begun f w first (i + 1) ≡ since f w (word w (6 * i)) first (i + 1)
         step_begun = rw step_own
 
-        pub step_walk : Walk f w q first (i + 1)
+        pub step_walk : InWork f w q first (i + 1)
         step_walk = record { tabled = p.tabled; quarter = p.ready.quarter; linked = p.linked; before = omega (arith, step_first.0) }
+
+        pub step_long : got ≡ length (begun f w first (i + 1))
+        step_long = rw step_begun step_first.1
 
         held_next : some (since f w (word w (6 * i)) first (i + 1)) ≡ after f w (3 * q) t.live i
         unfolding held_of
@@ -371,7 +374,7 @@ module _ (f w : List ℕ) (q : ℕ) (t : Tables) (i : ℕ) (p : Step f w q t i) 
         pub narrow_got : got < 4294967296
         narrow_got = omega (arith, step_small, p.tabled.total, p.tabled.small)
 
-        pub step_finish : (need : ℕ) → Need (begun f w first (i + 1)) got need → need ≤ got → Finish f w q t.made t.top i first need
+        pub step_finish : (need : ℕ) → Need (begun f w first (i + 1)) got need → need ≤ got → Finish f w q t i first need
         step_finish need ni le = record {
           walk = step_walk;
           low = omega (arith, p.tabled.total, p.ready.quarter, p.ready.bump);
@@ -414,7 +417,7 @@ module _ (f w : List ℕ) (q : ℕ) (t : Tables) (i : ℕ) (p : Step f w q t i) 
         -- the PDU is complete
         pub step_full :
             (need : ℕ) → Need (begun f w first (i + 1)) got need → need ≤ got →
-            (v : List ℕ) (top : ℕ) → Finished f w (2 * q) t.made t.top i first need v top →
+            (v : List ℕ) (top : ℕ) → Finished f w q t i first need v top →
             (u : List ℕ) → u ≡ put_open v at 0 0 → Stepped f w q t i u (record { live = t.live; made = t.made + 1; top = top })
         unfolding held_of still_open completed is_complete
         step_full need ni le v top fin u eu =

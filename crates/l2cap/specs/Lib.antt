@@ -3,3 +3,4 @@ pub mod PduTable
 pub mod PduFrames
 pub mod Rekeyed
 pub mod Steps
+pub mod Reading

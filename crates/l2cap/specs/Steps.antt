@@ -1,19 +1,20 @@
 -- What the functions of the pass ask and promise: what a PDU needs, what is open, a PDU's row, a step.
-use Rattle.std.specs.Prelude.{Option as Maybe, Some, None, ℕ, zero, suc, ◌+◌, ◌*◌, ◌/◌, ◌%◌, ◌<◌, ◌≤◌, ◌≡◌, cond, ◌⊎◌, List, [], ◌∷◌, ◌++◌, length, eqb}
+use Rattle.std.specs.Prelude.{Option as Maybe, Some, None, ℕ, zero, suc, ◌+◌, ◌-◌, ◌*◌, ◌/◌, ◌%◌, ◌<◌, ◌≤◌, ◌≡◌, cond, ◌⊎◌, List, [], ◌∷◌, ◌++◌, length, drop, eqb}
 use Rattle.std.proofs.Math.Option.{Option, none, some}
 use Rattle.laws.specs.Numbers.{le16}
 use Rattle.words.specs.Words.{word, put_word}
 use Rattle.words.specs.Front.{Front}
 use Rattle.words.specs.Rows.{put_words}
-use Rattle.table.specs.Table.{Slot, none as no_row, some as row, find_in, lookup, sum_of}
+use Rattle.table.specs.Table.{Slot, none as no_row, some as a_row, find_in, lookup, sum_of}
 use Rattle.packets.specs.PacketTable.{packet_at, data_of, Tabled}
 use Rattle.l2cap.specs.Pdus.{joined, still_open, completed, pdu_of}
 use Rattle.l2cap.specs.PduTable.{pdus_from, pays_of}
 use Rattle.l2cap.specs.PduFrames.{Placed}
 use Rattle.l2cap.specs.Rekeyed.{put_by}
 use Rattle.fragments.specs.Links.{Linked, Seats}
-use Rattle.fragments.specs.Bytes.{number_of, since, begun, Walk}
+use Rattle.fragments.specs.Bytes.{number_of, since, begun, Walk, InWork}
 use Rattle.l2cap.specs.declared.Open.{Open}
+use Rattle.l2cap.specs.declared.Row.{Row}
 use Rattle.l2cap.specs.declared.Tables.{Tables}
 
 -- ---- what a PDU needs
@@ -32,8 +33,8 @@ open_from a g = Some (record { first = a; got = g })
 -- a row holds the number of the first packet and one more, or 0 if nothing is open, and the bytes so far
 unfoldable pub as_open : Slot → Maybe Open
 as_open no_row = None
-as_open (row zero g) = None
-as_open (row (suc a) g) = open_from a g
+as_open (a_row zero g) = None
+as_open (a_row (suc a) g) = open_from a g
 
 unfoldable pub open_at : List ℕ → ℕ → ℕ → ℕ → Maybe Open
 open_at w b n k = as_open (lookup w b n k)
@@ -59,7 +60,7 @@ pub record RowPre (w : List ℕ) (q i : ℕ) : Type 0 where
 
 -- by the row at a word: what is open, and what is open once packet i is read
 unfoldable pub open_in : List ℕ → ℕ → Maybe Open
-open_in w at = as_open (row (word w (at + 2)) (word w (at + 3)))
+open_in w at = as_open (a_row (word w (at + 2)) (word w (at + 3)))
 
 unfoldable pub next_by : List ℕ → ℕ → ℕ → Maybe Open
 next_by w at i = grown (word w (6 * i + 1)) (open_in w at) i (word w (6 * i + 3))
@@ -74,32 +75,44 @@ put_open w at y z = put_word (put_word w (at + 2) y) (at + 3) z
 
 -- ---- a PDU's row
 
-unfoldable pub put_pdu : List ℕ → ℕ → ℕ → ℕ → ℕ → ℕ → ℕ → ℕ → List ℕ
-put_pdu w at k c p s l t = put_words w at (k ∷ c ∷ p ∷ s ∷ l ∷ t % 4294967296 ∷ t / 4294967296 ∷ [])
+unfoldable pub words_of : Row → List ℕ
+words_of p = p.key ∷ p.cid ∷ cond p.joined 1 0 ∷ p.start ∷ p.len ∷ p.time % 4294967296 ∷ p.time / 4294967296 ∷ []
 
-pub record PutPdu (w : List ℕ) (at s l : ℕ) : Type 0 where
+unfoldable pub put_pdu : List ℕ → ℕ → Row → List ℕ
+put_pdu w at p = put_words w at (words_of p)
+
+pub record PutPdu (w : List ℕ) (at : ℕ) (p : Row) : Type 0 where
   pub room : 4 * at + 28 ≤ length w
-  pub start : s < 4294967296
-  pub len : l < 4294967296
+  pub start : p.start < 4294967296
+  pub len : p.len < 4294967296
 
-pub record Finish (f w : List ℕ) (q made top i first need : ℕ) : Type 0 where
-  pub walk : Walk f w q first (i + 1)
-  pub low : 24 * i + 24 ≤ top
-  pub mid : top + need ≤ 4 * (2 * q)
-  pub room : 4 * (2 * q + 7 * made) + 28 ≤ length w
-  pub small : 2 * q + 7 * made ≤ 16777216
+-- ---- a PDU is complete
+
+-- its bytes can be joined behind the packets' rows, before their links
+pub record Join (f rows rest : List ℕ) (q first upto need : ℕ) : Type 0 where
+  pub before : length rows + need ≤ 28 * q
+  pub room : 28 * q ≤ length rows + length rest
+  pub small : q ≤ 1048576
+  pub walk : Walk f rows (drop (28 * q - length rows) rest) first upto
+
+pub record Finish (f w : List ℕ) (q : ℕ) (t : Tables) (i first need : ℕ) : Type 0 where
+  pub walk : InWork f w q first (i + 1)
+  pub low : 24 * i + 24 ≤ t.top
+  pub mid : t.top + need ≤ 4 * (2 * q)
+  pub room : 4 * (2 * q + 7 * t.made) + 28 ≤ length w
+  pub small : 2 * q + 7 * t.made ≤ 16777216
   pub needs : need ≡ 4 + le16 (begun f w first (i + 1)) 0
   pub there : need ≤ length (begun f w first (i + 1))
-  pub placed : Placed f w (2 * q) made top
+  pub placed : Placed f w (2 * q) t.made t.top
 
-pub record Finished (f w : List ℕ) (b made top i first need : ℕ) (u : List ℕ) (r : ℕ) : Type 0 where
-  pub list : pdus_from f u b 0 (made + 1) ≡ pdus_from f w b 0 made ++ (pdu_of (begun f w first (i + 1)) (packet_at f w i) ∷ [])
-  pub placed : Placed f u b (made + 1) r
-  pub pays : pays_of u b (made + 1) + 4 ≡ pays_of w b made + need
-  pub front : Front top u w
-  pub above : (j : ℕ) → b + 7 * made + 7 ≤ j → word u j ≡ word w j
-  pub least : top ≤ r
-  pub most : r ≤ top + need
+pub record Finished (f w : List ℕ) (q : ℕ) (t : Tables) (i first need : ℕ) (u : List ℕ) (r : ℕ) : Type 0 where
+  pub list : pdus_from f u (2 * q) 0 (t.made + 1) ≡ pdus_from f w (2 * q) 0 t.made ++ (pdu_of (begun f w first (i + 1)) (packet_at f w i) ∷ [])
+  pub placed : Placed f u (2 * q) (t.made + 1) r
+  pub pays : pays_of u (2 * q) (t.made + 1) + 4 ≡ pays_of w (2 * q) t.made + need
+  pub front : Front t.top u w
+  pub above : (j : ℕ) → 2 * q + 7 * t.made + 7 ≤ j → word u j ≡ word w j
+  pub least : t.top ≤ r
+  pub most : r ≤ t.top + need
   pub size : length u ≡ length w
 
 -- ---- a step

@@ -1,15 +1,18 @@
 // L2CAP: PDUs put together from fragments. Each gets a row in work; its payload stays in the file, or is joined in work.
 #![tactic(auto)]
 
-ghost use Rattle.std.specs.Prelude.{◌≡◌, ◌+◌, ◌*◌, ◌≤◌, length};
+ghost use Rattle.std.specs.Prelude.{◌≡◌, ◌+◌, ◌*◌, ◌/◌, ◌≤◌, length, take};
+ghost use Rattle.laws.specs.Stores.{Writes};
 ghost use Rattle.packets.specs.PacketTable.{packets_from, Tabled};
-ghost use Rattle.fragments.specs.Bytes.{begun, Walk};
+ghost use Rattle.fragments.specs.Bytes.{begun};
+ghost use Rattle.fragments.specs.Reading.{bytes_of};
 ghost use Rattle.l2cap.specs.Pdus.{pdus};
 ghost use Rattle.l2cap.specs.PduTable.{pdu_at, Reassembled};
 ghost use Rattle.l2cap.specs.PduFrames.{Lent};
-ghost use Rattle.l2cap.specs.Steps.{Need, row_at, RowPre, open_in, next_by, Arrive, put_open, put_pdu, PutPdu, Finish, Finished, Step, Stepped, Run, Ran};
+ghost use Rattle.l2cap.specs.Reading.{PduIs};
+ghost use Rattle.l2cap.specs.Steps.{Need, row_at, RowPre, open_in, next_by, Arrive, put_open, put_pdu, PutPdu, Join, Finish, Finished, Step, Stepped, Run, Ran};
 
-use fragments::{gather, half, len_of, link_packets, place_of};
+use fragments::{Begun, len_of, link_packets, place_of};
 use words::{get32, get64, part, put32, put64};
 
 // A PDU that is open under a key: the packet that began it, and its bytes so far.
@@ -27,15 +30,26 @@ pub struct Tables {
     pub top: usize,
 }
 
-// How many bytes make the PDU complete. With fewer than 4 its length is not there, and no packet is walked for it.
-fn needed(file: &[u8], w: &[u8], q: usize, first: usize, upto: usize, got: usize) -> usize
-    requires { Walk file.now w.now q first upto }
-    ensures { Need (begun file.now w.now first upto) got result }
+// A PDU's row: 2 * link + direction, its CID, and where its payload starts, in the file or in work where it is joined.
+#[derive(Clone, Copy)]
+struct Row {
+    key: u32,
+    cid: u32,
+    joined: bool,
+    start: usize,
+    len: usize,
+    time: u64,
+}
+
+// How many bytes make a PDU complete of which got are there. With fewer than 4 its length is not there, and no packet is walked for it.
+fn needed(b: Begun, got: usize) -> usize
+    requires { got ≡ length (bytes_of b) }
+    ensures { Need (bytes_of b.entry) got result }
 {
     if got < 4 {
         return 4;
     }
-    4 + half(file, w, q, first, upto, 0) as usize
+    4 + usize::from(b.half(0))
 }
 
 // Where the row of packet i's key stands.
@@ -89,72 +103,88 @@ fn arrive(w: &[u8], at: usize, i: usize) -> Option<Open>
 }
 
 // Writes a PDU's row at word at.
-fn put_pdu(
-    w: &mut [u8],
-    at: usize,
-    key: u32,
-    cid: u32,
-    joined: u32,
-    start: usize,
-    len: usize,
-    time: u64,
-)
-    requires { PutPdu w.old at start len }
-    ensures { w.new ≡ put_pdu w.old at key cid joined start len time }
+fn put_pdu(w: &mut [u8], at: usize, p: Row)
+    requires { PutPdu w.old at p }
+    ensures { w.new ≡ put_pdu w.old at p }
 {
-    put32(w, at, key);
-    put32(w, at + 1, cid);
-    put32(w, at + 2, joined);
-    put32(w, at + 3, start as u32);
-    put32(w, at + 4, len as u32);
-    put64(w, at + 5, time);
+    put32(w, at, p.key);
+    put32(w, at + 1, p.cid);
+    put32(w, at + 2, u32::from(p.joined));
+    put32(w, at + 3, p.start as u32);
+    put32(w, at + 4, p.len as u32);
+    put64(w, at + 5, p.time);
 }
 
-// Packet i completes the PDU that packet first began: its row, and its bytes at top if they have to be joined. Returns their end.
-fn finish(
-    file: &[u8],
-    w: &mut [u8],
-    q: usize,
-    made: usize,
-    top: usize,
-    i: usize,
-    first: usize,
-    need: usize,
-) -> usize
-    requires { Finish file.now w.old q made top i first need }
-    ensures { Finished file.now w.old (2 * q) made top i first need w.new result }
+// Joins need bytes of what packet first has begun, with the packets before upto, at the start of rest: what of work is behind the
+// packets' rows and the payloads joined so far. The packets' links end it.
+fn join(file: &[u8], rows: &[u8], rest: &mut [u8], first: usize, upto: usize, need: usize) -> usize
+    requires { Join file.now rows.now rest.old (length file.now / 4) first upto need }
+    ensures { Writes rest.old 0 (take need (begun file.now rows.now first upto)) result rest.new }
 {
+    let (area, links) = rest.split_at_mut(28 * (file.len() / 4) - rows.len());
+    let begun = Begun {
+        file,
+        rows,
+        links,
+        first,
+        upto,
+    };
+    begun.gather(area, need)
+}
+
+// Packet i completes the PDU that packet first began: its row, and its bytes at the end of the joined ones if they have to be
+// joined. Returns their end.
+fn finish(file: &[u8], w: &mut [u8], t: Tables, i: usize, first: usize, need: usize) -> usize
+    requires { Finish file.now w.old (length file.now / 4) t i first need }
+    ensures { Finished file.now w.old (length file.now / 4) t i first need w.new result }
+{
+    let at = 2 * (file.len() / 4) + 7 * t.made;
     let key = get32(w, 6 * i);
-    let cid = half(file, w, q, first, i + 1, 2);
+    let cid = u32::from(Begun::in_work(file, w, first, i + 1).half(2));
     let time = get64(w, 6 * i + 4);
     if first == i {
         let s = place_of(w, i);
-        put_pdu(w, 2 * q + 7 * made, key, cid, 0, s + 4, need - 4, time);
-        return top;
+        let p = Row {
+            key,
+            cid,
+            joined: false,
+            start: s + 4,
+            len: need - 4,
+            time,
+        };
+        put_pdu(w, at, p);
+        return t.top;
     }
-    let end = gather(file, w, q, first, i + 1, need, top);
-    put_pdu(w, 2 * q + 7 * made, key, cid, 1, top + 4, need - 4, time);
-    end
+    let (rows, rest) = w.split_at_mut(t.top);
+    let n = join(file, rows, rest, first, i + 1, need);
+    let p = Row {
+        key,
+        cid,
+        joined: true,
+        start: t.top + 4,
+        len: need - 4,
+        time,
+    };
+    put_pdu(w, at, p);
+    t.top + n
 }
 
-// One packet, with q a quarter of the file's length: PDUs stand from word 2 * q of work, open PDUs from word 3 * q.
-fn step(file: &[u8], w: &mut [u8], q: usize, t: Tables, i: usize) -> Tables
-    requires { Step file.now w.old q t i }
-    ensures { Stepped file.now w.old q t i w.new result }
+// One packet: with q a quarter of the file's length, PDUs stand from word 2 * q of work, open PDUs from word 3 * q.
+fn step(file: &[u8], w: &mut [u8], t: Tables, i: usize) -> Tables
+    requires { Step file.now w.old (length file.now / 4) t i }
+    ensures { Stepped file.now w.old (length file.now / 4) t i w.new result }
 {
-    let made = t.made;
-    let top = t.top;
-    let at = row_of(w, q, i);
+    let at = row_of(w, file.len() / 4, i);
     let Some(Open { first, got }) = arrive(w, at, i) else {
         return t;
     };
-    let need = needed(file, w, q, first, i + 1, got);
+    let need = needed(Begun::in_work(file, w, first, i + 1), got);
     if need <= got {
-        let end = finish(file, w, q, made, top, i, first, need);
+        let end = finish(file, w, t, i, first, need);
         set_open(w, at, 0, 0);
         return Tables {
             live: t.live,
-            made: made + 1,
+            made: t.made + 1,
             top: end,
         };
     }
@@ -163,13 +193,13 @@ fn step(file: &[u8], w: &mut [u8], q: usize, t: Tables, i: usize) -> Tables
 }
 
 // The steps of the packets from one number up to another.
-pub fn run(file: &[u8], w: &mut [u8], q: usize, t: Tables, from: usize, upto: usize) -> Tables
-    requires { Run file.now w.old q t from upto }
-    ensures { Ran file.now q w.old t from w.new result upto }
+pub fn run(file: &[u8], w: &mut [u8], t: Tables, from: usize, upto: usize) -> Tables
+    requires { Run file.now w.old (length file.now / 4) t from upto }
+    ensures { Ran file.now (length file.now / 4) w.old t from w.new result upto }
 {
     let mut s = t;
     for i in from..upto {
-        s = step(file, w, q, s, i);
+        s = step(file, w, s, i);
     }
     s
 }
@@ -186,11 +216,21 @@ pub fn reassemble(file: &[u8], w: &mut [u8], count: usize) -> Tables
         made: 0,
         top: 4 * q,
     };
-    run(file, w, q, t, 0, count)
+    run(file, w, t, 0, count)
+}
+
+// A PDU as its row has it: 2 * link + direction, its CID, and its payload, which starts at a place in the file, or in work where it is joined.
+#[derive(Clone, Copy)]
+pub struct Pdu<'a> {
+    pub side: u32,
+    pub cid: u32,
+    pub joined: bool,
+    pub start: u32,
+    pub payload: &'a [u8],
 }
 
 // The payload of the PDU whose row is at word at: a part of the file, or of work if it was joined.
-pub fn payload<'a>(file: &'a [u8], w: &'a [u8], at: usize) -> &'a [u8]
+fn payload<'a>(file: &'a [u8], w: &'a [u8], at: usize) -> &'a [u8]
     requires { Lent file.now w.now at }
     ensures { result.now ≡ (pdu_at file.now w.now at).payload }
 {
@@ -201,4 +241,18 @@ pub fn payload<'a>(file: &'a [u8], w: &'a [u8], at: usize) -> &'a [u8]
         return part(w, s, n);
     }
     part(file, s, n)
+}
+
+// The PDU whose row is at word at.
+pub fn read_pdu<'a>(file: &'a [u8], w: &'a [u8], at: usize) -> Pdu<'a>
+    requires { Lent file.now w.now at }
+    ensures { PduIs file.now w.now at result }
+{
+    Pdu {
+        side: get32(w, at),
+        cid: get32(w, at + 1),
+        joined: get32(w, at + 2) == 1,
+        start: get32(w, at + 3),
+        payload: payload(file, w, at),
+    }
 }

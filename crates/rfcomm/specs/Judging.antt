@@ -1,8 +1,9 @@
 -- What the PDU of a row is: the code's verdict against the kind that is defined.
-use Rattle.std.specs.Prelude.{ℕ, ◌+◌, ◌*◌, ◌<◌, ◌≤◌, ◌≡◌, Bool, cond, List, length, take, drop, eqb}
+use Rattle.std.specs.Prelude.{ℕ, ◌+◌, ◌-◌, ◌<◌, ◌≤◌, ◌≡◌, Bool, ◌||◌, cond, List, length, take, drop, eqb}
 use Rattle.words.specs.Words.{word}
 use Rattle.l2cap.specs.PduTable.{pdu_at}
 use Rattle.l2cap.specs.PduFrames.{Lent}
+use Rattle.l2cap.specs.declared.Pdu.{Pdu}
 use Rattle.channels.specs.Signals.{Signal}
 use Rattle.channels.specs.ChannelTable.{Tells}
 use Rattle.channels.specs.Passing.{Tries}
@@ -36,21 +37,43 @@ Borne w row (Carries i) = Carried w row i
 Borne w row (Wrong d) = Unit {0}
 Borne w row Passed = Unit {0}
 
-pub record PlacePre (w : List ℕ) (row : ℕ) (u : Uih) : Type 0 where
-  pub whole : 4 * row + 28 ≤ length w
-  pub start : u.start ≤ 5
+-- ---- the frame in a PDU's payload
 
-unfoldable pub placed_uih : List ℕ → ℕ → Uih → Verdict
-placed_uih w row u =
-    cond (eqb u.dlci 0) Passed
-    (cond (eqb u.len 0) Passed
-    (Carries (record { dlci = u.dlci; start = word w (row + 3) + u.start; len = u.len; joined = eqb (word w (row + 2)) 1 })))
+unfoldable pub placed_uih : Pdu → Uih → Verdict
+placed_uih p u =
+    cond (eqb u.dlci 0 || eqb u.len 0) Passed
+    (Carries (record { dlci = u.dlci; start = p.start + u.start; len = u.len; joined = p.joined }))
 
-pub record FrameVerdict (fcs : Bool) (f w : List ℕ) (row : ℕ) (r : Verdict) : Type 0 where
-  pub shows : frame_kind fcs (frame_of (pdu_at f w row).payload) ≡ kind_shown f w r
-  pub borne : Borne w row r
+-- the same as kind_shown, by the payload: it starts where the PDU says
+unfoldable pub kind_in : Pdu → Verdict → Kind
+kind_in p Asks = asks
+kind_in p (Opens d) = opens d
+kind_in p (Carries i) = carries i.dlci (take i.len (drop (i.start - p.start) p.payload.now))
+kind_in p (Wrong d) = wrong d
+kind_in p Passed = passed
 
--- ---- the PDU
+-- the information of a verdict lies in the payload
+pub record CarriedIn (p : Pdu) (i : Info) : Type 0 where
+  pub least : 0 < i.dlci
+  pub most : i.dlci < 64
+  pub few : i.len < 32768
+  pub from : p.start ≤ i.start
+  pub inside : i.start + i.len ≤ p.start + length p.payload.now
+  pub less : i.len + 4 ≤ length p.payload.now
+  pub joined : i.joined ≡ p.joined
+
+abbrev pub BorneIn : Pdu → Verdict → Type 0
+BorneIn p Asks = Unit {0}
+BorneIn p (Opens d) = d < 64
+BorneIn p (Carries i) = CarriedIn p i
+BorneIn p (Wrong d) = Unit {0}
+BorneIn p Passed = Unit {0}
+
+pub record FrameVerdict (fcs : Bool) (p : Pdu) (r : Verdict) : Type 0 where
+  pub shows : frame_kind fcs (frame_of p.payload.now) ≡ kind_in p r
+  pub borne : BorneIn p r
+
+-- ---- the PDU of a row
 
 pub record JudgePre (f w : List ℕ) (row q n : ℕ) : Type 0 where
   pub lent : Lent f w row

@@ -2,15 +2,14 @@
 #![tactic(auto)]
 
 ghost use Rattle.std.specs.Prelude.{◌≡◌, ◌+◌, ◌*◌, ◌≤◌, ◌<◌, length};
-ghost use Rattle.rfcomm.specs.Judging.{PlacePre, placed_uih, FrameVerdict, JudgePre, VerdictIs};
-ghost use Rattle.l2cap.specs.PduFrames.{Lent};
+ghost use Rattle.rfcomm.specs.Judging.{placed_uih, FrameVerdict, JudgePre, VerdictIs};
 ghost use Rattle.rfcomm.specs.PieceRows.{stretch_of, bytes_of, row_of, PutPre};
 ghost use Rattle.words.specs.Rows.{put_words};
 
 use channels::{asks, is_tried};
-use l2cap::payload;
+use l2cap::{Pdu, read_pdu};
 use uih::{Frame, Uih, read_frame};
-use words::{get32, put32, put64};
+use words::{put32, put64};
 
 // A piece: its row's numbers but the time.
 #[derive(Clone, Copy)]
@@ -90,37 +89,30 @@ pub enum Verdict {
     Passed,
 }
 
-// The information of a UIH frame in the payload of a row. DLCI 0 and empty information are passed over.
-fn place_uih(w: &[u8], row: usize, u: Uih) -> Verdict
-    requires { PlacePre w.now row u }
-    ensures { result ≡ placed_uih w.now row u }
+// The information of a UIH frame in the payload of a PDU. DLCI 0 and empty information are passed over.
+#[tactic(auto, unfolding(crate::specs::Judging::placed_uih))]
+fn place_uih(p: Pdu, u: Uih) -> Verdict
+    requires { u.start ≤ 5 }
+    ensures { result ≡ placed_uih p.entry u }
 {
-    let dlci = u.dlci;
-    let len = u.len;
-    if dlci == 0 {
+    if u.dlci == 0 || u.len == 0 {
         return Verdict::Passed;
     }
-    if len == 0 {
-        return Verdict::Passed;
-    }
-    let joined = get32(w, row + 2) == 1;
-    let place = get32(w, row + 3) as usize;
     Verdict::Carries(Info {
-        dlci,
-        start: place + u.start,
-        len,
-        joined,
+        dlci: u.dlci,
+        start: p.start as usize + u.start,
+        len: u.len,
+        joined: p.joined,
     })
 }
 
-// What the frame in the payload of a row is, with FCS checked or not.
-fn judge_frame<'a>(file: &'a [u8], w: &'a [u8], row: usize, fcs: bool) -> Verdict
-    requires { Lent file.now w.now row }
-    ensures { FrameVerdict fcs file.now w.now row result }
+// What the frame in the payload of a PDU is, with FCS checked or not.
+fn judge_frame(p: Pdu, fcs: bool) -> Verdict
+    ensures { FrameVerdict fcs p.entry result }
 {
-    match read_frame(payload(file, w, row), fcs) {
+    match read_frame(p.payload, fcs) {
         Frame::Sabm(d) => Verdict::Opens(d),
-        Frame::Uih(u) => place_uih(w, row, u),
+        Frame::Uih(u) => place_uih(p, u),
         Frame::WrongFcs(u) => Verdict::Wrong(u.dlci),
         Frame::Other => Verdict::Passed,
     }
@@ -138,11 +130,12 @@ pub fn judge<'a>(
     requires { JudgePre file.now w.now row q rows }
     ensures { VerdictIs fcs file.now w.now row (3 * q) rows result }
 {
-    if asks(file, w, row) {
+    let p = read_pdu(file, w, row);
+    if asks(p) {
         return Verdict::Asks;
     }
-    if is_tried(w, q, rows, get32(w, row), get32(w, row + 1)) {
-        return judge_frame(file, w, row, fcs);
+    if is_tried(w, q, rows, p.side, p.cid) {
+        return judge_frame(p, fcs);
     }
     Verdict::Passed
 }

@@ -1,4 +1,4 @@
-use Rattle.l2cap.proofs.Ranges.{ranging_start, ranging_step, ranging_turn, ranging_end}
+use Rattle.l2cap.proofs.Ranges.{ranging_start, ranging_step, ranging_turn}
 use Rattle.l2cap.proofs.run.Goals as goal
 
 pub loop-i-init : goal.loop-i-init
@@ -9,6 +9,3 @@ step-s-requires c = search ranging_step
 
 pub loop-i-preserved : goal.loop-i-preserved
 loop-i-preserved c = search ranging_turn
-
-pub returns : goal.returns
-returns c = search ranging_end
