@@ -7,3 +7,4 @@ pub mod Choice
 pub mod Keys
 pub mod Answers
 pub mod Totals
+pub mod Exits

@@ -1,9 +1,9 @@
-use Rattle.std.proofs.lemmas.Result.{err_from_is_err_and}
+use Rattle.laws.proofs.Exits.{handed_up}
 use Rattle.gaps.proofs.Finding.{find_packets, find_found, find_refused}
 use Rattle.gaps.proofs.find_gaps.Goals as goal
 
 pub returns-in_err-t : goal.returns-in_err-t
-returns-in_err-t c = let p = err_from_is_err_and c.from_residual.result c.from_residual.ensures.1 in rw (p.1, p.2) (search (find_refused, c.in_err-t.was))
+returns-in_err-t c = rw (handed_up _ c.from_residual.ensures.1) (search (find_refused, c.in_err-t.was))
 
 pub find_signs-requires : goal.find_signs-requires
 find_signs-requires c = search (find_packets, c.in_ok-t.was)

@@ -1,4 +1,4 @@
-use Rattle.std.proofs.lemmas.Result.{err_from_is_err_and}
+use Rattle.laws.proofs.Exits.{handed_up}
 use Rattle.order.proofs.Calls.{order_ill, order_short, order_wrote, way_pre}
 use lib.Seq.{length-take-le}
 use native.Mathlib.Omega.{arith}
@@ -6,8 +6,7 @@ use Rattle.order.proofs.capture_order.Goals as goal
 
 pub returns-in_err-way : goal.returns-in_err-way
 returns-in_err-way c =
-    let p = err_from_is_err_and c.from_residual.result c.from_residual.ensures.1 in
-    rw (p.1, p.2) (order_ill c.args.names _ _ c.read_names.ensures _ c.in_err-way.was)
+    rw (handed_up _ c.from_residual.ensures.1) (order_ill c.args.names _ _ c.read_names.ensures _ c.in_err-way.was)
 
 pub returns-then-out-need : goal.returns-then-out-need
 returns-then-out-need c = order_short c.args.names _ _ c.read_names.ensures _ c.in_ok-way.was c.if-out-need.true

@@ -1,11 +1,10 @@
-use Rattle.std.proofs.lemmas.Result.{err_from_is_err_and}
+use Rattle.laws.proofs.Exits.{handed_up}
 use Rattle.unpacking.proofs.Answers.{unpack_refused, unpack_short, unpack_wrote}
 use Rattle.unpacking.proofs.unpack.Goals as goal
 
 pub returns-in_err-h : goal.returns-in_err-h
 returns-in_err-h c =
-    let p = err_from_is_err_and c.from_residual.result c.from_residual.ensures.1 in
-    rw (p.1, p.2) (unpack_refused _ _ c.in_err-h.ensures _)
+    rw (handed_up _ c.from_residual.ensures.1) (unpack_refused _ _ c.in_err-h.ensures _)
 
 pub returns-then-out-h : goal.returns-then-out-h
 returns-then-out-h c = unpack_short _ _ c.in_ok-h.ensures _ c.if-out-h.true
