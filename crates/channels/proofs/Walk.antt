@@ -109,9 +109,6 @@ pub record Noting (f w₀ : List ℕ) (row b n₀ : ℕ) (w : List ℕ) (n at : 
       Telling ss (lookup w b n) (signals_in (pdu_at f w₀ row).link (pdu_at f w₀ row).rx (commands (drop at (pdu_at f w₀ row).payload)) ++ rest)
 
 module _ (f w₀ : List ℕ) (row b n₀ : ℕ) (p : NotePre f w₀ row b n₀) where
-  pub noting_start : Noting f w₀ row b n₀ w₀ n₀ 0
-  noting_start = record { within = omega arith; few = omega arith; front = front_refl (4 * b) w₀; size = refl; tells = λ ss rest t. t }
-
   pub not_signalling : (c : ℕ) → c ≡ word w₀ (row + 1) → (c ≡ 1 → ⊥) → PduNoted f w₀ row b n₀ w₀ n₀
   unfolding pdu_signals
   not_signalling c e h = record {

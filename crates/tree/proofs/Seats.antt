@@ -152,10 +152,6 @@ module _ (w : List ℕ) (t : Table) (row : Row) (u : List ℕ) (r : Seating) (s 
     pub seated_seek : SeekPre u (record { at = t.at; count = r.rows })
     seated_seek = record { stands = stands_less u t.at (t.count + 1) r.rows s.most (stands_same u w t.at (t.count + 1) s.size p.stands); indexed = s.indexed }
 
-    -- the row's words
-    pub seated_room : 4 * (t.at.rows + 4 * r.at) + 16 ≤ length u
-    seated_room = omega (arith, s.few, s.most, s.size, p.stands.rows, p.stands.room)
-
     seated_sum : sum_of u t.at.rows r.rows + second (lookup w t.at.rows t.count row.key) ≡ sum_of w t.at.rows t.count + second (lookup u t.at.rows r.rows row.key)
     unfolding upd second
     seated_sum = split_row (find_in w t.at.rows row.key t.count)
