@@ -1,9 +1,6 @@
 use Rattle.rfcomm.proofs.Judging.{verdict_sabm, verdict_other, verdict_uih, verdict_wrong, uih_start}
 use Rattle.rfcomm.proofs.judge_frame.Goals as goal
 
-pub place_uih-requires : goal.place_uih-requires
-place_uih-requires c = search uih_start
-
 pub returns-in-Sabm : goal.returns-in-Sabm
 returns-in-Sabm c = search verdict_sabm
 
