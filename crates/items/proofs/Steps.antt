@@ -7,14 +7,14 @@ use mathlib.Core.Bool.{Bool, true, false}
 use mathlib.Core.List.{List, ◌++◌}
 use native.Mathlib.Nat.{zero-add}
 use native.Mathlib.Omega.{arith}
-use lib.Dec.{leb, eqb}
+use lib.Dec.{leb}
 use lib.ListN.{length, take, drop}
-use borrow.Author.Tests.{leb-true, le-leb, lt-leb, eq-eqb, ne_eqb}
+use borrow.Author.Tests.{leb-true, le-leb, lt-leb}
 use Rattle.laws.proofs.Choice.{split_b}
 use Rattle.laws.specs.Numbers.{le, le16, le32}
 use Rattle.laws.specs.Stores.{Writes}
 use Rattle.laws.proofs.Stores.{writes_then}
-use Rattle.items.specs.Items.{item, item_head, span, span_item, span_test, Item, item_at, end_at, Test, is_item, Listed, well_formed, ill_formed, more, read_items}
+use Rattle.items.specs.Items.{item, item_head, span, span_item, Item, item_at, end_at, Test, is_item, Listed, well_formed, ill_formed, more, read_items}
 use Rattle.items.specs.Reading.{read_from}
 use Rattle.items.proofs.Reading.{read_good, read_bad, read_end}
 use Rattle.items.specs.Walks.{step_at, pass_at, check_of}

@@ -1,6 +1,6 @@
 -- Laws of specs/Walks.
 use Rattle.std.specs.Prelude.{Option, Some, None, Result, Ok, Err}
-use Prim.Native.Nat.{ℕ, zero, suc, ◌+◌, ◌-◌, ◌*◌, ◌<◌, ◌≤◌}
+use Prim.Native.Nat.{ℕ, zero, suc, ◌+◌, ◌-◌, ◌<◌, ◌≤◌}
 use mathlib.Core.Path.{◌≡◌, refl, sym, ap, ◌∙◌, subst}
 use mathlib.Core.Bool.{true, false, ◌||◌}
 use mathlib.Core.List.{List, [], ◌∷◌}
@@ -10,7 +10,7 @@ use lib.Dec.{leb, eqb}
 use lib.ListN.{length, take, drop, length-drop}
 use lib.Seq.{drop-drop, get_or-take, take-nil, length-take-le}
 use borrow.Author.Tests.{leb-true, le-leb, lt-leb, eqb-true}
-use Rattle.laws.proofs.Choice.{split_b, split≤, no_way}
+use Rattle.laws.proofs.Choice.{split_b, no_way}
 use Rattle.laws.specs.Numbers.{le16, le32, le64}
 use Rattle.items.specs.Items.{span, rx_of, Item, item_at, end_at, Test, is_item, Listed, well_formed, ill_formed, more, read_items, span_test, span_of, spans_in, name_test, names_in}
 use Rattle.items.specs.Reading.{read_from}

@@ -1,7 +1,7 @@
 -- What the checked lists give: spans and names, one after another.
-use Rattle.std.specs.Prelude.{Option, Some, None, Result, Ok, Err, ℕ, ◌+◌, ◌≡◌, MatchOption, List, [], ◌∷◌, length}
+use Rattle.std.specs.Prelude.{Option, Result, Ok, Err, ℕ, ◌+◌, ◌≡◌, MatchOption, List, [], ◌∷◌, length}
 use Rattle.std.specs.Borrow.{Bor}
-use Rattle.items.specs.Items.{Span, span, rx_of, Listed, well_formed, ill_formed, names_in}
+use Rattle.items.specs.Items.{Span, span, rx_of, well_formed, ill_formed, names_in}
 use Rattle.items.specs.Walks.{spans_from, names_from}
 use Rattle.items.specs.declared.SpanPart.{SpanPart}
 use Rattle.items.specs.declared.lists.Spans.{Spans}

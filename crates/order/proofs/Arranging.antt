@@ -4,7 +4,7 @@ use mathlib.Core.List.{List, [], ◌∷◌, ◌++◌, map, append_assoc, append-
 use Prim.Native.Nat.{ℕ, zero, suc, ◌+◌, ◌-◌, ◌*◌, ◌<◌, ◌≤◌}
 use native.Mathlib.Nat.{zero-add}
 use native.Mathlib.Omega.{arith}
-use lib.ListN.{length, take, drop, length-append, length-drop, length-map}
+use lib.ListN.{length, take, drop, length-append, length-drop}
 use lib.Seq.{sets, sets-eq, drop_at, drop-length, length-take-le}
 use Rattle.laws.proofs.Choice.{split_b, split≤}
 use Rattle.laws.proofs.Lists.{flat_append}
@@ -15,7 +15,7 @@ use Rattle.std.specs.Borrow.{Bor}
 use Rattle.words.specs.Words.{word, put_word}
 use Rattle.words.proofs.Words.{length_put}
 use Rattle.words.proofs.Front.{front_sets, front_word}
-use Rattle.items.specs.Items.{item, Item, end_at, name_item, name_list, name_test}
+use Rattle.items.specs.Items.{item, name_item, name_list, name_test}
 use Rattle.items.proofs.Writing.{length_item, length_name}
 use Rattle.items.specs.Walks.{names_from, Walks}
 use Rattle.items.proofs.Walks.{names_end, name_first, name_next}

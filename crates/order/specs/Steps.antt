@@ -1,5 +1,5 @@
 -- What the functions inside promise to each other.
-use Rattle.std.specs.Prelude.{Result, Ok, Err, ◌≡◌, Bool, true, false, List, ◌∷◌, map, ℕ, ◌*◌, ◌≤◌, length}
+use Rattle.std.specs.Prelude.{Result, Ok, Err, ◌≡◌, Bool, true, List, ◌∷◌, map, ℕ, ◌*◌, ◌≤◌, length}
 use Rattle.std.specs.Borrow.{Bor}
 use Rattle.items.specs.Items.{name_test, name_list, ill_formed, names_in}
 use Rattle.items.specs.Walks.{items_from, names_from, Walks, Good}

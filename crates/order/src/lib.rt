@@ -41,8 +41,7 @@ fn place_names(names: Names, out: &mut [u8]) -> usize
 
 // Writes the names at the places in the first n words as items, the last first. They fill the output, and an item is longer
 // than a word, so that no place is written over before it is read.
-// Stays: the list, the output, and how many places stand in it. A struct of the three would hold a `&mut` that `sort` needs as well, with these
-// three apart, so that `arrange` would take it to pieces again.
+// Stays: three parameters. `sort` takes the same ones apart, so that a struct of them would be made for this call alone.
 fn write_names(names: &[u8], out: &mut [u8], n: usize)
     requires { Fills names.now n out.old }
     ensures { out.new ≡ name_list (names_at names.now n out.old) }

@@ -1,6 +1,5 @@
 use Rattle.laws.proofs.Exits.{handed_up}
-use Rattle.order.proofs.Calls.{order_ill, order_short, order_wrote, way_pre}
-use lib.Seq.{length-take-le}
+use Rattle.order.proofs.Calls.{order_ill, order_short, order_wrote}
 use native.Mathlib.Omega.{arith}
 use Rattle.order.proofs.capture_order.Goals as goal
 

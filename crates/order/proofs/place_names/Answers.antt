@@ -1,5 +1,4 @@
-use native.Mathlib.Omega.{arith}
-use Rattle.order.proofs.Arranging.{placing_start, placing_next, placing_turn, placing_end}
+use Rattle.order.proofs.Arranging.{placing_start, placing_turn}
 use Rattle.order.proofs.place_names.Goals as goal
 
 pub loop-name-init : goal.loop-name-init

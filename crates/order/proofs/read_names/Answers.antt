@@ -1,6 +1,6 @@
 use Rattle.std.proofs.Common.{refl}
 use native.Mathlib.Omega.{arith}
-use Rattle.order.proofs.Calls.{run_walks, run_small, read_up, read_down, read_mixed, read_ill}
+use Rattle.order.proofs.Calls.{read_up, read_down}
 use Rattle.order.proofs.read_names.Goals as goal
 
 pub returns-then-runs : goal.returns-then-runs

@@ -1,4 +1,4 @@
-use Rattle.order.proofs.Running.{whole_not, whole_none, whole_pre, whole_runs, empty, filled}
+use Rattle.order.proofs.Running.{whole_none, whole_pre, whole_runs, empty, filled}
 use native.Mathlib.Omega.{arith}
 use Rattle.order.proofs.runs.Goals as goal
 

@@ -1,4 +1,4 @@
-use Rattle.order.proofs.Running.{running_start, running_turn, running_less, running_end, runs_not, same_bools}
+use Rattle.order.proofs.Running.{running_turn, running_less, running_end, same_bools}
 use native.Mathlib.Omega.{arith}
 use Rattle.order.proofs.runs_on.Goals as goal
 

@@ -1,6 +1,5 @@
-use native.Mathlib.Omega.{arith}
 use Rattle.std.proofs.Common.{refl}
-use Rattle.order.proofs.Turning.{backing_start, backing_room, backing_turn, backing_end}
+use Rattle.order.proofs.Turning.{backing_turn, backing_end}
 use Rattle.order.proofs.write_back.Goals as goal
 
 pub loop-name-preserved : goal.loop-name-preserved

@@ -1,4 +1,4 @@
-use Rattle.order.proofs.Arranging.{writing_start, writing_turn, writing_end, writing_room, writing_left}
+use Rattle.order.proofs.Arranging.{writing_turn, writing_end, writing_room, writing_left}
 use native.Mathlib.Omega.{arith}
 use Rattle.order.proofs.write_names.Goals as goal
 
