@@ -56,6 +56,7 @@ fn is_known(h: usize, t: Tally) -> bool
 }
 
 // Counts the spans that piece i brings behind the h bytes held, which are put before it if a 3C closes them.
+// Stays: file, w and p side by side. With w as a &mut in a struct (tried for note), a method promises too that the borrow and the plan are the same.
 fn count_joined(file: &[u8], w: &mut [u8], p: Plan, i: usize, h: usize, t: Tally) -> Scanned
     requires { JoinHeld file.now w.old p i h t }
     ensures { Behind file.now w.old p i h t w.new result }
