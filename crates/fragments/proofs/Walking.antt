@@ -11,7 +11,7 @@ use borrow.Author.Tests.{eq-eqb, ne_eqb}
 use Rattle.laws.proofs.Choice.{split≡, split≤}
 use Rattle.laws.specs.Numbers.{le16, le32}
 use Rattle.laws.specs.Stores.{Writes, Emitting}
-use Rattle.laws.proofs.Stores.{emit_start, emit_turn, emit_end}
+use Rattle.laws.proofs.Stores.{emit_turn, emit_end}
 use native.Mathlib.Numerals.{add-one}
 use Rattle.words.specs.Words.{word}
 use Rattle.words.specs.Front.{Front}
@@ -88,15 +88,6 @@ since_front n f u w k i upto h l a = ap (gathered k) (packets_front n f u w i (u
 -- ---- from a packet to the next of its key
 
 module _ (f w l : List ℕ) (first upto : ℕ) (p : Walk f w l first upto) (i : ℕ) (h : i < upto) where
-  pub row_room : 24 * i + 24 ≤ length w
-  row_room = omega (arith, p.table)
-
-  pub link_room : 4 * (2 * i) + 4 ≤ length l
-  link_room = omega (arith, p.room)
-
-  pub link_some : 0 < word l (2 * i)
-  link_some = omega (arith, p.next i h)
-
   pub fit : word w (6 * i + 2) + word w (6 * i + 3) ≤ length f
   fit = p.fits.fits i h
 
@@ -166,13 +157,7 @@ pub record Seeking (f w : List ℕ) (first upto at i j : ℕ) : Type 0 where
   pub same : get_or (since f w (word w (6 * first)) i upto) j 0 ≡ get_or (begun f w first upto) at 0
 
 module _ (f w l : List ℕ) (first upto : ℕ) (p : Walk f w l first upto) (at : ℕ) where
-  pub seek_start : at < length (begun f w first upto) → Seeking f w first upto at first at
-  seek_start h = record { before = p.before; mine = refl; there = h; same = refl }
-
   module _ (i j : ℕ) (s : Seeking f w first upto at i j) where
-    pub seek_row : 24 * i + 24 ≤ length w
-    seek_row = row_room f w l first upto p i s.before
-
     module _ (n : ℕ) (ne : n ≡ word w (6 * i + 3)) where
       module _ (r : ℕ) (e : word l (2 * i) ≡ r + 1) where
         pub seek_less : upto - r < upto - i
@@ -195,23 +180,11 @@ module _ (f w l : List ℕ) (first upto : ℕ) (p : Walk f w l first upto) (at :
             }
 
       module _ (h : j < n) (m : ℕ) (me : m ≡ word w (6 * i + 2)) where
-        pub seek_inside : m + j < length f
-        seek_inside = omega (arith, fit f w l first upto p i s.before)
-
-        pub seek_fits : m + j < 18446744073709551616
-        seek_fits = omega (arith, seek_inside, p.small)
-
         pub seek_here : get_or f (m + j) 0 ≡ get_or (begun f w first upto) at 0
         seek_here = rw me (sym (byte_here f w (word w (6 * first)) i upto j s.before s.mine (fit f w l first upto p i s.before) (omega arith)) ∙ s.same)
 
   -- both bytes of a number lie in the first packet
   module _ (n : ℕ) (ne : n ≡ word w (6 * first + 3)) (le : at + 2 ≤ n) (s : ℕ) (se : s ≡ word w (6 * first + 2)) where
-    pub half_inside : s + at + 2 ≤ length f
-    half_inside = omega (arith, fit f w l first upto p first p.before)
-
-    pub half_fits : s + at < 18446744073709551616
-    half_fits = omega (arith, half_inside, p.small)
-
     pub half_here : (r : ℕ) → r ≡ le16 f (s + at) → r ≡ le16 (begun f w first upto) at
     unfolding le16
     half_here r e =
@@ -232,13 +205,7 @@ take_min a b l =
 module _
     (f w : List ℕ) (i left : ℕ) (out : List ℕ) (at : ℕ)
     (b n s : ℕ) (be : b ≡ word w (6 * i + 3)) (ne : n ≡ min b left) (se : s ≡ word w (6 * i + 2)) where
-  pub paste_part : word w (6 * i + 2) + word w (6 * i + 3) ≤ length f → s + n ≤ length f
-  paste_part h = omega arith
-
   module _ (p : List ℕ) (e : p ≡ take n (drop s f)) where
-    pub paste_room : at + left ≤ length out → at + length p ≤ length out
-    paste_room h = rw e (simp length-take (omega arith))
-
     pub paste_is : (r : ℕ) (u : List ℕ) → Writes out at p r u → Writes out at (take left (packet_at f w i).bytes) r u
     paste_is r u v =
         let q : p ≡ take left (packet_at f w i).bytes =
@@ -258,15 +225,7 @@ pub record Gathering (f w : List ℕ) (first upto need : ℕ) (out₀ out : List
   pub emits : Emitting out₀ 0 (take need (begun f w first upto)) out at (take (need - at) (since f w (word w (6 * first)) i upto))
 
 module _ (f w l : List ℕ) (first upto : ℕ) (p : Walk f w l first upto) (need : ℕ) (out₀ : List ℕ) where
-  pub gather_start : Gathering f w first upto need out₀ out₀ first 0
-  gather_start =
-      let z : need - 0 ≡ need = omega arith in
-      record { mine = λ h. refl; ends = omega arith; emits = rw z (emit_start out₀ 0 (take need (begun f w first upto))) }
-
   module _ (out : List ℕ) (i at : ℕ) (g : Gathering f w first upto need out₀ out i at) where
-    pub gather_room : need ≤ length out₀ → at + (need - at) ≤ length out
-    gather_room h = omega (arith, g.ends, g.emits.long)
-
     module _ (h : i < upto) (r : ℕ) (e : word l (2 * i) ≡ r + 1) where
       pub gather_less : upto - r < upto - i
       gather_less = omega (arith, link_more f w l first upto p i h r e)

@@ -24,7 +24,7 @@ use Rattle.l2cap.specs.Pdus.{Pdu, pdu_of}
 use Rattle.l2cap.specs.PduTable.{pdu_at, pdus_from, pays_of, Inside}
 use Rattle.l2cap.specs.PduFrames.{Placed}
 use Rattle.l2cap.proofs.PduFrames.{pdus_snoc, pays_next, placed_agree, pdus_agree, pays_agree}
-use Rattle.l2cap.specs.Steps.{put_pdu, PutPdu, Join, Finish, Finished}
+use Rattle.l2cap.specs.Steps.{put_pdu, Join, Finish, Finished}
 use Rattle.l2cap.specs.declared.Row.{Row}
 use Rattle.l2cap.specs.declared.Tables.{Tables}
 use Rattle.l2cap.proofs.Rows.{row_outside, row_length, row_front, row_len, row_new, row_inside}
@@ -103,12 +103,6 @@ module _ (f u rest : List ℕ) (q first upto need : ℕ) (pre : Join f u rest q 
   join_back = omega (arith, pre.room, join_high)
 
   module _ (a : List ℕ) (ea : a ≡ take (28 * q - length u) rest) (l : List ℕ) (el : l ≡ drop (28 * q - length u) rest) where
-    pub join_walk : Walk f u l first upto
-    join_walk = rw el pre.walk
-
-    pub join_room : need ≤ length a
-    join_room = rw ea (rw (length-take-le (28 * q - length u) rest join_back) (omega (arith, pre.before)))
-
     pub join_is : (n : ℕ) (v : List ℕ) → Writes a 0 (take need (begun f u first upto)) n v → Writes rest 0 (take need (begun f u first upto)) n (v ++ l)
     join_is n v p = record {
       next = p.next;
@@ -119,9 +113,6 @@ module _ (f u rest : List ℕ) (q first upto need : ℕ) (pre : Join f u rest q 
 -- ---- the PDU
 
 module _ (f w : List ℕ) (q : ℕ) (t : Tables) (i first need : ℕ) (pre : Finish f w q t i first need) where
-  pub finish_half : 4 ≤ length (begun f w first (i + 1))
-  finish_half = omega (arith, pre.needs, pre.there)
-
   pub finish_front : t.top ≤ length w
   finish_front = omega (arith, pre.mid, pre.room)
 
@@ -163,9 +154,6 @@ module _ (f w : List ℕ) (q : ℕ) (t : Tables) (i first need : ℕ) (pre : Fin
       wrote : Writes rest 0 (take need (begun f w first (i + 1))) n v
       wrote = rw bytes at p
 
-      pub joined_fits : t.top + n < 18446744073709551616
-      joined_fits = omega (arith, wrote.next, all_there, pre.mid, pre.walk.quarter, pre.walk.tabled.small)
-
       pub joined_is : Writes w t.top (take need (begun f w first (i + 1))) (t.top + n) (u ++ v)
       joined_is = record {
         next = omega (arith, wrote.next);
@@ -182,18 +170,6 @@ module _ (f w : List ℕ) (q : ℕ) (t : Tables) (i first need : ℕ) (pre : Fin
   single_length e =
       rw (since_single e)
       (length-take-le (word w (6 * i + 3)) (drop (word w (6 * i + 2)) f) (simp length-drop (omega (arith, pre.walk.tabled.fits.fits i (omega arith)))))
-
-  pub single_put :
-      (key c s time : ℕ) → first ≡ i → s ≡ word w (6 * i + 2) →
-      PutPdu w (2 * q + 7 * t.made) (record { key = key; cid = c; joined = false; start = s + 4; len = need - 4; time = time })
-  single_put key c s time e se = record {
-    room = pre.room;
-    start = omega (arith, single_length e, pre.there, pre.needs, pre.walk.tabled.fits.fits i (omega arith), pre.walk.tabled.small);
-    len = omega (arith, pre.mid, pre.small);
-  }
-
-  pub single_fits : (s : ℕ) → s ≡ word w (6 * i + 2) → s + 4 < 18446744073709551616
-  single_fits s e = omega (arith, pre.walk.tabled.fits.fits i (omega arith), pre.walk.tabled.small)
 
   module _ (key c time : ℕ) (ke : key ≡ word w (6 * i)) (ce : c ≡ le16 (begun f w first (i + 1)) 2) (cs : c < 65536) (te : time ≡ long w (6 * i + 4)) where
     pub finish_file :

@@ -88,12 +88,6 @@ reassembled_lent f w made ps r j h = record {
 }
 
 module _ (f w : List ℕ) (at : ℕ) (p : Lent f w at) where
-  pub lent_work : word w (at + 2) ≡ 1 → word w (at + 3) + word w (at + 4) ≤ length w
-  lent_work e = rw (eq-eqb (word w (at + 2)) 1 e) at p.inside.inside
-
-  pub lent_file : (word w (at + 2) ≡ 1 → ⊥) → word w (at + 3) + word w (at + 4) ≤ length f
-  lent_file e = rw (ne_eqb (word w (at + 2)) 1 e) at p.inside.inside
-
   pub payload_length : length (pdu_at f w at).payload ≡ word w (at + 4)
   unfolding pdu_at
   payload_length = go (eqb (word w (at + 2)) 1) p.inside.inside where

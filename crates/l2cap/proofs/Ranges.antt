@@ -80,9 +80,3 @@ module _
 
   pub ranging_turn : i < upto → (u : List ℕ) (r : Tables) → Stepped f w q t i u r → Ranging f w₀ q t₀ from upto u r (i + 1)
   ranging_turn h u r st = record { run = range_turn f w q t i upto v.run h u r st; ran = steps v.ran st }
-
-  pub ranging_size : length w ≡ length w₀
-  ranging_size = ran_size f q w₀ t₀ from v.ran
-
-  pub ranging_end : upto ≤ i → Ran f q w₀ t₀ from w t upto
-  ranging_end h = let e : i ≡ upto = omega (arith, v.run.within) in (rw e at v.ran)

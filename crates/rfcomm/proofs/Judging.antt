@@ -100,9 +100,6 @@ module _ (fcs : Bool) (p : Pdu) (x : Frame) (is : FrameIs fcs p.payload.now x) w
     unfolding frame_shown frame_kind
     verdict_uih e = verdict_placed fcs p u (frame_as (Found u) e).lies (kind_as (Found u) e)
 
-    pub uih_start : x ≡ Found u → u.start ≤ 5
-    uih_start e = (rw e at is).lies.start
-
     pub verdict_wrong : x ≡ WrongFcs u → FrameVerdict fcs p (Wrong u.dlci)
     unfolding frame_shown kind_in frame_kind uih_at
     verdict_wrong e =

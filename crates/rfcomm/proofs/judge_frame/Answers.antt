@@ -1,4 +1,4 @@
-use Rattle.rfcomm.proofs.Judging.{verdict_sabm, verdict_other, verdict_uih, verdict_wrong, uih_start}
+use Rattle.rfcomm.proofs.Judging.{verdict_sabm, verdict_other, verdict_uih, verdict_wrong}
 use Rattle.rfcomm.proofs.judge_frame.Goals as goal
 
 pub returns-in-Sabm : goal.returns-in-Sabm
