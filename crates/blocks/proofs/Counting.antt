@@ -1,5 +1,5 @@
 -- Sums and counts: a turn over a byte, a turn over a part, and the end.
-use Rattle.std.proofs.Common.{◌≡◌, ℕ, ◌+◌, ◌-◌, ◌&&◌, ◌%◌, ◌<◌, ◌≤◌, Bool, true, false, cond, List, [], ◌∷◌, ◌++◌, length, get_or, take, drop, sym, refl, ap, ◌∙◌, arith, length-drop, length-append, take-append-drop, drop-drop}
+use Rattle.std.proofs.Common.{◌≡◌, ℕ, ◌+◌, ◌&&◌, ◌%◌, ◌<◌, ◌≤◌, Bool, true, false, cond, List, [], ◌∷◌, ◌++◌, length, get_or, drop, refl, ap, ◌∙◌, arith, length-drop, length-append}
 use Rattle.laws.proofs.Lists.{drop_step, drop_end}
 use Rattle.mdr.specs.Sum.{total, checksum_of}
 use Rattle.mdr.specs.Escape.{within}
@@ -14,12 +14,6 @@ use Rattle.blocks.specs.declared.Totals.{Totals}
 pub total_append : (xs ys : List ℕ) → total (xs ++ ys) ≡ total xs + total ys
 total_append [] ys = omega arith
 total_append (x ∷ xs) ys = let ih = total_append xs ys in omega arith
-
--- a list from i on: the part up to j, and the list from j on
-pub drop_part : (l : List ℕ) (i j : ℕ) → i ≤ j → drop i l ≡ take (j - i) (drop i l) ++ drop j l
-drop_part l i j h =
-    let k : i + (j - i) ≡ j = omega arith in
-    sym (rw (drop-drop (j - i) i l, k) at (take-append-drop (j - i) (drop i l)))
 
 pub bit : (t : Bool) → (from_bool t ≡ cond t 1 0) × (from_bool t ≤ 1)
 bit true = (refl, omega arith)
@@ -79,15 +73,6 @@ module _ (l : List ℕ) (lo hi sum hits i : ℕ) (s : Tallying l lo hi sum hits 
 
   pub tally_all : length l ≤ i → (t : Totals) → t.sum ≡ sum → t.hits ≡ hits → Tallied l lo hi t
   tally_all n t p q = tally_end l lo hi sum hits (drop i l) s (omega (arith, length-drop i l)) t p q
-
-  pub tally_block : (k : ℕ) → (t : Totals) → Tallied (take (i + k - i) (drop i l)) lo hi t → (sum' : ℕ) → sum' ≡ (sum + t.sum) % 256 → Tallying l lo hi sum' (hits + t.hits) (drop (i + k) l)
-  tally_block k t v sum' p = tally_part l lo hi sum hits (drop i l) s (take (i + k - i) (drop i l)) (drop (i + k) l) (drop_part l i (i + k) (omega arith)) t v sum' p
-
-  pub tally_last : i ≤ length l → (t : Totals) → Tallied (take (length l - i) (drop i l)) lo hi t → (r : Totals) → r.sum ≡ (sum + t.sum) % 256 → r.hits ≡ hits + t.hits → Tallied l lo hi r
-  tally_last n t v r p q =
-      tally_end l lo hi r.sum (hits + t.hits) (drop (length l) l)
-      (tally_part l lo hi sum hits (drop i l) s (take (length l - i) (drop i l)) (drop (length l) l) (drop_part l i (length l) n) t v r.sum p)
-      (omega (arith, length-drop (length l) l)) r refl q
 
 -- the bytes so far are as asked: in the two values, or outside of them
 pub record Asking (inside : Bool) (l : List ℕ) (lo hi : ℕ) (all : Bool) (i : ℕ) : Type 0 where

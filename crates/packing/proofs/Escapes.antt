@@ -1,5 +1,5 @@
 -- Storing escaped bytes, and a frame's parts one after another.
-use Rattle.std.proofs.Common.{◌≡◌, ℕ, ◌+◌, ◌-◌, ◌*◌, ◌/◌, ◌%◌, ◌<◌, ◌≤◌, Bool, true, false, cond, eqb, List, [], ◌∷◌, ◌++◌, length, get_or, take, drop, set, sym, refl, ap, ◌∙◌, append_assoc, append-nil, add-one, arith, length-append, length-drop, take-append-drop, length-take-le, take-add, eqb-true, le-leb}
+use Rattle.std.proofs.Common.{◌≡◌, ℕ, ◌+◌, ◌-◌, ◌*◌, ◌/◌, ◌%◌, ◌<◌, ◌≤◌, Bool, true, false, cond, eqb, List, [], ◌∷◌, ◌++◌, length, get_or, take, drop, set, sym, refl, ap, ◌∙◌, append_assoc, add-one, arith, length-append, length-drop, take-append-drop, length-take-le, take-add, eqb-true, le-leb}
 use borrow.Author.Tests.{lt-leb}
 use Rattle.std.proofs.lemmas.List.{take_rest}
 use Rattle.laws.proofs.Choice.{split_b}
@@ -102,9 +102,6 @@ module _ (out₀ : List ℕ) (at₀ : ℕ) (part out : List ℕ) (at : ℕ) (res
 
   pub mixed_turn : (r : Ran) (out' : List ℕ) → MixedIs rest out at r out' → Escaping out₀ at₀ part out' r.at (take (length rest - r.used) (drop r.used rest))
   mixed_turn r out' v = part_turn r.used r.at out' v.ran.writes
-
-  pub rest_end : (r : ℕ) (out' : List ℕ) → Writes out at (escape rest) r out' → Writes out₀ at₀ (escape part) r out'
-  rest_end r out' v = emit_end out₀ at₀ (escape part) out' r [] (emit_turn out₀ at₀ (escape part) out at (escape rest) s.emits (escape rest) [] r out' (sym (append-nil (escape rest))) v) refl
 
 -- ---- a run of blocks
 

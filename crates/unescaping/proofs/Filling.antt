@@ -1,23 +1,18 @@
 -- Storing unescaped bytes.
-use Rattle.std.proofs.Common.{◌≡◌, ℕ, ◌+◌, ◌-◌, ◌*◌, ◌/◌, ◌%◌, ◌<◌, ◌≤◌, Bool, true, false, List, ◌++◌, length, take, drop, set, sym, refl, ap, ◌∙◌, zero-add, arith, length-drop, length-take-le, drop-drop, take_at, take-add, take-append-drop, drop_at}
+use Rattle.std.proofs.Common.{◌≡◌, ℕ, ◌+◌, ◌-◌, ◌*◌, ◌/◌, ◌%◌, ◌<◌, ◌≤◌, Bool, true, List, ◌++◌, length, take, drop, set, sym, refl, ap, ◌∙◌, zero-add, arith, length-drop, length-take-le, drop-drop, take_at, take-add, take-append-drop, drop_at}
 use Rattle.std.proofs.lemmas.List.{take_rest}
 use lib.Seq.{sets, length-sets}
-use Rattle.laws.proofs.Choice.{no_way}
 use Rattle.laws.specs.Stores.{Writes}
 use Rattle.laws.proofs.Stores.{sets_append}
 use Rattle.laws.specs.Answers.{Outcome, gives, refuses}
 use Rattle.mdr.specs.Escape.{unescape}
-use Rattle.unescaping.specs.Flaws.{sentries}
 use Rattle.unescaping.specs.Places.{bytes_of, ahead, GotIs, Filled}
 use Rattle.blocks.specs.Blocks.{Bare}
-use Rattle.unescaping.specs.Pairs.{Paired, PairedIf, DenseIf, halves}
+use Rattle.unescaping.specs.Pairs.{Paired, DenseIf, halves}
 use Rattle.unescaping.specs.declared.Got.{Got}
 use Rattle.unescaping.proofs.Unescaping.{unescape_bare, pushes, pushes_gives, pushes_refuses}
 use Rattle.unescaping.proofs.Pairs.{unescape_pairs, halves_length}
 use Rattle.unescaping.proofs.Places.{ahead_most}
-
-filled_none : (s d : List ℕ) (at : ℕ) → Filled s d at 0 0 d
-filled_none s d at = record { within = omega arith; rest = refl; writes = refl }
 
 filled_then : (s d : List ℕ) (at k r : ℕ) (e : List ℕ) (l q : ℕ) (g : List ℕ) → k ≤ length (ahead s) → Filled s d at k r e → Filled (drop r s) e (at + k) l q g → Filled s d at (k + l) (r + q) g
 filled_then s d at k r e l q g h a b =
@@ -35,9 +30,6 @@ pub record Filling (s d : List ℕ) (at count r : ℕ) (e : List ℕ) (k : ℕ) 
   pub long : length e ≡ length d
   pub left : length (ahead (drop r s)) ≡ length (ahead s) - k
   pub done : Filled s d at k r e
-
-pub fill_start : (s d : List ℕ) (at count : ℕ) → count ≤ length (ahead s) → Filling s d at count 0 d 0
-fill_start s d at count h = record { few = omega arith; room = h; long = refl; left = omega arith; done = filled_none s d at }
 
 module _ (s d : List ℕ) (at count r : ℕ) (e : List ℕ) (k : ℕ) (f : Filling s d at count r e k) where
   pub fill_room : k < count → 1 ≤ length (ahead (drop r s))
@@ -62,9 +54,6 @@ module _ (s d : List ℕ) (at count r : ℕ) (e : List ℕ) (k : ℕ) (f : Filli
         rest = rw (y, v.step) refl;
         writes = rw v.step refl;
       }))
-
-  pub fill_end : count ≤ k → Filled s d at count r e
-  fill_end h = let q : k ≡ count = omega (arith, f.few) in rw q at f.done
 
 -- the same from the front of the output: so many blocks of sixteen, and the rest
 module _ (s d : List ℕ) (count r : ℕ) (e : List ℕ) (b : ℕ) (f : Filling s d 0 count r e (16 * b)) where
@@ -128,9 +117,3 @@ module _ (s : List ℕ) (t : Bool) (v : DenseIf s t) (z : t ≡ true) where
   block_dense d at r e h w =
       let u = ahead_pushes s (halves (take 32 s)) (drop 32 s) (omega arith) (cut s 32 ∙ unescape_pairs (take 32 s) (drop 32 s) dense_long dense_paired) in
       block_is s 32 (halves (take 32 s)) dense_inside u (halves_length (take 32 s) 16 dense_long) d at r e w
-
-pub sparse : (s : List ℕ) → DenseIf s false
-sparse s = record { within = λ z. no_way z refl; is = λ z. no_way z refl }
-
-pub dense_if : (s : List ℕ) (t : Bool) → 32 ≤ length s → PairedIf (take 32 s) t → DenseIf s t
-dense_if s t h v = record { within = λ z. h; is = v.is }

@@ -1,5 +1,5 @@
 -- Where escaping is first broken: pair by pair, part by part, and what unescaping says of it.
-use Rattle.std.proofs.Common.{◌≡◌, ℕ, zero, suc, ◌+◌, ◌-◌, ◌%◌, ◌<◌, ◌≤◌, Bool, true, false, cond, not, eqb, List, [], ◌∷◌, ◌++◌, length, get_or, take, drop, sym, refl, ap, ◌∙◌, subst, arith, length-drop, length-take-le, take-take, take-append-drop, append-nil, eq-eqb, ne_eqb, eqb-true}
+use Rattle.std.proofs.Common.{◌≡◌, ℕ, zero, suc, ◌+◌, ◌-◌, ◌%◌, ◌<◌, ◌≤◌, Bool, true, false, cond, not, eqb, List, [], ◌∷◌, length, get_or, take, drop, sym, refl, ap, ◌∙◌, subst, arith, length-drop, length-take-le, take-take, take-append-drop, append-nil, eq-eqb, ne_eqb, eqb-true}
 use lib.Seq.{take-nil, take-length}
 use Rattle.std.proofs.lemmas.List.{take_rest}
 use borrow.Author.Tests.{eqb-false}
@@ -18,7 +18,7 @@ use Rattle.std.specs.Int.{from_bool}
 use Rattle.mdr.specs.declared.UnpackError.{UnpackError}
 use Rattle.mdr.specs.declared.UnpackError.TheVariants.{TrailingSentry, BadEscapee}
 use Rattle.mdr.specs.Told.{told_error}
-use Rattle.blocks.proofs.Counting.{bit, Tallying, tally_start, tally_part, tally_end}
+use Rattle.blocks.proofs.Counting.{bit, Tallying, tally_part, tally_end}
 use Rattle.unescaping.proofs.Unescaping.{sentry}
 
 -- ---- what unescaping says
@@ -239,9 +239,6 @@ pub record Scanning (s : List ℕ) (sum hits : ℕ) (rest : List ℕ) : Type 0 w
   pub tallies : Tallying s 0x3D 0x3D sum hits rest
   pub clean : flaw_of rest ≡ flaw_of s
 
-pub scan_start : (s : List ℕ) → 7 ≤ length s → Scanning s 0 0 s
-scan_start s h = record { left = omega arith; tallies = tally_start s 0x3D 0x3D; clean = refl }
-
 -- a part of k bytes, looked at with the byte after it
 front_part : (rest : List ℕ) (k : ℕ) → k < length rest → k < 256 → (t : Totals) → Tallied (take k rest) 0x3D 0x3D t → FrontPart (take (suc k) rest) t.hits
 front_part rest k h l t w =
@@ -261,9 +258,6 @@ module _ (s : List ℕ) (sum hits : ℕ) (rest : List ℕ) (v : Scanning s sum h
 
   pub scan_front : 192 < length rest → (t : Totals) → Tallied (take 192 rest) 0x3D 0x3D t → FrontPart (take 193 rest) t.hits
   scan_front h t w = front_part rest 192 h (omega arith) t w
-
-  pub scan_last : length rest ≤ 192 → (t : Totals) → Tallied rest 0x3D 0x3D t → LastPart rest t.hits
-  scan_last h t w = record { some = v.left; few = h; found = w.hits }
 
   pub scan_kept : 192 < length rest → (t : Totals) → Tallied (take 192 rest) 0x3D 0x3D t → (y : Bool) → KeptIf (take 193 rest) y → y ≡ true
       → (sum' : ℕ) → sum' ≡ (sum + t.sum) % 256 → Scanning s sum' (hits + t.hits) (take (length rest - 192) (drop 192 rest))
@@ -287,10 +281,6 @@ module _ (s : List ℕ) (sum hits : ℕ) (rest : List ℕ) (v : Scanning s sum h
       let x = tally_part s 0x3D 0x3D sum hits rest v.tallies rest [] (sym (append-nil rest)) t w r.sum p in
       let u = tally_end s 0x3D 0x3D r.sum (hits + t.hits) [] x refl (record { sum = r.sum; hits = r.hits }) refl q in
       record { long = h; summed = u.sum; found = u.hits }
-
-  pub scan_open : (t : Totals) → Tallied rest 0x3D 0x3D t → 7 ≤ length s → (r : Scanned) → r.sum ≡ (sum + t.sum) % 256 → r.hits ≡ hits + t.hits
-      → r.rest.now ≡ rest → ScannedIs s r
-  scan_open t w h r p q e = record { clean = rw e v.clean; counts = λ f. last_part t w h r p q }
 
   pub scan_sound : (t : Totals) → Tallied rest 0x3D 0x3D t → 7 ≤ length s → (y : Bool) → SoundIf rest y → y ≡ true
       → (r : Scanned) → r.sum ≡ (sum + t.sum) % 256 → r.hits ≡ hits + t.hits → r.rest.now ≡ take (length rest - length rest) (drop (length rest) rest) → ScannedIs s r

@@ -1,5 +1,5 @@
 -- Escaped bytes by pairs: a 3D and what follows it as one number, sixteen at once.
-use Rattle.std.proofs.Common.{◌≡◌, ℕ, zero, suc, ◌+◌, ◌*◌, ◌/◌, ◌<◌, ◌≤◌, Bool, true, eqb, ◌||◌, ◌&&◌, List, [], ◌∷◌, ◌++◌, length, get_or, drop, set, sym, refl, ap, ◌∙◌, append-nil, arith, eq-eqb, ne_eqb}
+use Rattle.std.proofs.Common.{◌≡◌, ℕ, zero, suc, ◌+◌, ◌*◌, ◌/◌, ◌<◌, ◌≤◌, Bool, true, eqb, ◌||◌, List, [], ◌∷◌, ◌++◌, length, get_or, drop, set, refl, ap, ◌∙◌, append-nil, arith, eq-eqb, ne_eqb}
 use lib.Seq.{sets-eq}
 use Rattle.laws.proofs.Choice.{split≡, no_way}
 use Rattle.laws.proofs.Lists.{drop_step, drop_end}
@@ -7,14 +7,10 @@ use Rattle.laws.specs.Stores.{Writes, Emitting}
 use Rattle.laws.proofs.Stores.{emit_start, emit_turn, emit_end}
 use Rattle.mdr.specs.Escape.{within, escapee, unescape}
 use Rattle.mdr.proofs.Escaping.{within_range}
-use Rattle.blocks.proofs.Counting.{both}
-use Rattle.unescaping.specs.Pairs.{PairIs, Pair, PairIf, Paired, PairedIf, halves}
+use Rattle.unescaping.specs.Pairs.{PairIs, Pair, PairIf, Paired, halves}
 use Rattle.unescaping.proofs.Unescaping.{pushes}
 
 -- ---- one pair
-
-pub pair_is : (l : List ℕ) (i a b w : ℕ) → a ≡ get_or l (2 * i) 0 → b ≡ get_or l (2 * i + 1) 0 → w ≡ a + 256 * b → a < 256 → PairIs l i w
-pair_is l i a b w p q v h = record { low = omega arith; high = omega arith }
 
 pair_of : (w e : ℕ) → w ≡ 0x3D + 256 * e → escapee e ≡ true → Pair w
 pair_of w e p q = let k : w / 256 ≡ e = omega arith in record { low = omega arith; high = rw k q }
@@ -47,27 +43,6 @@ module _ (w : ℕ) (p : Pair w) where
 pub record Pairing (l : List ℕ) (all : Bool) (i : ℕ) : Type 0 where
   pub first : all ≡ true → (k : ℕ) → k < i → get_or l (2 * k) 0 ≡ 0x3D
   pub second : all ≡ true → (k : ℕ) → k < i → escapee (get_or l (2 * k + 1) 0) ≡ true
-
-pub pairing_start : (l : List ℕ) → Pairing l true 0
-pairing_start l = record { first = λ e k h. absurd (omega arith); second = λ e k h. absurd (omega arith) }
-
-module _ (l : List ℕ) (all : Bool) (i : ℕ) (s : Pairing l all i) where
-  pub pairing_turn : (w : ℕ) → PairIs l i w → (t : Bool) → PairIf w t → Pairing l (all && t) (i + 1)
-  pairing_turn w p t v = record {
-    first = λ e k m.
-        let b = both all t e in
-        split≡ k i
-        (λ q. rw q (sym p.low ∙ (v.is b.1).low))
-        (λ n. s.first b.0 k (omega arith));
-    second = λ e k m.
-        let b = both all t e in
-        split≡ k i
-        (λ q. rw (q, sym p.high) (v.is b.1).high)
-        (λ n. s.second b.0 k (omega arith));
-  }
-
-  pub pairing_end : 16 ≤ i → PairedIf l all
-  pairing_end h = record { is = λ z. record { first = λ j m. s.first z j (omega arith); second = λ j m. s.second z j (omega arith) } }
 
 pub pair_here : (l : List ℕ) (i w : ℕ) → PairIs l i w → Paired l → i < 16 → Pair w
 pair_here l i w p v h = record { low = p.low ∙ v.first i h; high = rw p.high (v.second i h) }

@@ -1,5 +1,5 @@
 -- Reading a byte of a sound escaped part, and how many bytes a part stands for.
-use Rattle.std.proofs.Common.{◌≡◌, ℕ, suc, ◌+◌, ◌-◌, ◌<◌, ◌≤◌, Bool, true, false, eqb, List, [], ◌∷◌, ◌++◌, length, get_or, drop, refl, ap, ◌∙◌, append-nil, arith, length-drop, eq-eqb, ne_eqb}
+use Rattle.std.proofs.Common.{◌≡◌, ℕ, suc, ◌+◌, ◌<◌, ◌≤◌, Bool, true, false, eqb, List, [], ◌∷◌, ◌++◌, length, get_or, drop, refl, ap, ◌∙◌, append-nil, arith, length-drop, eq-eqb, ne_eqb}
 use Rattle.laws.proofs.Choice.{split_b}
 use Rattle.laws.proofs.Lists.{drop_step}
 use Rattle.laws.specs.Answers.{Outcome, gives, refuses}

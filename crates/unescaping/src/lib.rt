@@ -91,7 +91,8 @@ pub struct Scanned<'a> {
     pub rest: &'a [u8],
 }
 
-// Part by part, up to the first in which escaping is broken.
+// Part by part, up to the first in which escaping is broken. Inlined, so that what it tells does not go through memory.
+#[inline(always)]
 pub fn scan(s: &[u8]) -> Scanned
     requires { 7 ≤ length s.now }
     ensures { ScannedIs s.now result }

@@ -1,19 +1,18 @@
 -- Storing the payload, and what unpacking and a look at a wire answer after that.
-use Prim.Native.Nat.{ℕ, suc, ◌+◌, ◌-◌, ◌<◌, ◌≤◌}
+use Prim.Native.Nat.{ℕ, ◌+◌, ◌<◌, ◌≤◌}
 use mathlib.Core.Path.{◌≡◌, refl, sym, ap, ◌∙◌}
-use mathlib.Core.Bool.{Bool, true}
+use mathlib.Core.Bool.{true}
 use mathlib.Core.List.{List, [], ◌∷◌}
 use native.Mathlib.Omega.{arith}
 use lib.ListN.{length, get_or, take}
-use lib.Seq.{sets, length-take-le, get_or-take}
+use lib.Seq.{sets, length-take-le}
 use Rattle.laws.specs.Stores.{Writes}
 use Rattle.laws.specs.Answers.{accepted, refused, Outcome, is_given, Meets}
 use Rattle.laws.proofs.Answers.{meets_refused, meets_short, meets_wrote}
 use Rattle.mdr.specs.Frame.{unpack_of, unpacks_of}
 use Rattle.mdr.specs.Told.{told_error, glance}
-use Rattle.unescaping.specs.Places.{ahead, GotIs}
+use Rattle.unescaping.specs.Places.{ahead}
 use Rattle.unpacking.specs.Readings.{payload, Reads}
-use Rattle.unescaping.specs.declared.Got.{Got}
 use Rattle.unpacking.specs.declared.head.Head.{Head}
 use Rattle.mdr.specs.declared.UnpackError.{UnpackError}
 use Rattle.std.specs.Prelude.{Result, Ok, Err, is_ok}
@@ -30,14 +29,6 @@ module _ (h : Head) where
 
   pub payload_bare : h.part.bare ≡ true → (d : List ℕ) (r : ℕ) (e : List ℕ) → Writes d 0 (take h.len h.part.bytes.now) r e → e ≡ sets d 0 (payload h)
   payload_bare y d r e w = w.writes ∙ rw (ahead_bare h.part.bytes.now (h.part.unescaped.none y))
-
-  pub first_none : h.len ≡ 0 → 0 ≡ get_or (payload h) 0 0
-  first_none e = rw e
-
-  pub first_some : (h.len ≡ 0 → ⊥) → (g : Got) → GotIs h.part.bytes.now 0 g → g.byte ≡ get_or (payload h) 0 0
-  first_some n g v =
-      let l : 0 < h.len = omega arith in
-      sym (get_or-take h.len (ahead h.part.bytes.now) 0 0 l ∙ rw v.step)
 
 -- ---- the answers
 

@@ -5,12 +5,11 @@ use mathlib.Core.Bool.{Bool, true, false}
 use mathlib.Core.List.{List, [], ◌∷◌, ◌++◌, append-nil}
 use native.Mathlib.Nat.{add-mul-mod_self_left, add-mod-mod}
 use native.Mathlib.Omega.{arith}
-use lib.ListN.{length, get_or, take, drop, take-append-drop, length-drop, length-append}
+use lib.ListN.{length, get_or, take, drop, take-append-drop, length-append}
 use lib.Seq.{sets-eq, take-suc, take-length, length-take-le, get_or_at, get_or-take}
 use borrow.Author.Tests.{eqb-true, le-leb, lt-leb, eq-eqb, ne_eqb}
 use lib.Dec.{eqb}
 use Rattle.laws.proofs.Lists.{drop_step, drop_end}
-use Rattle.laws.proofs.Choice.{no_way}
 use Rattle.std.proofs.lemmas.List.{take_rest}
 use Rattle.laws.specs.Numbers.{be32}
 use Rattle.laws.specs.Answers.{refused, Outcome, refuses}
@@ -54,10 +53,6 @@ header_is s d e used l n v h p q r t =
       declared = r ∙ rw (g 2 (omega arith), g 3 (omega arith), g 4 (omega arith), g 5 (omega arith));
       rest = rw (t, take_rest) v.rest;
     }
-
--- nothing is known of the rest
-pub rest_escaped : (l : List ℕ) → Bare 0x3D 0x3D l false
-rest_escaped l = record { none = λ e. no_way e refl }
 
 module _ (s : List ℕ) (t : Bool) (v : Bare 0x3D 0x3D s t) (y : t ≡ true) where
   -- nor is anything escaped after a place
@@ -156,9 +151,6 @@ module _ (s : List ℕ) (n sum last : ℕ) (m : Summed (ahead s) n sum last) whe
   pub judge_length : 7 ≤ n → last ≡ sum → (h : Header) → HeaderIs s h → (h.declared ≡ n - 7 → ⊥) → Reads (judged (ahead s)) (Err (LengthMismatch h.declared (n - 7)))
   unfolding judged
   judge_length h e x p q = record { is = refused_by _ 16 (x.declared ∷ (n - 7) ∷ []) (rw (le-leb 7 (length (ahead s)) (omega (arith, m.long)), eq-eqb (last_of (ahead s)) (computed_of (ahead s)) (sym m.ends ∙ e ∙ m.summed), ne_eqb (declared_of (ahead s)) (length (ahead s) - 7) (λ v. q (p.declared ∙ v ∙ ap (λ (k : ℕ). k - 7) (sym m.long))), p.declared, m.long)) }
-
-  pub judge_enough : 7 ≤ n → (h : Header) → HeaderIs s h → n - 7 < length (ahead h.rest.bytes.now)
-  judge_enough h x p = rw p.rest (omega (arith, length-drop 6 (ahead s), m.long))
 
   pub judge_whole : 7 ≤ n → last ≡ sum → (h : Header) → HeaderIs s h → h.declared ≡ n - 7
       → (r : Head) → r.kind ≡ h.kind → r.seq ≡ h.seq → r.len ≡ n - 7 → r.part.bytes.now ≡ h.rest.bytes.now → Reads (judged (ahead s)) (Ok r)

@@ -31,7 +31,8 @@ impl<'a> Head<'a> {
     ghost use Rattle.std.proofs.lemmas.List.Edits.{sets};
     ghost use Rattle.unpacking.specs.Readings.{payload};
 
-    // Writes the payload to the front of out.
+    // Writes the payload to the front of out. Not inlined: beside the reading, fill has too few registers.
+    #[inline(never)]
     pub fn write_payload(self, out: &mut [u8])
         requires { self.len ≤ length out.old }
         ensures { out.new ≡ sets out.old 0 (payload self.entry) }

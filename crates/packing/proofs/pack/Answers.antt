@@ -8,9 +8,6 @@ returns-then-n-gt32760 c = search pack_long
 pub returns-then-out-needed : goal.returns-then-out-needed
 returns-then-out-needed c = search pack_short
 
-pub invariant_of-p : goal.invariant_of-p
-invariant_of-p c = record { unescaped = search bare_if }
-
 pub write_frame-requires : goal.write_frame-requires
 write_frame-requires c = frame_room _ _ c.args.payload.now _ _ _ _ _ c.head_of-head.ensures c.tally_few-h.ensures c.tally-t.ensures refl _ c.is_within.ensures c.from-more.ensures c.args.out.now c.if-out-needed.false
 

@@ -2,9 +2,6 @@ use Rattle.packing.proofs.Twins.{twin_start, full_least, twin_turn, twin_end}
 use native.Mathlib.Omega.{arith}
 use Rattle.packing.proofs.pairs_of.Goals as goal
 
-pub loop-i-init : goal.loop-i-init
-loop-i-init c = search twin_start
-
 pub overflow_sub-part : goal.overflow_sub-part
 overflow_sub-part c = search full_least
 

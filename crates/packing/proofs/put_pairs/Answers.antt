@@ -2,12 +2,6 @@ use Rattle.packing.proofs.Twins.{low_high, part_start, part_second, part_turn, p
 use native.Mathlib.Omega.{arith}
 use Rattle.packing.proofs.put_pairs.Goals as goal
 
-pub loop-w-init : goal.loop-w-init
-loop-w-init c = search part_start
-
-pub bounds-out-at-in-loop-w : goal.bounds-out-at-in-loop-w
-bounds-out-at-in-loop-w c = search part_second
-
 pub loop-w-preserved : goal.loop-w-preserved
 loop-w-preserved c =
     let b = low_high _ _ c.to_le_bytes.ensures (omega (arith, c.type_inv.pairs c.loop-w.w-index)) in

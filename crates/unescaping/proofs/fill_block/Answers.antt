@@ -1,4 +1,4 @@
-use Rattle.unescaping.proofs.Filling.{dense_inside, dense_long, dense_paired, block_dense, block_long, block_bare}
+use Rattle.unescaping.proofs.Filling.{dense_long, block_dense, block_long, block_bare}
 use Rattle.std.proofs.Common.{sym}
 use Rattle.unescaping.proofs.fill_block.Goals as goal
 

@@ -11,12 +11,6 @@ bounds-s-i-then-b-eq61 c = search got_second
 pub overflow_add-result-then-b-eq61 : goal.overflow_add-result-then-b-eq61
 overflow_add-result-then-b-eq61 c = omega (arith, got_fits c.args.s.now c.args.i c.requires c.if-b-eq61.true)
 
-pub overflow_add-result : goal.overflow_add-result
-overflow_add-result c = omega (arith, got_inside c.args.s.now c.args.i c.requires)
-
-pub overflow_add-result-then-b-eq61-2 : goal.overflow_add-result-then-b-eq61-2
-overflow_add-result-then-b-eq61-2 c = omega (arith, got_inside c.args.s.now c.args.i c.requires)
-
 pub overflow_add-result-2 : goal.overflow_add-result-2
 overflow_add-result-2 c = omega (arith, got_inside c.args.s.now c.args.i c.requires)
 

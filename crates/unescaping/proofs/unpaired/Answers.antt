@@ -1,4 +1,4 @@
-use Rattle.unescaping.proofs.Pairs.{pair_room, pair_fits, pair_value}
+use Rattle.unescaping.proofs.Pairs.{pair_room, pair_fits}
 use Rattle.unescaping.proofs.unpaired.Goals as goal
 
 pub overflow_add-result : goal.overflow_add-result
@@ -6,6 +6,3 @@ overflow_add-result c = search pair_room
 
 pub overflow_cast-result : goal.overflow_cast-result
 overflow_cast-result c = search pair_fits
-
-pub returns : goal.returns
-returns c = search pair_value

@@ -1,4 +1,4 @@
-use Rattle.unpacking.proofs.Judging.{sound_few, sound_summed, bare_if, body_sound}
+use Rattle.unpacking.proofs.Judging.{sound_few, sound_summed}
 use Rattle.unpacking.proofs.read_counted.Goals as goal
 
 pub overflow_sub-n : goal.overflow_sub-n
@@ -6,6 +6,3 @@ overflow_sub-n c = search sound_few
 
 pub judge-requires : goal.judge-requires
 judge-requires c = search sound_summed
-
-pub returns : goal.returns
-returns c = search body_sound
