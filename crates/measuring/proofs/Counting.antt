@@ -21,13 +21,14 @@ use Rattle.mdr.specs.Frame.{unpacks_of}
 use Rattle.channels.specs.Channels.{any}
 use Rattle.spans.specs.Scan.{spans_of, rest_of}
 use Rattle.search.specs.Seek.{seek}
+use Rattle.search.proofs.Searching.{seek_le}
 use Rattle.spans.specs.Spans.{scanner, emptied, spans, unfinished}
 use Rattle.spans.specs.Parts.{tagged, tally_one, tally_all, Room, CountedIs}
 use Rattle.spans.specs.Bytewise.{AllQuiet}
 use Rattle.spans.proofs.Bytewise.{quiet_emptied}
 use Rattle.spans.specs.Scans.{ScanPre, ScannedIs}
 use Rattle.spans.specs.Account.{cleared, left, taken_in}
-use Rattle.spans.proofs.Scans.{seek_le, rest_le, silent, silent_rest}
+use Rattle.spans.proofs.Scans.{rest_le, silent, silent_rest}
 use Rattle.spans.specs.declared.Tally.{Tally}
 use Rattle.spans.specs.declared.Counted.{Counted}
 use Rattle.spans.specs.declared.Scanned.{Scanned}
