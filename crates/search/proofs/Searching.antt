@@ -8,7 +8,7 @@ use lib.ListN.{length, get_or, take, drop, length-drop}
 use lib.Seq.{drop-drop, length-take-le, take_all}
 use lib.Dec.{eqb}
 use borrow.Author.Tests.{eq-eqb, ne_eqb}
-use Rattle.laws.proofs.Choice.{split_b, split≡, no_way}
+use Rattle.laws.proofs.Choice.{split_b, split≡, split≤, no_way}
 use Rattle.laws.proofs.Lists.{drop_step, drop_end}
 use Rattle.search.specs.Seek.{seek}
 use Rattle.search.specs.Steps.{Without, Passed, Sought}
@@ -188,15 +188,19 @@ module _ (s : List ℕ) (x at : ℕ) (b : Bool) (h : length s ≤ 32) (g : 16 �
 
 -- blocks of 32 bytes
 module _ (s : List ℕ) (x i : ℕ) (v : Seeking s x i) where
-  pub passed_last : 32 ≤ length s → length s - 32 ≤ i → Passed s x (length s - 32)
-  passed_last h g = record { high = omega arith; same = lasts x 32 s h (omega (arith, v.same)) }
+  pub passed_last : (r : ℕ) → r ≡ length s - 32 → r ≤ i → Passed s x r
+  passed_last r e g =
+      rw e
+      (split≤ 32 (length s)
+      (λ h. record { high = omega arith; same = lasts x 32 s h (omega (arith, v.same)) })
+      (λ h. let z : length s - 32 ≡ 0 = omega arith in rw z (record { high = omega arith; same = omega (arith, ap (seek x) (take_all 32 s (omega arith))) })))
 
   module _ (b : Bool) (h : i + 32 ≤ length s) (w : Without (take (i + 32 - i) (drop i s)) x b) where
     block : Without (take 32 (drop i s)) x b
     block = let z : i + 32 - i ≡ 32 = omega arith in rw z at w
 
     pub passed_block : b ≡ false → Passed s x i
-    passed_block t = record { high = h; same = omega (arith, v.same, seek_take x 32 (drop i s) (block.some t)) }
+    passed_block t = record { high = omega arith; same = omega (arith, v.same, seek_take x 32 (drop i s) (block.some t)) }
 
     pub seeking_block : b ≡ true → Seeking s x (i + 32)
     seeking_block t = record { high = h; same = next (rw (drop-drop 32 i s) at (skipped x 32 (drop i s) (omega (arith, length-drop i s)) (block.none t))) } where
@@ -206,8 +210,17 @@ module _ (s : List ℕ) (x i : ℕ) (v : Seeking s x i) where
 pub sought : (s : List ℕ) (x r : ℕ) → r ≡ seek x s → Sought s x r
 sought s x r e = record { at = e; most = omega (arith, seek_le x s) }
 
-pub passed_found : (s : List ℕ) (x at r : ℕ) → Passed s x at → r ≡ seek x (take (at + 32 - at) (drop at s)) → Sought s x (at + r)
-passed_found s x at r p e = let z : at + 32 - at ≡ 32 = omega arith in sought s x (at + r) (omega (arith, p.same, rw z at e))
+-- the 32 bytes from a place on, or all that there are
+module _ (s : List ℕ) (x at k : ℕ) (p : Passed s x at) (h : at + 32 ≤ length s → k ≡ at + 32) (g : length s ≤ at + 32 → k ≡ length s) where
+  part_is : take (k - at) (drop at s) ≡ take 32 (drop at s)
+  part_is =
+      split≤ (at + 32) (length s)
+      (λ m. let z : k - at ≡ 32 = omega (arith, h m) in rw z)
+      (λ m. let z : k ≡ length s = g (omega arith) in
+      rw z (take_all (length s - at) (drop at s) (simp length-drop (omega arith)) ∙ sym (take_all 32 (drop at s) (simp length-drop (omega arith)))))
+
+  pub passed_found : (r : ℕ) → r ≡ seek x (take (k - at) (drop at s)) → Sought s x (at + r)
+  passed_found r e = sought s x (at + r) (omega (arith, p.same, rw part_is at e))
 
 -- some bytes looked at before the rest
 module _ (x m : ℕ) (s : List ℕ) (h : m ≤ length s) (at : ℕ) (e : at ≡ seek x (take m s)) where

@@ -69,10 +69,9 @@ fn find_short(s: &[u8], x: u8) -> usize
 
 // Passes by blocks of 32 bytes with no x, up to one that has it or the last 32, which may have been seen in part.
 fn pass_blocks(s: &[u8], x: u8) -> usize
-    requires { 32 ≤ length s.now }
     ensures { Passed s.now x result }
 {
-    let last = s.len() - 32;
+    let last = s.len().saturating_sub(32);
     for i in (0..last).step_by(32) {
         if !is_without(&s[i..i + 32], x) {
             return i;
@@ -85,11 +84,9 @@ fn pass_blocks(s: &[u8], x: u8) -> usize
 pub fn find(s: &[u8], x: u8) -> usize
     ensures { Sought s.now x result }
 {
-    if s.len() < 32 {
-        return find_short(s, x);
-    }
     let at = pass_blocks(s, x);
-    at + find_short(&s[at..at + 32], x)
+    let end = s.len().min(at + 32);
+    at + find_short(&s[at..end], x)
 }
 
 // The same, for a byte that mostly stands soon: so many bytes are looked at one by one before the rest.

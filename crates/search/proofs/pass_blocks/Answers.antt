@@ -9,8 +9,8 @@ pub loop-i-preserved : goal.loop-i-preserved
 loop-i-preserved c = seeking_block _ _ _ c.loop-i.invariant _ (omega arith) c.is_without.ensures c.if-not-is_without.false
 
 pub returns : goal.returns
-returns c = passed_last _ _ _ c.loop-i.invariant (omega arith) (omega arith)
+returns c = passed_last _ _ _ c.loop-i.invariant _ (omega (arith, c.saturating_sub-last.ensures)) (omega arith)
 
 pub returns-else-not-is_without : goal.returns-else-not-is_without
 returns-else-not-is_without c =
-    passed_last _ _ _ (seeking_block _ _ _ c.loop-i.invariant _ (omega arith) c.is_without.ensures c.if-not-is_without.false) (omega arith) (omega arith)
+    passed_last _ _ _ (seeking_block _ _ _ c.loop-i.invariant _ (omega arith) c.is_without.ensures c.if-not-is_without.false) _ (omega (arith, c.saturating_sub-last.ensures)) (omega arith)
