@@ -7,6 +7,7 @@ use native.Mathlib.Omega.{arith}
 use lib.ListN.{length, get_or, take, drop, length-append, length-drop}
 use lib.Seq.{length-take-le, take_all}
 use lib.Dec.{eqb}
+use mir.Val.{bool_byte}
 use borrow.Author.Tests.{eqb-true, eq-eqb, ne_eqb, lt-ltb, le-ltb}
 use Rattle.laws.proofs.Choice.{split_b, split≡, no_way}
 use Rattle.laws.proofs.Lists.{drop_step, drop_end}
@@ -17,7 +18,7 @@ use Rattle.search.proofs.Searching.{seek_le}
 use Rattle.spans.proofs.Scanning.{shorter, rest_more}
 use Rattle.spans.specs.Bytewise.{Quiet}
 use Rattle.spans.proofs.Bytewise.{no_end, no_start_law, closes_first}
-use Rattle.spans.specs.Parts.{tally_one, tally_all, Room, CountedIs}
+use Rattle.spans.specs.Parts.{bit, tally_one, tally_all, Room, CountedIs}
 use Rattle.search.specs.Steps.{Sought}
 use Rattle.spans.specs.Scans.{UpTo, ScanPre, Begins, AddedIs, FirstPre, FirstIs, FromPre, OpenPre, OpenIs, ScannedIs}
 use Rattle.spans.specs.declared.Tally.{Tally}
@@ -56,26 +57,30 @@ begins_self x h g = record { yes = λ e z. eqb-true (get_or x 0 0) 0x3E e; no = 
 
 -- ---- one span more
 
-module _ (x : List ℕ) (t : Tally) where
-  pub one_known : t.frame ≡ true → record { count = t.count + 1; bytes = t.bytes + 14 + length x; frame = t.frame } ≡ tally_one t x
-  unfolding tally_one
-  one_known e = rw e
+bit_from : (b : Bool) → bool_byte b ≡ bit b
+bit_from true = refl
+bit_from false = refl
 
-  pub one_first : t.frame ≡ false → (b : Bool) → b ≡ unpacks_of x → record { count = t.count + 1; bytes = t.bytes + 14 + length x; frame = b } ≡ tally_one t x
+module _ (x : List ℕ) (t : Tally) where
+  pub one_first : t.frames ≡ 0 → (b : Bool) → b ≡ unpacks_of x → (r : ℕ) → r ≡ bool_byte b → record { count = t.count + 1; bytes = t.bytes + 14 + length x; frames = r } ≡ tally_one t x
   unfolding tally_one
-  one_first e b eb = rw (e, eb)
+  one_first e b eb r er = rw (eq-eqb t.frames 0 e, er, bit_from b, eb)
+
+  pub one_known : (t.frames ≡ 0 → ⊥) → record { count = t.count + 1; bytes = t.bytes + 14 + length x; frames = t.frames } ≡ tally_one t x
+  unfolding tally_one
+  one_known e = rw (ne_eqb t.frames 0 e)
 
 module _ (x : List ℕ) (h : ℕ) (t : Tally) where
-  pub added_known : t.frame ≡ true → AddedIs x h t (record { count = t.count + 1; bytes = t.bytes + 14 + h + length x; frame = true })
+  pub added_known : 0 < t.frames → AddedIs x h t (record { count = t.count + 1; bytes = t.bytes + 14 + h + length x; frames = t.frames })
   unfolding tally_one
   added_known e = record {
-    is = λ b l. (let k : t.bytes + 14 + length (b ++ x) ≡ t.bytes + 14 + h + length x = omega (arith, length-append b x) in rw (k, e));
+    is = λ b l. (let k : t.bytes + 14 + length (b ++ x) ≡ t.bytes + 14 + h + length x = omega (arith, length-append b x) in rw (k, ne_eqb t.frames 0 (λ z. omega arith)));
   }
 
-  pub added_first : ScanPre x h t → t.frame ≡ false → (r : Tally) → r ≡ tally_one t x → AddedIs x h t r
+  pub added_first : ScanPre x h t → t.frames ≤ 0 → (r : Tally) → r ≡ tally_one t x → AddedIs x h t r
   added_first q e r er = record { is = λ b l. er ∙ rw (nil b (l ∙ none)) } where
     none : h ≡ 0
-    none = split≡ h 0 (λ z. z) (λ z. no_way (q.known (omega arith)) e)
+    none = split≡ h 0 (λ z. z) (λ z. absurd (omega (arith, q.known (omega arith))))
 
 -- ---- the first span
 

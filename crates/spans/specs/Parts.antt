@@ -1,5 +1,5 @@
 -- What the functions over one buffer promise.
-use Rattle.std.specs.Prelude.{Option, Some, None, ℕ, ◌+◌, ◌*◌, ◌<◌, ◌≤◌, ◌≡◌, ◌||◌, List, [], ◌∷◌, map, length}
+use Rattle.std.specs.Prelude.{Option, Some, None, ℕ, ◌+◌, ◌*◌, ◌<◌, ◌≤◌, ◌≡◌, Bool, cond, eqb, List, [], ◌∷◌, map, length}
 use Rattle.std.specs.Borrow.{Bor}
 use Rattle.laws.specs.Stores.{Writes}
 use Rattle.items.specs.Items.{Span, span_list}
@@ -31,9 +31,12 @@ pub record NextIs (b : List ℕ) (r : Option (Bor (List ℕ))) (e : List ℕ) : 
 
 -- ---- counting
 
+abbrev pub bit : Bool → ℕ
+bit b = cond b 1 0
+
 -- one span more, of the wire w
 unfoldable pub tally_one : Tally → List ℕ → Tally
-tally_one t w = record { count = t.count + 1; bytes = t.bytes + 14 + length w; frame = t.frame || unpacks_of w }
+tally_one t w = record { count = t.count + 1; bytes = t.bytes + 14 + length w; frames = cond (eqb t.frames 0) (bit (unpacks_of w)) t.frames }
 
 unfoldable pub tally_all : Tally → List (List ℕ) → Tally
 tally_all t [] = t

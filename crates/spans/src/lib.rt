@@ -64,12 +64,12 @@ impl<'a> Spans<'a> {
 
 // ---- counting
 
-// What is counted of spans: how many, the bytes of their list, and whether one of them unpacks.
+// What is counted of spans: how many, the bytes of their list, and how many are known to unpack: once one does no other is tried.
 #[derive(Clone, Copy)]
 pub struct Tally {
     pub count: usize,
     pub bytes: usize,
-    pub frame: bool,
+    pub frames: usize,
 }
 
 // What is counted of a buffer, and how long the rest of it is.
@@ -87,7 +87,11 @@ fn add_span(t: Tally, wire: &[u8]) -> Tally
     Tally {
         count: t.count + 1,
         bytes: t.bytes + 14 + wire.len(),
-        frame: t.frame || unpacks(wire),
+        frames: if t.frames == 0 {
+            usize::from(unpacks(wire))
+        } else {
+            t.frames
+        },
     }
 }
 
@@ -137,11 +141,11 @@ fn add_behind(t: Tally, h: usize, part: &[u8]) -> Tally
     requires { ScanPre part.now h t }
     ensures { AddedIs part.now h t result }
 {
-    if t.frame {
+    if 0 < t.frames {
         return Tally {
             count: t.count + 1,
             bytes: t.bytes + 14 + h + part.len(),
-            frame: true,
+            frames: t.frames,
         };
     }
     add_span(t, part)
