@@ -37,15 +37,12 @@ hyphen_none (x ∷ l) h =
     (λ e. absurd (omega (arith, rw (eq-eqb x 45 e) at h)))
     (λ n. rw (ne_eqb x 45 n) (hyphen_none l (omega (arith, rw (ne_eqb x 45 n) at h))))
 
-module _ (s : List ℕ) (at : ℕ) (q : Sought s 0 45 at) where
-  sought : at ≡ seek 45 s
-  sought = omega (arith, q.at)
-
+module _ (s : List ℕ) (at : ℕ) (q : Sought s 45 at) where
   pub after_found : at < length s → drop (at + 1) s ≡ after_hyphen s
-  after_found h = let e : at + 1 ≡ suc (seek 45 s) = omega (arith, sought) in rw e (hyphen_found s (omega (arith, sought)))
+  after_found h = let e : at + 1 ≡ suc (seek 45 s) = omega (arith, q.at) in rw e (hyphen_found s (omega (arith, q.at)))
 
   pub after_none : length s ≤ at → drop at s ≡ after_hyphen s
-  after_none h = drop_end s at h ∙ sym (hyphen_none s (omega (arith, sought)))
+  after_none h = drop_end s at h ∙ sym (hyphen_none s (omega (arith, q.at)))
 
 -- ---- digits up to a hyphen
 

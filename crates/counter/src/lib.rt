@@ -5,14 +5,14 @@ ghost use Rattle.std.specs.Prelude.{◌≡◌, take};
 ghost use Rattle.laws.specs.Keys.{eq_k};
 ghost use Rattle.counter.specs.Counter.{mark, after_hyphen, to_hyphen, digits, number, signed, within, counter, rank};
 
-use search::find_near;
+use search::find_soon;
 use words::get_le32;
 
 // What follows the first hyphen, nothing if there is none.
 fn after_hyphen(s: &[u8]) -> &[u8]
     ensures { result.now ≡ after_hyphen s.now }
 {
-    let at = find_near(s, 0, b'-');
+    let at = find_soon::<24>(s, b'-');
     if at < s.len() { &s[at + 1..] } else { &s[at..] }
 }
 

@@ -8,8 +8,8 @@ use native.Mathlib.Numerals.{add-one}
 use native.Mathlib.Nat.{zero-add, add-zero}
 use lib.ListN.{length, take, drop, length-append}
 use lib.Dec.{ltb}
-use borrow.Author.Tests.{eq-eqb}
-use Rattle.laws.proofs.Choice.{split_b, split≡}
+use borrow.Author.Tests.{eq-eqb, ne_eqb, lt-ltb, ltb-true}
+use Rattle.laws.proofs.Choice.{split_b, split≡, no_way}
 use Rattle.laws.specs.Keyed.{step, run, after}
 use Rattle.laws.specs.Count.{nub}
 use Rattle.laws.specs.Totals.{total}
@@ -21,13 +21,14 @@ use Rattle.mdr.specs.Frame.{unpacks_of}
 use Rattle.channels.specs.Channels.{any}
 use Rattle.spans.specs.Scan.{spans_of, rest_of}
 use Rattle.search.specs.Seek.{seek}
+use Rattle.search.proofs.Searching.{seek_le}
 use Rattle.spans.specs.Spans.{scanner, emptied, spans, unfinished}
 use Rattle.spans.specs.Parts.{tagged, tally_one, tally_all, Room, CountedIs}
 use Rattle.spans.specs.Bytewise.{AllQuiet}
 use Rattle.spans.proofs.Bytewise.{quiet_emptied}
 use Rattle.spans.specs.Scans.{ScanPre, ScannedIs}
 use Rattle.spans.specs.Account.{cleared, left, taken_in}
-use Rattle.spans.proofs.Scans.{seek_le, rest_le, silent, silent_rest}
+use Rattle.spans.proofs.Scans.{rest_le, silent, silent_rest}
 use Rattle.spans.specs.declared.Tally.{Tally}
 use Rattle.spans.specs.declared.Counted.{Counted}
 use Rattle.spans.specs.declared.Scanned.{Scanned}
@@ -53,7 +54,7 @@ tally_spans t [] = t
 tally_spans t (s ∷ ss) = tally_spans (tally_one t s.wire) ss
 
 unfoldable pub nothing : Tally
-nothing = record { count = 0; bytes = 0; frame = false }
+nothing = record { count = 0; bytes = 0; frames = 0 }
 
 tally_tagged : (t : Tally) (rx time : ℕ) (ws : List (List ℕ)) (ss : List Span) → tally_spans t (tagged rx time ws ++ ss) ≡ tally_spans (tally_all t ws) ss
 unfolding tally_spans tally_all
@@ -70,14 +71,22 @@ unfolding tally_spans tally_one
 tally_bytes t [] = rw spans_none (omega arith)
 tally_bytes t (s ∷ ss) = tally_bytes (tally_one t s.wire) ss ∙ rw (spans_more s ss) (omega (arith, length-append (span_item s) (span_list ss), length_span s))
 
-tally_frame : (t : Tally) (ss : List Span) → (tally_spans t ss).frame ≡ (t.frame || any (λ s. unpacks_of s.wire) ss)
+tally_frame : (t : Tally) (ss : List Span) → ltb 0 (tally_spans t ss).frames ≡ (ltb 0 t.frames || any (λ s. unpacks_of s.wire) ss)
 unfolding tally_spans tally_one any
-tally_frame t [] = split_b t.frame (λ e. rw e) (λ e. rw e)
+tally_frame t [] = split_b (ltb 0 t.frames) (λ e. rw e) (λ e. rw e)
 tally_frame t (s ∷ ss) =
     tally_frame (tally_one t s.wire) ss
-    ∙ split_b t.frame (λ e. rw e) (λ e. rw e (split_b (unpacks_of s.wire) (λ g. rw g) (λ g. rw g)))
+    ∙ split≡ t.frames 0
+    (λ e. rw (eq-eqb t.frames 0 e) (rw e (split_b (unpacks_of s.wire) (λ g. rw g) (λ g. rw g))))
+    (λ e. rw (ne_eqb t.frames 0 e) (rw (lt-ltb 0 t.frames (omega arith))))
 
 -- ---- a piece
+
+pub known_none : (h : ℕ) (t : Tally) → h ≡ 0 → Known h t true
+known_none h t e = record { yes = λ z g. absurd (omega arith); no = λ z. no_way refl z }
+
+pub known_frame : (h : ℕ) (t : Tally) → (h ≡ 0 → ⊥) → Known h t (ltb 0 t.frames)
+known_frame h t n = record { yes = λ z g. ltb-true 0 t.frames z; no = λ z. omega arith }
 
 module _ (f w : List ℕ) (p : Plan) (i h : ℕ) (t : Tally) (q : CountHeld f w p i h t) where
   -- what is held
@@ -262,7 +271,7 @@ pub record CountingTo (f w₀ : List ℕ) (p : Plan) (w : List ℕ) (i : ℕ) (s
   pub keys : keys_to w p i ++ map (λ x. x.key) (ahead f w p i) ≡ map (λ x. x.key) (all f w₀ p)
   pub told : AllTold f w p i
 
-pub counting_start : (f w : List ℕ) (p : Plan) → Laid f w p → CountingTo f w p w 0 (record { tally = record { count = 0; bytes = 0; frame = false }; unfinished = 0; taken = 0; cleared = 0; left = 0 })
+pub counting_start : (f w : List ℕ) (p : Plan) → Laid f w p → CountingTo f w p w 0 (record { tally = record { count = 0; bytes = 0; frames = 0 }; unfinished = 0; taken = 0; cleared = 0; left = 0 })
 unfolding nothing spans held_to keys_to nub total held_in cleared
 counting_start f w p l =
     let z : p.n - 0 ≡ p.n = omega arith in
@@ -371,7 +380,7 @@ module _ (f w₀ : List ℕ) (p : Plan) (w : List ℕ) (i : ℕ) (s : Sums) (v :
         record {
           count = ap (λ (x : Tally). x.count) t ∙ tally_count nothing (spans (all f w₀ p)) ∙ omega arith;
           bytes = ap (λ (x : Tally). x.bytes) t ∙ tally_bytes nothing (spans (all f w₀ p)) ∙ omega arith;
-          frame = ap (λ (x : Tally). x.frame) t ∙ tally_frame nothing (spans (all f w₀ p));
+          frame = ap (λ (x : Tally). ltb 0 x.frames) t ∙ tally_frame nothing (spans (all f w₀ p));
           live = v.sums.live ∙ held_end sign ∙ sym (count_total (λ k. ltb 0 (length (after scanner emptied (all f w₀ p) k))) (nub (map (λ x. x.key) (all f w₀ p))));
           takes = sym (add-zero s.taken) ∙ rw none at v.takes;
           clears = sym (add-zero s.cleared) ∙ rw none at v.clears;

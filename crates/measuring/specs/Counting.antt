@@ -99,7 +99,7 @@ pub record CountHeld (f w : List ℕ) (p : Plan) (i h : ℕ) (t : Tally) : Type 
 
 -- a span of what is held can be counted by its length
 pub record Known (h : ℕ) (t : Tally) (r : Bool) : Type 0 where
-  pub yes : r ≡ true → 0 < h → t.frame ≡ true
+  pub yes : r ≡ true → 0 < h → 0 < t.frames
   pub no : r ≡ false → 0 < h
 
 pub record JoinHeld (f w : List ℕ) (p : Plan) (i h : ℕ) (t : Tally) : Type 0 where
@@ -128,7 +128,7 @@ pub record Stepped (f w : List ℕ) (p : Plan) (i : ℕ) (s : Sums) (u : List �
 pub record CountIs (f w : List ℕ) (p : Plan) (u : List ℕ) (r : Sums) : Type 0 where
   pub count : r.tally.count ≡ length (spans (all f w p))
   pub bytes : r.tally.bytes ≡ length (span_list (spans (all f w p)))
-  pub frame : r.tally.frame ≡ any (λ s. unpacks_of s.wire) (spans (all f w p))
+  pub frame : ltb 0 r.tally.frames ≡ any (λ s. unpacks_of s.wire) (spans (all f w p))
   pub live : r.unfinished ≡ unfinished (all f w p)
   pub takes : r.taken ≡ taken_in (all f w p)
   pub clears : r.cleared ≡ cleared (all f w p)

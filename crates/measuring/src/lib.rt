@@ -52,7 +52,7 @@ fn count_open(many: usize, r: u32, h: usize) -> usize
 fn is_known(h: usize, t: Tally) -> bool
     ensures { Known h t result }
 {
-    h == 0 || t.frame
+    h == 0 || 0 < t.frames
 }
 
 // Counts the spans that piece i brings behind the h bytes held, which are put before it if a 3C closes them.
@@ -148,7 +148,7 @@ pub fn count_spans(file: &[u8], w: &mut [u8], p: Plan) -> Sums
     let none = Tally {
         count: 0,
         bytes: 0,
-        frame: false,
+        frames: 0,
     };
     let mut s = Sums {
         tally: none,

@@ -1,17 +1,17 @@
 -- The search for a byte, one at a time and many at once.
 use Prim.Native.Nat.{ℕ, zero, suc, ◌+◌, ◌-◌, ◌<◌, ◌≤◌}
-use mathlib.Core.Path.{◌≡◌, refl, ap, ◌∙◌}
+use mathlib.Core.Path.{◌≡◌, refl, sym, ap, ◌∙◌}
 use mathlib.Core.Bool.{Bool, true, false, cond, ◌||◌, not}
 use mathlib.Core.List.{List, [], ◌∷◌}
 use native.Mathlib.Omega.{arith}
 use lib.ListN.{length, get_or, take, drop, length-drop}
-use lib.Seq.{drop-drop, length-take-le}
+use lib.Seq.{drop-drop, length-take-le, take_all}
 use lib.Dec.{eqb}
 use borrow.Author.Tests.{eq-eqb, ne_eqb}
-use Rattle.laws.proofs.Choice.{split_b, split≡, no_way}
+use Rattle.laws.proofs.Choice.{split_b, split≡, split≤, no_way}
 use Rattle.laws.proofs.Lists.{drop_step, drop_end}
 use Rattle.search.specs.Seek.{seek}
-use Rattle.search.specs.Steps.{Without, Among, Short, Passed, Sought}
+use Rattle.search.specs.Steps.{Without, Passed, Sought}
 
 -- ---- one byte at a time
 
@@ -28,27 +28,23 @@ module _ (s : List ℕ) (i x : ℕ) where
   unfolding seek
   seek_end h = rw (drop_end s i h)
 
-pub record Seeking (s : List ℕ) (from x i : ℕ) : Type 0 where
-  pub low : «from» ≤ i
+-- nothing found before a place
+pub record Seeking (s : List ℕ) (x i : ℕ) : Type 0 where
   pub high : i ≤ length s
-  pub same : i + seek x (drop i s) ≡ «from» + seek x (drop «from» s)
+  pub same : i + seek x (drop i s) ≡ seek x s
 
-pub seeking_start : (s : List ℕ) (f x : ℕ) → f ≤ length s → Seeking s f x f
-seeking_start s f x h = record { low = omega arith; high = h; same = refl }
+pub seeking_start : (s : List ℕ) (x : ℕ) → Seeking s x 0
+seeking_start s x = record { high = omega arith; same = omega arith }
 
-module _ (s : List ℕ) (f x i : ℕ) (v : Seeking s f x i) where
-  pub seeking_hit : i < length s → get_or s i 0 ≡ x → Sought s f x i
-  seeking_hit h e = record { at = omega (arith, v.same, seek_hit s i x h e); least = v.low; most = v.high }
+module _ (s : List ℕ) (x i : ℕ) (v : Seeking s x i) where
+  pub seeking_hit : i < length s → get_or s i 0 ≡ x → i ≡ seek x s
+  seeking_hit h e = omega (arith, v.same, seek_hit s i x h e)
 
-  pub seeking_miss : i < length s → (get_or s i 0 ≡ x → ⊥) → Seeking s f x (i + 1)
-  seeking_miss h e = record { low = omega (arith, v.low); high = omega arith; same = omega (arith, v.same, seek_miss s i x h e) }
+  pub seeking_miss : i < length s → (get_or s i 0 ≡ x → ⊥) → Seeking s x (i + 1)
+  seeking_miss h e = record { high = omega arith; same = omega (arith, v.same, seek_miss s i x h e) }
 
-  pub seeking_end : length s ≤ i → Sought s f x (length s)
-  seeking_end h = record { at = omega (arith, v.same, v.high, seek_end s i x h); least = omega (arith, v.low, v.high); most = omega arith }
-
-  -- a loop up to k ends there
-  pub seeking_to : (k : ℕ) → i ≤ k → k ≤ i → Seeking s f x k
-  seeking_to k l h = let z : i ≡ k = omega arith in rw z at v
+  pub seeking_end : length s ≤ i → length s ≡ seek x s
+  seeking_end h = omega (arith, v.same, v.high, seek_end s i x h)
 
 -- ---- many bytes at once
 
@@ -71,6 +67,11 @@ seek_skip x (suc m) (y ∷ l) h =
     split≡ y x
     (λ e. absurd (omega (arith, rw (eq-eqb y x e) at h)))
     (λ e. rw (ne_eqb y x e) (omega (arith, seek_skip x m l (omega (arith, rw (ne_eqb y x e) at h)))))
+
+pub seek_le : (x : ℕ) (l : List ℕ) → seek x l ≤ length l
+unfolding seek
+seek_le x [] = omega arith
+seek_le x (y ∷ l) = split≡ y x (λ e. rw (eq-eqb y x e) (omega arith)) (λ e. rw (ne_eqb y x e) (omega (arith, seek_le x l)))
 
 -- the first m bytes have no x, so the first x comes after them
 seek_past : (x m : ℕ) (l : List ℕ) → seek x (take m l) ≡ length (take m l) → m ≤ length l → m ≤ seek x l
@@ -150,103 +151,81 @@ seek_within x (suc m) (y ∷ l) h g =
     (λ e. rw (eq-eqb y x e))
     (λ e. rw (ne_eqb y x e) (ap suc (seek_within x m l (omega (arith, rw (ne_eqb y x e) at h)) (omega arith))))
 
-module _ (s : List ℕ) (f x : ℕ) where
-  -- nothing between two places: nor to a place between them
-  pub seeking_back : (i k : ℕ) → Seeking s f x i → f ≤ k → k ≤ i → Seeking s f x k
-  seeking_back i k v h g =
-      let z : f + (k - f) ≡ k = omega arith in
-      let u : seek x (drop f s) ≡ k - f + seek x (drop k s) = rw (drop-drop (k - f) f s, z) at (seek_skip x (k - f) (drop f s) (omega (arith, v.same))) in
-      record { low = h; high = omega (arith, v.high); same = omega arith }
+-- nothing found in the first m bytes
+pub skipped : (x m : ℕ) (s : List ℕ) → m ≤ length s → seek x (take m s) ≡ length (take m s) → seek x s ≡ m + seek x (drop m s)
+skipped x m s h e = seek_skip x m s (seek_past x m s e h)
 
-  pub seeking_found : (k r : ℕ) → Seeking s f x k → Sought s k x r → Sought s f x r
-  seeking_found k r v q = record { at = q.at ∙ v.same; least = omega (arith, v.low, q.least); most = q.most }
+-- the last bytes of a list, if there is nothing before them
+pub lasts : (x m : ℕ) (s : List ℕ) → m ≤ length s → length s - m ≤ seek x s → seek x s ≡ length s - m + seek x (take m (drop (length s - m) s))
+lasts x m s h g =
+    let l : length (drop (length s - m) s) ≤ m = simp length-drop (omega arith) in
+    rw (take_all m (drop (length s - m) s) l) (seek_skip x (length s - m) s g)
 
-  -- nor in a part from the second on
-  pub seeking_part : (i e : ℕ) (b : Bool) → Seeking s f x i → i ≤ e → e ≤ length s → Without (take (e - i) (drop i s)) x b → b ≡ true → Seeking s f x e
-  seeking_part i e b v h g w t =
-      let z : i + (e - i) ≡ e = omega arith in
-      let m : e - i ≤ seek x (drop i s) = seek_past x (e - i) (drop i s) (w.none t) (omega (arith, length-drop i s)) in
-      let u : seek x (drop i s) ≡ e - i + seek x (drop e s) = rw (drop-drop (e - i) i s, z) at (seek_skip x (e - i) (drop i s) m) in
-      record { low = omega (arith, v.low); high = g; same = omega (arith, v.same) }
+-- the first sixteen of 16 to 32 bytes, or the last sixteen if the first have no x
+module _ (s : List ℕ) (x at : ℕ) (b : Bool) (h : length s ≤ 32) (g : 16 ≤ length s) (w : Without (take 16 s) x b) (e : at ≡ cond b (length s - 16) 0) where
+  pub half_high : at + 16 ≤ length s
+  half_high = split_b b (λ t. let k : at ≡ length s - 16 = rw t at e in omega arith) (λ t. let k : at ≡ 0 = rw t at e in omega arith)
 
-pub among_part : (s : List ℕ) (i m x : ℕ) (b : Bool) → i + m ≤ length s → Without (take (i + m - i) (drop i s)) x b → b ≡ false → Among s i m x
-among_part s i m x b h w t =
-    let k : i + m - i ≡ m = omega arith in
-    let n : length (take m (drop i s)) ≡ m = length-take-le m (drop i s) (omega (arith, length-drop i s)) in
-    let g : seek x (take m (drop i s)) < length (take m (drop i s)) = rw k at (w.some t) in
-    record { high = h; some = omega (arith, seek_take x m (drop i s) g) }
-
--- the first x in a part that has one
-module _ (s : List ℕ) (f m x r : ℕ) (a : Among s f m x) (e : r ≡ seek x (take (f + m - f) (drop f s))) where
-  placed_is : r ≡ seek x (drop f s)
-  placed_is = let k : f + m - f ≡ m = omega arith in rw k at e ∙ seek_within x m (drop f s) a.some (omega (arith, a.high, length-drop f s))
-
-  pub placed_room : f + r ≤ length s
-  placed_room = omega (arith, placed_is, a.high, a.some)
-
-  pub placed_sought : Sought s f x (f + r)
-  placed_sought = record { at = ap (λ (n : ℕ). f + n) placed_is; least = omega arith; most = placed_room }
-
--- the half that has it
-module _ (s : List ℕ) (f x r : ℕ) (b : Bool) (a : Among s f 32 x) (w : Without (take (f + 16 - f) (drop f s)) x b) (e : r ≡ cond b (f + 16) f) where
-  half_from : Seeking s f x r
-  half_from =
+  half_found : seek x s ≡ at + seek x (take 16 (drop at s))
+  half_found =
       split_b b
-      (λ t. let k : r ≡ f + 16 = rw t at e in
-      rw k (seeking_part s f x f (f + 16) b (seeking_start s f x (omega (arith, a.high))) (omega arith) (omega (arith, a.high)) w t))
-      (λ t. let k : r ≡ f = rw t at e in rw k (seeking_start s f x (omega (arith, a.high))))
+      (λ t. let k : at ≡ length s - 16 = rw t at e in
+      rw k (lasts x 16 s g (omega (arith, seek_past x 16 s (w.none t) g))))
+      (λ t. let k : at ≡ 0 = rw t at e in rw k (omega (arith, seek_take x 16 s (w.some t))))
 
-  pub half_among : Among s r 16 x
-  half_among =
+  pub half_placed : (r : ℕ) → r ≡ seek x (take (at + 16 - at) (drop at s)) → at + r ≡ seek x s
+  half_placed r q = let z : at + 16 - at ≡ 16 = omega arith in omega (arith, half_found, rw z at q)
+
+  pub half_none : (c : Bool) → Without (take (at + 16 - at) (drop at s)) x c → c ≡ true → length s ≡ seek x s
+  half_none c u t =
+      let z : at + 16 - at ≡ 16 = omega arith in
+      let v : Without (take 16 (drop at s)) x c = rw z at u in
       split_b b
-      (λ t. let k : r ≡ f + 16 = rw t at e in
-      record { high = omega (arith, a.high); some = omega (arith, half_from.same, a.some) })
-      (λ t. let k : r ≡ f = rw t at e in rw k (among_part s f 16 x b (omega (arith, a.high)) w t))
-
-  pub half_found : (q : ℕ) → Sought s r x q → Sought s f x q
-  half_found q h = seeking_found s f x r q half_from h
-
--- the last sixteen of 32 bytes or fewer, if the first have no x
-module _ (s : List ℕ) (f x r : ℕ) (b : Bool) (h : Short s f) (g : f + 16 ≤ length s) (w : Without (take (f + 16 - f) (drop f s)) x b) (e : r ≡ cond b (length s - 16) f) where
-  short_from : Seeking s f x r
-  short_from =
-      split_b b
-      (λ t. let k : r ≡ length s - 16 = rw t at e in
-      rw k (seeking_back s f x (f + 16) (length s - 16) (seeking_part s f x f (f + 16) b (seeking_start s f x h.low) (omega arith) g w t) (omega arith) (omega (arith, h.few))))
-      (λ t. let k : r ≡ f = rw t at e in rw k (seeking_start s f x h.low))
-
-  pub short_room : r + 16 ≤ length s
-  short_room = split_b b (λ t. let k : r ≡ length s - 16 = rw t at e in omega arith) (λ t. let k : r ≡ f = rw t at e in omega arith)
-
-  pub short_found : (q : ℕ) → Sought s r x q → Sought s f x q
-  short_found q v = seeking_found s f x r q short_from v
-
-  -- no x in them either
-  pub short_none : (c : Bool) → Without (take (r + 16 - r) (drop r s)) x c → c ≡ true → Sought s f x (length s)
-  short_none c v t =
-      split_b b
-      (λ y. let k : r + 16 ≡ length s = (let z : r ≡ length s - 16 = rw y at e in omega arith) in
-      seeking_end s f x (length s) (rw k at (seeking_part s f x r (r + 16) c short_from (omega arith) short_room v t)) (omega arith))
-      (λ y. let k : r ≡ f = rw y at e in
-      let z : seek x (take (f + 16 - f) (drop f s)) ≡ length (take (f + 16 - f) (drop f s)) = rw k at (v.none t) in
-      absurd (omega (arith, w.some y)))
+      (λ y. let k : at ≡ length s - 16 = rw y at e in
+      omega (arith, half_found, v.none t, length-take-le 16 (drop at s) (omega (arith, length-drop at s))))
+      (λ y. let k : at ≡ 0 = rw y at e in
+      absurd (omega (arith, w.some y, rw k at (v.none t))))
 
 -- blocks of 32 bytes
-pub passed_block : (s : List ℕ) (f x i : ℕ) (b : Bool) → Seeking s f x i → i + 32 ≤ length s → Without (take (i + 32 - i) (drop i s)) x b → b ≡ false → Passed s f x i
-passed_block s f x i b v h w t = record { low = v.low; high = h; same = v.same; last = λ g. absurd (omega (arith, (among_part s i 32 x b h w t).some)) }
+module _ (s : List ℕ) (x i : ℕ) (v : Seeking s x i) where
+  pub passed_last : (r : ℕ) → r ≡ length s - 32 → r ≤ i → Passed s x r
+  passed_last r e g =
+      rw e
+      (split≤ 32 (length s)
+      (λ h. record { high = omega arith; same = lasts x 32 s h (omega (arith, v.same)) })
+      (λ h. let z : length s - 32 ≡ 0 = omega arith in rw z (record { high = omega arith; same = omega (arith, ap (seek x) (take_all 32 s (omega arith))) })))
 
-pub passed_last : (s : List ℕ) (f x i : ℕ) → Seeking s f x i → f + 32 ≤ length s → length s - 32 ≤ i → Passed s f x (length s - 32)
-passed_last s f x i v h g =
-    let u : Seeking s f x (length s - 32) = seeking_back s f x i (length s - 32) v (omega arith) g in
-    record { low = u.low; high = omega arith; same = u.same; last = λ z. omega arith }
+  module _ (b : Bool) (h : i + 32 ≤ length s) (w : Without (take (i + 32 - i) (drop i s)) x b) where
+    block : Without (take 32 (drop i s)) x b
+    block = let z : i + 32 - i ≡ 32 = omega arith in rw z at w
 
-module _ (s : List ℕ) (f x r : ℕ) (p : Passed s f x r) where
-  passed_from : Seeking s f x r
-  passed_from = record { low = p.low; high = omega (arith, p.high); same = p.same }
+    pub passed_block : b ≡ false → Passed s x i
+    passed_block t = record { high = omega arith; same = omega (arith, v.same, seek_take x 32 (drop i s) (block.some t)) }
 
-  pub passed_none : (b : Bool) → Without (take (r + 32 - r) (drop r s)) x b → b ≡ true → Sought s f x (length s)
-  passed_none b w t =
-      let k : r + 32 - r ≡ 32 = omega arith in
-      let m : 32 ≤ seek x (drop r s) = seek_past x 32 (drop r s) (rw k at (w.none t)) (omega (arith, p.high, length-drop r s)) in
-      let z : r + 32 ≡ length s = p.last m in
-      seeking_end s f x (length s) (rw z at (seeking_part s f x r (r + 32) b passed_from (omega arith) p.high w t)) (omega arith)
+    pub seeking_block : b ≡ true → Seeking s x (i + 32)
+    seeking_block t = record { high = h; same = next (rw (drop-drop 32 i s) at (skipped x 32 (drop i s) (omega (arith, length-drop i s)) (block.none t))) } where
+      next : seek x (drop i s) ≡ 32 + seek x (drop (i + 32) s) → i + 32 + seek x (drop (i + 32) s) ≡ seek x s
+      next e = omega (arith, v.same)
+
+pub sought : (s : List ℕ) (x r : ℕ) → r ≡ seek x s → Sought s x r
+sought s x r e = record { at = e; most = omega (arith, seek_le x s) }
+
+-- the 32 bytes from a place on, or all that there are
+module _ (s : List ℕ) (x at k : ℕ) (p : Passed s x at) (h : at + 32 ≤ length s → k ≡ at + 32) (g : length s ≤ at + 32 → k ≡ length s) where
+  part_is : take (k - at) (drop at s) ≡ take 32 (drop at s)
+  part_is =
+      split≤ (at + 32) (length s)
+      (λ m. let z : k - at ≡ 32 = omega (arith, h m) in rw z)
+      (λ m. let z : k ≡ length s = g (omega arith) in
+      rw z (take_all (length s - at) (drop at s) (simp length-drop (omega arith)) ∙ sym (take_all 32 (drop at s) (simp length-drop (omega arith)))))
+
+  pub passed_found : (r : ℕ) → r ≡ seek x (take (k - at) (drop at s)) → Sought s x (at + r)
+  passed_found r e = sought s x (at + r) (omega (arith, p.same, rw part_is at e))
+
+-- some bytes looked at before the rest
+module _ (x m : ℕ) (s : List ℕ) (h : m ≤ length s) (at : ℕ) (e : at ≡ seek x (take m s)) where
+  pub soon_found : at < m → Sought s x at
+  soon_found g = sought s x at (e ∙ sym (seek_take x m s (omega (arith, length-take-le m s h))))
+
+  pub soon_past : m ≤ at → (r : ℕ) → Sought (drop m s) x r → Sought s x (m + r)
+  soon_past g r q = sought s x (m + r) (omega (arith, q.at, skipped x m s h (omega (arith, length-take-le m s h, seek_le x (take m s)))))

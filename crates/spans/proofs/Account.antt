@@ -22,7 +22,7 @@ use Rattle.rfcomm.specs.Pieces.{Piece}
 use Rattle.search.specs.Seek.{seek}
 use Rattle.spans.specs.Scan.{begun, end, ended, spans_n, rest_n, spans_of, rest_of, capped}
 use Rattle.spans.proofs.Scanning.{shorter}
-use Rattle.spans.proofs.Scans.{seek_le}
+use Rattle.search.proofs.Searching.{seek_le}
 use Rattle.spans.specs.Spans.{scanner, emptied, spans, unfinished}
 use Rattle.spans.specs.Account.{dropped_n, dropped_of, cleared_of, weighing, in_spans, dropped, cleared, left, taken_in}
 

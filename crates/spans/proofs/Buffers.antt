@@ -1,12 +1,13 @@
 -- The next span of a buffer, and the loops that count and write spans.
+use Rattle.std.specs.Prelude.{Option, Some, None}
+use Rattle.std.specs.Borrow.{Bor}
 use Prim.Native.Nat.{ℕ, suc, ◌+◌, ◌-◌, ◌*◌, ◌<◌, ◌≤◌}
 use mathlib.Core.Path.{◌≡◌, refl, sym, ap, ◌∙◌}
 use mathlib.Core.Bool.{true, false}
 use mathlib.Core.List.{List, ◌++◌}
 use native.Mathlib.Omega.{arith}
 use lib.ListN.{length, take, drop, length-drop}
-use lib.Seq.{drop-drop, length-take-le}
-use lib.Dec.{ltb}
+use lib.Seq.{length-take-le}
 use borrow.Author.Tests.{lt-ltb, le-ltb}
 use Rattle.laws.specs.Stores.{Writes, Emitting}
 use Rattle.laws.proofs.Stores.{emit_start, emit_turn, emit_room, emit_end}
@@ -17,136 +18,137 @@ use Rattle.search.specs.Steps.{Sought}
 use Rattle.spans.specs.Scan.{begun, ended, spans_of, rest_of}
 use Rattle.spans.proofs.Scanning.{spans_more, spans_none, rest_more, rest_none}
 use Rattle.spans.specs.Parts.{SpanAt, RestAt, After, NextIs, tally_one, tally_all, Room, CountedIs, tagged, WritePre, WroteIs}
-use Rattle.spans.specs.declared.Next.{Next}
-use Rattle.spans.specs.declared.Next.TheVariants.{Span as SpanFrom, Rest}
 use Rattle.spans.specs.declared.Tally.{Tally}
 
 -- ---- the next span of a buffer
 
-module _ (b : List ℕ) (pos s e : ℕ) (p : Sought b pos 0x3E s) (q : Sought b s 0x3C e) where
-  begins : drop (seek 0x3E (drop pos b)) (drop pos b) ≡ drop s b
-  begins = rw (drop-drop (seek 0x3E (drop pos b)) pos b, ← p.at)
+-- c is b from the first 3E on, and e the place of its first 3C
+module _ (b c : List ℕ) (s e : ℕ) (p : Sought b 0x3E s) (k : c ≡ drop s b) (q : Sought c 0x3C e) where
+  begins : c ≡ begun b
+  begins = k ∙ rw p.at
 
-  pub next_is_span : e < length b → NextIs b pos (SpanFrom s (e + 1))
-  unfolding After
-  next_is_span h =
-      let k : seek 0x3C (drop s b) ≡ e - s = omega (arith, q.at) in
-      let t : ltb (seek 0x3C (drop s b)) (length (drop s b)) ≡ true = lt-ltb (seek 0x3C (drop s b)) (length (drop s b)) (simp length-drop (omega (arith, q.at))) in
-      let z : suc (e - s) ≡ e + 1 - s = omega (arith, q.least) in
-      let y : s + (e + 1 - s) ≡ e + 1 = omega (arith, q.least) in
-      let u : ended (begun (drop pos b)) ≡ true = rw begins t in
+  within : length c ≤ length b
+  within = omega (arith, ap length k, length-drop s b)
+
+  span_is : e < length c → SpanAt b (take (e + 1) c) (drop (e + 1) c)
+  span_is h =
+      let t : ended c ≡ true = lt-ltb (seek 0x3C c) (length c) (omega (arith, q.at)) in
+      let u : ended (begun b) ≡ true = rw begins at t in
+      let z : suc (seek 0x3C c) ≡ e + 1 = omega (arith, q.at) in
       record {
-        after = record {
-          spans = rw (spans_more (drop pos b) u) (rw (begins, k, z, drop-drop (e + 1 - s) s b, y));
-          rest = rw (rest_more (drop pos b) u) (rw (begins, k, z, drop-drop (e + 1 - s) s b, y));
-          low = p.least;
-          some = omega (arith, q.least);
-          high = omega arith;
-        };
+        spans = rw (spans_more b u) (rw (← begins, z));
+        rest = rw (rest_more b u) (rw (← begins, z));
+        some = omega (arith, length-take-le (e + 1) c (omega arith));
+        fits = omega (arith, within, length-take-le (e + 1) c (omega arith), length-drop (e + 1) c);
       }
 
-  pub next_is_rest : length b ≤ e → NextIs b pos (Rest s)
+  rest_is : e ≡ length c → RestAt b c
+  rest_is h =
+      let t : ended c ≡ false = le-ltb (seek 0x3C c) (length c) (omega (arith, q.at)) in
+      let u : ended (begun b) ≡ false = rw begins at t in
+      record { spans = spans_none b u; rest = rest_none b u ∙ sym begins; fits = within }
+
+  pub next_is_span : (e ≡ length c → ⊥) → (w : Bor (List ℕ)) → w.now ≡ take (e + 1) c → (f : List ℕ) → f ≡ drop (e + 1) c → NextIs b (Some w) f
   unfolding After
-  next_is_rest h =
-      let t : ltb (seek 0x3C (drop s b)) (length (drop s b)) ≡ false = le-ltb (seek 0x3C (drop s b)) (length (drop s b)) (simp length-drop (omega (arith, q.at))) in
-      let u : ended (begun (drop pos b)) ≡ false = rw begins t in
-      record { after = record { spans = spans_none (drop pos b) u; rest = rest_none (drop pos b) u ∙ begins; high = p.most } }
+  next_is_span n w i f j = record { after = rw (i, j) (span_is (omega (arith, q.most))) }
 
-module _ (b : List ℕ) (pos : ℕ) (r : Next) (n : NextIs b pos r) where
-  pub span_at_law : (s e : ℕ) → r ≡ SpanFrom s e → SpanAt b pos s e
+  pub next_is_rest : e ≡ length c → NextIs b None c
   unfolding After
-  span_at_law s e q = rw q at n.after
+  next_is_rest h = record { after = rest_is h }
 
-  pub rest_at : (s : ℕ) → r ≡ Rest s → RestAt b pos s
+module _ (b : List ℕ) (r : Option (Bor (List ℕ))) (e : List ℕ) (n : NextIs b r e) where
+  pub span_at_law : (w : Bor (List ℕ)) → r ≡ Some w → SpanAt b w.now e
   unfolding After
-  rest_at s q = rw q at n.after
+  span_at_law w q = rw q at n.after
 
-  pub rest_high : (s : ℕ) → r ≡ Rest s → s ≤ length b
-  rest_high s q = (rest_at s q).high
+  pub rest_at : r ≡ None → RestAt b e
+  unfolding After
+  rest_at q = rw q at n.after
 
-  pub wire_long : (s e : ℕ) → r ≡ SpanFrom s e → length (take (e - s) (drop s b)) ≡ e - s
-  wire_long s e q = length-take-le (e - s) (drop s b) (simp length-drop (omega (arith, (span_at_law s e q).high)))
+pub next_smaller : (b : List ℕ) (r : Option (Bor (List ℕ))) (e : List ℕ) → NextIs b r e → (w : Bor (List ℕ)) → r ≡ Some w → length e < length b
+next_smaller b r e n w q = let a : SpanAt b w.now e = span_at_law b r e n w q in omega (arith, a.some, a.fits)
+
+none_is : (x : Option (Bor (List ℕ))) → ((w : Bor (List ℕ)) → x ≡ Some w → ⊥) → x ≡ None
+none_is None h = refl
+none_is (Some w) h = absurd (h w refl)
 
 -- ---- counting
 
-pub record Counting (b : List ℕ) (t₀ t : Tally) (pos : ℕ) : Type 0 where
-  pub within : pos ≤ length b
+-- so much is counted when e is still to be looked at
+pub record Counting (b : List ℕ) (t₀ t : Tally) (e : List ℕ) : Type 0 where
   pub fewer : t.count ≤ t.bytes
-  pub bytes : t.bytes ≤ t₀.bytes + 15 * pos
-  pub all : tally_all t (spans_of (drop pos b)) ≡ tally_all t₀ (spans_of b)
-  pub left : rest_of (drop pos b) ≡ rest_of b
+  pub bytes : t.bytes + 15 * length e ≤ t₀.bytes + 15 * length b
+  pub all : tally_all t (spans_of e) ≡ tally_all t₀ (spans_of b)
+  pub left : rest_of e ≡ rest_of b
+  pub fits : length e ≤ length b
 
-pub counting_start : (b : List ℕ) (t : Tally) (n : ℕ) → Room t n → Counting b t t 0
-counting_start b t n r = record { within = omega arith; fewer = r.fewer; bytes = omega arith; all = refl; left = refl }
+pub counting_start : (b : List ℕ) (t : Tally) (n : ℕ) → Room t n → Counting b t t b
+counting_start b t n r = record { fewer = r.fewer; bytes = omega arith; all = refl; left = refl; fits = omega arith }
 
-module _ (b : List ℕ) (t₀ t : Tally) (pos : ℕ) (v : Counting b t₀ t pos) (x : Next) (n : NextIs b pos x) where
-  pub counting_room : (s e : ℕ) → x ≡ SpanFrom s e → Room t₀ (length b) → Room t (length (take (e - s) (drop s b)))
-  counting_room s e q r =
-      let a : SpanAt b pos s e = span_at_law b pos x n s e q in
-      let m : length (take (e - s) (drop s b)) ≡ e - s = wire_long b pos x n s e q in
-      record { fewer = v.fewer; bytes = omega (arith, v.bytes, a.low, a.some, a.high, r.bytes) }
+module _ (b : List ℕ) (t₀ t : Tally) (e : List ℕ) (v : Counting b t₀ t e) (x : Option (Bor (List ℕ))) (f : List ℕ) (n : NextIs e x f) where
+  pub counting_room : (w : Bor (List ℕ)) → x ≡ Some w → Room t₀ (length b) → Room t (length w.now)
+  counting_room w q r = let a : SpanAt e w.now f = span_at_law e x f n w q in record { fewer = v.fewer; bytes = omega (arith, v.bytes, a.fits, r.bytes) }
 
-  pub counting_turn : (s e : ℕ) (r : Tally) → x ≡ SpanFrom s e → r ≡ tally_one t (take (e - s) (drop s b)) → Counting b t₀ r e
+  pub counting_turn : (w : Bor (List ℕ)) (r : Tally) → x ≡ Some w → r ≡ tally_one t w.now → Counting b t₀ r f
   unfolding tally_all tally_one
-  counting_turn s e r q k =
-      let a : SpanAt b pos s e = span_at_law b pos x n s e q in
-      let m : length (take (e - s) (drop s b)) ≡ e - s = wire_long b pos x n s e q in
+  counting_turn w r q k =
+      let a : SpanAt e w.now f = span_at_law e x f n w q in
       record {
-        within = a.high;
         fewer = rw k (omega (arith, v.fewer));
-        bytes = rw (k, m) (omega (arith, v.bytes, a.low, a.some));
+        bytes = rw k (omega (arith, v.bytes, a.some, a.fits));
         all = rw k (rw a.spans at v.all);
         left = sym a.rest ∙ v.left;
+        fits = omega (arith, v.fits, a.fits);
       }
 
-  pub counting_end : (s : ℕ) → x ≡ Rest s → CountedIs b t₀ (record { tally = t; rest = length b - s })
+  pub counting_end : ((w : Bor (List ℕ)) → x ≡ Some w → ⊥) → CountedIs b t₀ (record { tally = t; rest = length f })
   unfolding tally_all
-  counting_end s q =
-      let a : RestAt b pos s = rest_at b pos x n s q in
+  counting_end q =
+      let a : RestAt e f = rest_at e x f n (none_is x q) in
       record {
         all = rw a.spans at v.all;
-        left = sym (length-drop s b) ∙ ap length (sym a.rest ∙ v.left);
+        left = ap length (sym a.rest ∙ v.left);
         fewer = v.fewer;
-        bytes = omega (arith, v.bytes, v.within);
-        most = omega arith;
+        bytes = omega (arith, v.bytes);
+        most = omega (arith, v.fits, a.fits);
       }
 
 -- ---- writing
 
-pub record Writing (b : List ℕ) (rx time : ℕ) (d₀ : List ℕ) (at₀ : ℕ) (d : List ℕ) (pos at : ℕ) : Type 0 where
-  pub within : pos ≤ length b
-  pub left : rest_of (drop pos b) ≡ rest_of b
-  pub emits : Emitting d₀ at₀ (span_list (tagged rx time (spans_of b))) d at (span_list (tagged rx time (spans_of (drop pos b))))
+pub record Writing (b : List ℕ) (rx time : ℕ) (d₀ : List ℕ) (at₀ : ℕ) (d : List ℕ) (e : List ℕ) (at : ℕ) : Type 0 where
+  pub left : rest_of e ≡ rest_of b
+  pub fits : length e ≤ length b
+  pub emits : Emitting d₀ at₀ (span_list (tagged rx time (spans_of b))) d at (span_list (tagged rx time (spans_of e)))
 
-pub writing_start : (b : List ℕ) (rx time : ℕ) (d : List ℕ) (at : ℕ) → Writing b rx time d at d 0 at
-writing_start b rx time d at = record { within = omega arith; left = refl; emits = emit_start d at (span_list (tagged rx time (spans_of b))) }
+pub writing_start : (b : List ℕ) (rx time : ℕ) (d : List ℕ) (at : ℕ) → Writing b rx time d at d b at
+writing_start b rx time d at = record { left = refl; fits = omega arith; emits = emit_start d at (span_list (tagged rx time (spans_of b))) }
 
-module _ (b : List ℕ) (rx time : ℕ) (d₀ : List ℕ) (at₀ : ℕ) (d : List ℕ) (pos at : ℕ) (v : Writing b rx time d₀ at₀ d pos at) (x : Next) (n : NextIs b pos x) where
-  module _ (s e : ℕ) (q : x ≡ SpanFrom s e) where
-    next_item : span_list (tagged rx time (spans_of (drop pos b))) ≡ span_item (span rx time (take (e - s) (drop s b))) ++ span_list (tagged rx time (spans_of (drop e b)))
-    next_item = rw (span_at_law b pos x n s e q).spans (list_more (span rx time (take (e - s) (drop s b))) (tagged rx time (spans_of (drop e b))))
+module _ (b : List ℕ) (rx time : ℕ) (d₀ : List ℕ) (at₀ : ℕ) (d e : List ℕ) (at : ℕ) (v : Writing b rx time d₀ at₀ d e at) (x : Option (Bor (List ℕ))) (f : List ℕ) (n : NextIs e x f) where
+  module _ (w : Bor (List ℕ)) (q : x ≡ Some w) where
+    next_item : span_list (tagged rx time (spans_of e)) ≡ span_item (span rx time w.now) ++ span_list (tagged rx time (spans_of f))
+    next_item = rw (span_at_law e x f n w q).spans (list_more (span rx time w.now) (tagged rx time (spans_of f)))
 
-    pub writing_turn : (r : ℕ) (d' : List ℕ) → Writes d at (span_item (span rx time (take (e - s) (drop s b)))) r d' → Writing b rx time d₀ at₀ d' e r
-    writing_turn r d' w =
-        let a : SpanAt b pos s e = span_at_law b pos x n s e q in
+    pub writing_turn : (r : ℕ) (d' : List ℕ) → Writes d at (span_item (span rx time w.now)) r d' → Writing b rx time d₀ at₀ d' f r
+    writing_turn r d' k =
+        let a : SpanAt e w.now f = span_at_law e x f n w q in
         record {
-          within = a.high;
           left = sym a.rest ∙ v.left;
-          emits = emit_turn d₀ at₀ _ d at _ v.emits _ _ r d' next_item w;
+          fits = omega (arith, v.fits, a.fits);
+          emits = emit_turn d₀ at₀ _ d at _ v.emits _ _ r d' next_item k;
         }
 
     -- the room that the next item has
-    pub writing_room : WritePre b rx time d₀ at₀ → at + 14 + length (take (e - s) (drop s b)) ≤ length d
+    pub writing_room : WritePre b rx time d₀ at₀ → at + 14 + length w.now ≤ length d
     writing_room h =
-        let i : List ℕ = span_item (span rx time (take (e - s) (drop s b))) in
-        let g : at + length i ≤ length d = emit_room d₀ at₀ _ d at _ v.emits i (span_list (tagged rx time (spans_of (drop e b)))) next_item h.room in
-        omega (arith, length_span (span rx time (take (e - s) (drop s b))))
+        let i : List ℕ = span_item (span rx time w.now) in
+        let g : at + length i ≤ length d = emit_room d₀ at₀ _ d at _ v.emits i (span_list (tagged rx time (spans_of f))) next_item h.room in
+        omega (arith, length_span (span rx time w.now))
 
-  pub writing_end : (s : ℕ) → x ≡ Rest s → WroteIs b rx time d₀ at₀ (record { at = at; rest = length b - s }) d
-  writing_end s q =
-      let a : RestAt b pos s = rest_at b pos x n s q in
+  pub writing_end : ((w : Bor (List ℕ)) → x ≡ Some w → ⊥) → WroteIs b rx time d₀ at₀ (record { at = at; rest = length f }) d
+  writing_end q =
+      let a : RestAt e f = rest_at e x f n (none_is x q) in
       record {
         written = emit_end d₀ at₀ _ d at _ v.emits (rw a.spans list_none);
-        left = sym (length-drop s b) ∙ ap length (sym a.rest ∙ v.left);
-        most = omega arith;
+        left = ap length (sym a.rest ∙ v.left);
+        most = omega (arith, v.fits, a.fits);
       }

@@ -7,16 +7,18 @@ use native.Mathlib.Omega.{arith}
 use lib.ListN.{length, get_or, take, drop, length-append, length-drop}
 use lib.Seq.{length-take-le, take_all}
 use lib.Dec.{eqb}
+use mir.Val.{bool_byte}
 use borrow.Author.Tests.{eqb-true, eq-eqb, ne_eqb, lt-ltb, le-ltb}
 use Rattle.laws.proofs.Choice.{split_b, split≡, no_way}
 use Rattle.laws.proofs.Lists.{drop_step, drop_end}
 use Rattle.mdr.specs.Frame.{unpacks_of}
 use Rattle.spans.specs.Scan.{begun, end, ended, spans_n, rest_n, spans_of, rest_of}
 use Rattle.search.specs.Seek.{seek}
+use Rattle.search.proofs.Searching.{seek_le}
 use Rattle.spans.proofs.Scanning.{shorter, rest_more}
 use Rattle.spans.specs.Bytewise.{Quiet}
 use Rattle.spans.proofs.Bytewise.{no_end, no_start_law, closes_first}
-use Rattle.spans.specs.Parts.{tally_one, tally_all, Room, CountedIs}
+use Rattle.spans.specs.Parts.{bit, tally_one, tally_all, Room, CountedIs}
 use Rattle.search.specs.Steps.{Sought}
 use Rattle.spans.specs.Scans.{UpTo, ScanPre, Begins, AddedIs, FirstPre, FirstIs, FromPre, OpenPre, OpenIs, ScannedIs}
 use Rattle.spans.specs.declared.Tally.{Tally}
@@ -27,33 +29,7 @@ nil : (b : List ℕ) → length b ≡ 0 → b ≡ []
 nil [] e = refl
 nil (x ∷ b) e = absurd (omega arith)
 
-pub seek_le : (x : ℕ) (l : List ℕ) → seek x l ≤ length l
-unfolding seek
-seek_le x [] = omega arith
-seek_le x (y ∷ l) = split_b (eqb y x) (λ e. rw e (omega arith)) (λ e. rw e (omega (arith, seek_le x l)))
-
 -- ---- the first 3C
-
--- what is still to be searched, from i on
-pub record Ending (l : List ℕ) (i : ℕ) : Type 0 where
-  pub high : i ≤ length l
-  pub same : i + seek 0x3C (drop i l) ≡ seek 0x3C l
-
-pub ending_start : (l : List ℕ) → Ending l 0
-ending_start l = record { high = omega arith; same = omega arith }
-
-module _ (l : List ℕ) (i : ℕ) (v : Ending l i) where
-  pub ending_hit : i < length l → get_or l i 0 ≡ 0x3C → i ≡ seek 0x3C l
-  unfolding seek
-  ending_hit h e = omega (arith, rw (drop_step l i h, eq-eqb (get_or l i 0) 0x3C e) at v.same)
-
-  pub ending_miss : i < length l → (get_or l i 0 ≡ 0x3C → ⊥) → Ending l (i + 1)
-  unfolding seek
-  ending_miss h e = record { high = omega arith; same = omega (arith, rw (drop_step l i h, ne_eqb (get_or l i 0) 0x3C e) at v.same) }
-
-  pub ending_end : length l ≤ i → length l ≡ seek 0x3C l
-  unfolding seek
-  ending_end h = omega (arith, v.high, rw (drop_end l i h) at v.same)
 
 -- what stands before an x says where the first is
 seek_before : (x : ℕ) (l : List ℕ) (m : ℕ) → m < length l → get_or l m 0 ≡ x → seek x (take m l) ≡ seek x l
@@ -68,7 +44,7 @@ up_to_last l h e = record { high = omega arith; same = seek_before 0x3C l (lengt
 pub up_to_all : (l : List ℕ) → 0 < length l → UpTo l (length l - 1 + 1)
 up_to_all l h = let z : length l - 1 + 1 ≡ length l = omega arith in rw z (record { high = omega arith; same = rw (take_all (length l) l (omega arith)) })
 
-pub up_to_found : (l : List ℕ) (m : ℕ) → UpTo l m → (r : ℕ) → Sought (take (m - 0) l) 0 0x3C r → r ≡ seek 0x3C l
+pub up_to_found : (l : List ℕ) (m : ℕ) → UpTo l m → (r : ℕ) → Sought (take (m - 0) l) 0x3C r → r ≡ seek 0x3C l
 up_to_found l m u r s = let z : m - 0 ≡ m = omega arith in (rw z at s.at) ∙ omega (arith, u.same)
 
 -- ---- whether a part begins a span
@@ -81,26 +57,30 @@ begins_self x h g = record { yes = λ e z. eqb-true (get_or x 0 0) 0x3E e; no = 
 
 -- ---- one span more
 
-module _ (x : List ℕ) (t : Tally) where
-  pub one_known : t.frame ≡ true → record { count = t.count + 1; bytes = t.bytes + 14 + length x; frame = t.frame } ≡ tally_one t x
-  unfolding tally_one
-  one_known e = rw e
+bit_from : (b : Bool) → bool_byte b ≡ bit b
+bit_from true = refl
+bit_from false = refl
 
-  pub one_first : t.frame ≡ false → (b : Bool) → b ≡ unpacks_of x → record { count = t.count + 1; bytes = t.bytes + 14 + length x; frame = b } ≡ tally_one t x
+module _ (x : List ℕ) (t : Tally) where
+  pub one_first : t.frames ≡ 0 → (b : Bool) → b ≡ unpacks_of x → (r : ℕ) → r ≡ bool_byte b → record { count = t.count + 1; bytes = t.bytes + 14 + length x; frames = r } ≡ tally_one t x
   unfolding tally_one
-  one_first e b eb = rw (e, eb)
+  one_first e b eb r er = rw (eq-eqb t.frames 0 e, er, bit_from b, eb)
+
+  pub one_known : (t.frames ≡ 0 → ⊥) → record { count = t.count + 1; bytes = t.bytes + 14 + length x; frames = t.frames } ≡ tally_one t x
+  unfolding tally_one
+  one_known e = rw (ne_eqb t.frames 0 e)
 
 module _ (x : List ℕ) (h : ℕ) (t : Tally) where
-  pub added_known : t.frame ≡ true → AddedIs x h t (record { count = t.count + 1; bytes = t.bytes + 14 + h + length x; frame = true })
+  pub added_known : 0 < t.frames → AddedIs x h t (record { count = t.count + 1; bytes = t.bytes + 14 + h + length x; frames = t.frames })
   unfolding tally_one
   added_known e = record {
-    is = λ b l. (let k : t.bytes + 14 + length (b ++ x) ≡ t.bytes + 14 + h + length x = omega (arith, length-append b x) in rw (k, e));
+    is = λ b l. (let k : t.bytes + 14 + length (b ++ x) ≡ t.bytes + 14 + h + length x = omega (arith, length-append b x) in rw (k, ne_eqb t.frames 0 (λ z. omega arith)));
   }
 
-  pub added_first : ScanPre x h t → t.frame ≡ false → (r : Tally) → r ≡ tally_one t x → AddedIs x h t r
+  pub added_first : ScanPre x h t → t.frames ≤ 0 → (r : Tally) → r ≡ tally_one t x → AddedIs x h t r
   added_first q e r er = record { is = λ b l. er ∙ rw (nil b (l ∙ none)) } where
     none : h ≡ 0
-    none = split≡ h 0 (λ z. z) (λ z. no_way (q.known (omega arith)) e)
+    none = split≡ h 0 (λ z. z) (λ z. absurd (omega (arith, q.known (omega arith))))
 
 -- ---- the first span
 
@@ -212,7 +192,7 @@ module _ (x : List ℕ) (h : ℕ) (q : OpenPre x h) where
   pub open_held : 0 < h → OpenIs x h (h + length x)
   open_held g = record { is = λ b u l. rw (silent_rest x q.none b u (omega arith)) (omega (arith, length-append b x)) }
 
-  pub open_self : h ≤ 0 → (s : ℕ) → Sought x 0 0x3E s → OpenIs x h (length x - s)
+  pub open_self : h ≤ 0 → (s : ℕ) → Sought x 0x3E s → OpenIs x h (length x - s)
   open_self g s o = record {
     is = λ b u l. rw (nil b (omega arith), (no_start_law x (unbegun x q.none)).1) (omega (arith, o.at, length-drop (seek 0x3E x) x));
   }

@@ -1,41 +1,42 @@
 -- What the functions over one buffer promise.
-use Rattle.std.specs.Prelude.{ℕ, ◌+◌, ◌-◌, ◌*◌, ◌<◌, ◌≤◌, ◌≡◌, ◌||◌, List, [], ◌∷◌, map, length, take, drop}
+use Rattle.std.specs.Prelude.{Option, Some, None, ℕ, ◌+◌, ◌*◌, ◌<◌, ◌≤◌, ◌≡◌, Bool, cond, eqb, List, [], ◌∷◌, map, length}
+use Rattle.std.specs.Borrow.{Bor}
 use Rattle.laws.specs.Stores.{Writes}
 use Rattle.items.specs.Items.{Span, span_list}
 use Rattle.mdr.specs.Frame.{unpacks_of}
 use Rattle.spans.specs.Scan.{spans_of, rest_of}
-use Rattle.spans.specs.declared.Next.{Next}
-use Rattle.spans.specs.declared.Next.TheVariants.{Span as SpanFrom, Rest}
 use Rattle.spans.specs.declared.Tally.{Tally}
 use Rattle.spans.specs.declared.Counted.{Counted}
 use Rattle.spans.specs.declared.Wrote.{Wrote}
 
--- ---- what stands next in a buffer
+-- ---- the walk: a buffer b, the next span and what is then to be looked at
 
-pub record SpanAt (b : List ℕ) (pos start end : ℕ) : Type 0 where
-  pub spans : spans_of (drop pos b) ≡ take (end - start) (drop start b) ∷ spans_of (drop end b)
-  pub rest : rest_of (drop pos b) ≡ rest_of (drop end b)
-  pub low : pos ≤ start
-  pub some : start < end
-  pub high : end ≤ length b
+pub record SpanAt (b w e : List ℕ) : Type 0 where
+  pub spans : spans_of b ≡ w ∷ spans_of e
+  pub rest : rest_of b ≡ rest_of e
+  pub some : 0 < length w
+  pub fits : length w + length e ≤ length b
 
-pub record RestAt (b : List ℕ) (pos start : ℕ) : Type 0 where
-  pub spans : spans_of (drop pos b) ≡ []
-  pub rest : rest_of (drop pos b) ≡ drop start b
-  pub high : start ≤ length b
+pub record RestAt (b e : List ℕ) : Type 0 where
+  pub spans : spans_of b ≡ []
+  pub rest : rest_of b ≡ e
+  pub fits : length e ≤ length b
 
-unfoldable pub After : List ℕ → ℕ → Next → Type 0
-After b pos (SpanFrom start end) = SpanAt b pos start end
-After b pos (Rest start) = RestAt b pos start
+unfoldable pub After : List ℕ → Option (Bor (List ℕ)) → List ℕ → Type 0
+After b (Some w) e = SpanAt b w.now e
+After b None e = RestAt b e
 
-pub record NextIs (b : List ℕ) (pos : ℕ) (r : Next) : Type 0 where
-  pub after : After b pos r
+pub record NextIs (b : List ℕ) (r : Option (Bor (List ℕ))) (e : List ℕ) : Type 0 where
+  pub after : After b r e
 
 -- ---- counting
 
+abbrev pub bit : Bool → ℕ
+bit b = cond b 1 0
+
 -- one span more, of the wire w
 unfoldable pub tally_one : Tally → List ℕ → Tally
-tally_one t w = record { count = t.count + 1; bytes = t.bytes + 14 + length w; frame = t.frame || unpacks_of w }
+tally_one t w = record { count = t.count + 1; bytes = t.bytes + 14 + length w; frames = cond (eqb t.frames 0) (bit (unpacks_of w)) t.frames }
 
 unfoldable pub tally_all : Tally → List (List ℕ) → Tally
 tally_all t [] = t

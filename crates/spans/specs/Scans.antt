@@ -16,7 +16,7 @@ pub record UpTo (x : List ℕ) (r : ℕ) : Type 0 where
 -- behind h bytes held, which closed are counted by their length
 pub record ScanPre (x : List ℕ) (h : ℕ) (t : Tally) : Type 0 where
   pub room : Room t (h + length x)
-  pub known : 0 < h → t.frame ≡ true
+  pub known : 0 < h → 0 < t.frames
 
 -- something is held, or the part begins with 3E
 pub record Begins (x : List ℕ) (h : ℕ) (r : Bool) : Type 0 where

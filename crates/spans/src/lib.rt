@@ -8,30 +8,10 @@ ghost use Rattle.spans.specs.Parts.{NextIs, Room, tally_one, CountedIs, WritePre
 ghost use Rattle.spans.specs.Scans.{UpTo, Begins, ScanPre, AddedIs, FirstPre, FirstIs, FromPre, OpenPre, OpenIs, ScannedIs};
 
 use items::{Direction, put_span};
-use search::{find_byte, find_soon};
+use search::{find, find_few, find_soon};
 use unpacking::unpacks;
 
-// What stands next in a buffer: a span, with its start and its end; or what is left, from its start on.
-// Stays: each case says where something starts and neither is a failure, so that Option or Result would say less.
-#[derive(Clone, Copy)]
-pub enum Next {
-    Span(usize, usize),
-    Rest(usize),
-}
-
 // ---- the first 3C
-
-// The place of the first 3C in a few bytes; their number, if there is none.
-fn few_end(s: &[u8]) -> usize
-    ensures { result ≡ seek 0x3C s.now }
-{
-    for (i, &x) in s.iter().enumerate() {
-        if x == 0x3C {
-            return i;
-        }
-    }
-    s.len()
-}
 
 // How many bytes are to be searched for the first 3C: not the last, if it is one.
 fn before_end(s: &[u8]) -> usize
@@ -51,33 +31,45 @@ pub fn first_end(s: &[u8]) -> usize
     ensures { result ≡ seek 0x3C s.now }
 {
     if s.len() < 16 {
-        return few_end(s);
+        return find_few(s, 0x3C);
     }
     let m = before_end(s);
-    find_byte(&s[0..m], 0, 0x3C)
+    find(&s[0..m], 0x3C)
 }
 
-// ---- what stands next
+// ---- the walk
 
-// What stands next at or after a place.
-pub fn next_span(buffer: &[u8], pos: usize) -> Next
-    requires { pos ≤ length buffer.now }
-    ensures { NextIs buffer.now pos result }
-{
-    let start = find_soon(buffer, pos, 0x3E);
-    let end = find_soon(buffer, start, 0x3C);
-    if end < buffer.len() {
-        return Next::Span(start, end + 1);
+// The walk through the spans of a buffer: what of it is still to be looked at, and after the last span what is left.
+#[derive(Clone, Copy)]
+pub struct Spans<'a> {
+    pub rest: &'a [u8],
+}
+
+impl<'a> Spans<'a> {
+    // The next span.
+    pub fn next(&mut self) -> Option<&'a [u8]>
+        ensures { NextIs self.old.rest.now result self.new.rest.now }
+    {
+        let begun = &self.rest[find_soon::<2>(self.rest, 0x3E)..];
+        let end = find_soon::<2>(begun, 0x3C);
+        if end == begun.len() {
+            self.rest = begun;
+            return None;
+        }
+        let (span, rest) = begun.split_at(end + 1);
+        self.rest = rest;
+        Some(span)
     }
-    Next::Rest(start)
 }
 
-// What is counted of spans: how many, the bytes of their list, and whether one of them unpacks.
+// ---- counting
+
+// What is counted of spans: how many, the bytes of their list, and how many are known to unpack: once one does no other is tried.
 #[derive(Clone, Copy)]
 pub struct Tally {
     pub count: usize,
     pub bytes: usize,
-    pub frame: bool,
+    pub frames: usize,
 }
 
 // What is counted of a buffer, and how long the rest of it is.
@@ -95,32 +87,27 @@ fn add_span(t: Tally, wire: &[u8]) -> Tally
     Tally {
         count: t.count + 1,
         bytes: t.bytes + 14 + wire.len(),
-        frame: t.frame || unpacks(wire),
+        frames: if t.frames == 0 {
+            usize::from(unpacks(wire))
+        } else {
+            t.frames
+        },
     }
 }
 
 // Counts the spans of a buffer.
-// Stays: this walk and write_part share next_span; one walk for both takes a law of what is done with a span, and is longer.
 pub fn count_part(buffer: &[u8], t: Tally) -> Counted
     requires { Room t (length buffer.now) }
     ensures { CountedIs buffer.now t result }
 {
     let mut sum = t;
-    let mut pos = 0;
-    loop {
-        let x = next_span(buffer, pos);
-        match x {
-            Next::Rest(start) => {
-                return Counted {
-                    tally: sum,
-                    rest: buffer.len() - start,
-                };
-            }
-            Next::Span(start, end) => {
-                sum = add_span(sum, &buffer[start..end]);
-                pos = end;
-            }
-        }
+    let mut spans = Spans { rest: buffer };
+    while let Some(wire) = spans.next() {
+        sum = add_span(sum, wire);
+    }
+    Counted {
+        tally: sum,
+        rest: spans.rest.len(),
     }
 }
 
@@ -154,11 +141,11 @@ fn add_behind(t: Tally, h: usize, part: &[u8]) -> Tally
     requires { ScanPre part.now h t }
     ensures { AddedIs part.now h t result }
 {
-    if t.frame {
+    if 0 < t.frames {
         return Tally {
             count: t.count + 1,
             bytes: t.bytes + 14 + h + part.len(),
-            frame: true,
+            frames: t.frames,
         };
     }
     add_span(t, part)
@@ -200,7 +187,7 @@ fn open_rest(part: &[u8], h: usize) -> usize
     if 0 < h {
         return h + n;
     }
-    n - find_soon(part, 0, 0x3E)
+    n - find_soon::<2>(part, 0x3E)
 }
 
 // Counts the spans of h bytes held and a part behind them. If something is held, a span has unpacked before, so that
@@ -242,21 +229,13 @@ pub fn write_part(buffer: &[u8], direction: Direction, ms: u64, out: &mut [u8], 
     requires { WritePre buffer.now (rx_of direction) ms out.old at }
     ensures { WroteIs buffer.now (rx_of direction) ms out.old at result out.new }
 {
-    let mut pos = 0;
     let mut to = at;
-    loop {
-        let x = next_span(buffer, pos);
-        match x {
-            Next::Rest(start) => {
-                return Wrote {
-                    at: to,
-                    rest: buffer.len() - start,
-                };
-            }
-            Next::Span(start, end) => {
-                to = put_span(out, to, direction, ms, &buffer[start..end]);
-                pos = end;
-            }
-        }
+    let mut spans = Spans { rest: buffer };
+    while let Some(wire) = spans.next() {
+        to = put_span(out, to, direction, ms, wire);
+    }
+    Wrote {
+        at: to,
+        rest: spans.rest.len(),
     }
 }

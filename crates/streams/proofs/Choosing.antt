@@ -8,7 +8,8 @@ use native.Mathlib.Omega.{arith}
 use native.Mathlib.Numerals.{add-one}
 use lib.ListN.{length, get_or, set, replicate, length-set}
 use lib.Seq.{get_or-set_other}
-use lib.Dec.{eqb}
+use lib.Dec.{eqb, ltb}
+use borrow.Author.Tests.{lt-ltb, le-ltb}
 use Rattle.laws.proofs.Choice.{split≡, no_way}
 use Rattle.words.specs.Words.{word}
 use Rattle.words.specs.Front.{Front}
@@ -153,14 +154,14 @@ module _ (f w₀ : List ℕ) (n : ℕ) (channel : Channel) (w : List ℕ) (tried
           choosing_laid = laid_later f w₀ n t w v.front v.long p d ep
 
           module _ (u : List ℕ) (s : Sums) (c : CountIs f w p u s) where
-            has_is : s.tally.frame ≡ has_frame (table_pieces f w₀ n) d
+            has_is : ltb 0 s.tally.frames ≡ has_frame (table_pieces f w₀ n) d
             unfolding has_frame
             has_is = rw (all_same f w₀ n t w v.front p d ep) at c.frame
 
-            has_not : s.tally.frame ≡ false → has_frame (table_pieces f w₀ n) d ≡ false
-            has_not g = sym has_is ∙ g
+            has_not : s.tally.frames ≤ 0 → has_frame (table_pieces f w₀ n) d ≡ false
+            has_not g = sym has_is ∙ le-ltb 0 s.tally.frames g
 
-            pub choosing_bad : s.tally.frame ≡ false → length u ≡ length w → (o : List Bool) → o ≡ set tried d true → Choosing f w₀ n channel u o (i + 1)
+            pub choosing_bad : s.tally.frames ≤ 0 → length u ≡ length w → (o : List Bool) → o ≡ set tried d true → Choosing f w₀ n channel u o (i + 1)
             choosing_bad g k o es =
                 rw es (next u (set tried d true) k (front_plan f u w n d p ep c.front) (length-set tried d true ∙ v.size)
                 (λ x y. split≡ x d (λ z. rw z (has_not g)) (λ z. v.bad x (sym (get_or-set_other tried d x true false z) ∙ y)))
@@ -169,11 +170,11 @@ module _ (f w₀ : List ℕ) (n : ℕ) (channel : Channel) (w : List ℕ) (tried
             pub choosing_account : Accountable d s
             choosing_account = accountable f w p u s c d (omega (arith, choosing_small))
 
-            pub choosing_found : s.tally.frame ≡ true → (r : Stream) → r ≡ stream_summed d s → Chooses f w₀ n channel u (Some r)
+            pub choosing_found : 0 < s.tally.frames → (r : Stream) → r ≡ stream_summed d s → Chooses f w₀ n channel u (Some r)
             unfolding choice_of stream_summed plan_of
             choosing_found g r er =
                 let a : stream_summed d s ≡ stream_of (table_pieces f w₀ n) d = stream_summed_law f w p u s c (table_pieces f w₀ n) d (all_same f w₀ n t w v.front p d ep) in
-                let o : chosen (channel_of channel) (table_pieces f w₀ n) ≡ some d = sym v.same ∙ more ∙ rw (fit true (sym has_is ∙ g)) in
+                let o : chosen (channel_of channel) (table_pieces f w₀ n) ≡ some d = sym v.same ∙ more ∙ rw (fit true (sym has_is ∙ lt-ltb 0 s.tally.frames g)) in
                 rw er (record {
                   chooses = rw o (ap Some a);
                   front = front_then (below f n) u w w₀ (front_plan f u w n d p ep c.front) v.front;

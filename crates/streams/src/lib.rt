@@ -88,7 +88,7 @@ pub fn choose_dlci(file: &[u8], w: &mut [u8], n: usize, channel: Option<u8>) -> 
         tried[k] = true;
         let p = plan(q, n, d);
         let s = count_spans(file, w, p);
-        if s.tally.frame {
+        if 0 < s.tally.frames {
             return Some(stream_of(d, s));
         }
     }

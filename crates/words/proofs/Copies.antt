@@ -26,18 +26,19 @@ module _ (src out₀ : List ℕ) (at : ℕ) (out : List ℕ) (i : ℕ) (s : Emit
       let z : i ≡ length src = omega arith in
       rw z at (emit_end out₀ at src out (at + i) (drop i src) s (drop_end src i h))
 
-pub numbering_start : (v width : ℕ) (out : List ℕ) (at : ℕ) → Numbering v width out at out at v
+pub numbering_start : (v width : ℕ) (out : List ℕ) (at : ℕ) → Numbering v width out at out (at + 0) v
 numbering_start v width out at =
+    let y : at + 0 ≡ at = omega arith in
     let z : at + width - at ≡ width = omega arith in
-    record { within = omega arith; emits = rw z (emit_start out at (le width v)) }
+    rw y (record { within = omega arith; emits = rw z (emit_start out at (le width v)) })
 
 le_step : (k v : ℕ) → 0 < k → le k v ≡ v % 256 ∷ le (k - 1) (v / 256)
 le_step zero v h = absurd (omega arith)
 le_step (suc k) v h = let z : suc k - 1 ≡ k = omega arith in rw z
 
 module _ (v width : ℕ) (out₀ : List ℕ) (at₀ : ℕ) (out : List ℕ) (at rest : ℕ) (c : Numbering v width out₀ at₀ out at rest) where
-  pub numbering_turn : at < at₀ + width → Numbering v width out₀ at₀ (set out at (rest % 256)) (at + 1) (rest / 256)
-  numbering_turn h =
+  turn : at < at₀ + width → Numbering v width out₀ at₀ (set out at (rest % 256)) (at + 1) (rest / 256)
+  turn h =
       let z : at₀ + width - at - 1 ≡ at₀ + width - (at + 1) = omega arith in
       record {
         within = omega arith;
@@ -49,3 +50,10 @@ module _ (v width : ℕ) (out₀ : List ℕ) (at₀ : ℕ) (out : List ℕ) (at 
       let z : at₀ + width - at ≡ 0 = omega arith in
       let e : at ≡ at₀ + width = omega (arith, c.within) in
       rw e at (emit_end out₀ at₀ (le width v) out at (le (at₀ + width - at) rest) c.emits (rw z))
+
+-- the i-th byte
+pub numbering_turn : (v width : ℕ) (out₀ : List ℕ) (at₀ : ℕ) (out : List ℕ) (i rest : ℕ) → Numbering v width out₀ at₀ out (at₀ + i) rest
+    → i < width → Numbering v width out₀ at₀ (set out (at₀ + i) (rest % 256)) (at₀ + (i + 1)) (rest / 256)
+numbering_turn v width out₀ at₀ out i rest c h =
+    let k : at₀ + (i + 1) ≡ at₀ + i + 1 = omega arith in
+    rw k (turn v width out₀ at₀ out (at₀ + i) rest c (omega arith))

@@ -18,12 +18,13 @@ use Rattle.items.proofs.Writing.{spans_none, spans_more, spans_append, length_he
 use Rattle.rfcomm.specs.PieceTable.{piece_at}
 use Rattle.spans.specs.Scan.{spans_of, rest_of}
 use Rattle.search.specs.Seek.{seek}
+use Rattle.search.proofs.Searching.{seek_le}
 use Rattle.spans.specs.Spans.{scanner, emptied, spans}
 use Rattle.spans.specs.Parts.{tagged, WritePre as PartPre, WroteIs}
 use Rattle.spans.specs.Scans.{Begins}
 use Rattle.spans.specs.Bytewise.{AllQuiet}
 use Rattle.spans.proofs.Bytewise.{quiet_emptied, closes_first}
-use Rattle.spans.proofs.Scans.{seek_le, silent, rest_le, all_left}
+use Rattle.spans.proofs.Scans.{silent, rest_le, all_left}
 use Rattle.spans.specs.declared.Wrote.{Wrote}
 use Rattle.split.specs.Last.{lastn}
 use Rattle.split.specs.Rows.{row_of, piece, dlci_at, tail_at, len_at, bytes_at, held_in, held_of, stream_to, opened, Fits, joined, capped_length, ahead, all}

@@ -26,11 +26,11 @@ count_spans-s-requires c = choosing_laid _ _ _ _ _ _ _ c.loop-i.invariant c.requ
 pub stream_of-requires : goal.stream_of-requires
 stream_of-requires c = choosing_account _ _ _ _ _ _ _ c.loop-i.invariant c.requires c.loop-i-test.true _ c.get32-d.ensures _ c.on_channel.ensures c.if-not-on_channel.false _ c.plan-p.ensures _ _ c.count_spans-s.ensures
 
-pub returns-then-s : goal.returns-then-s
-returns-then-s c = choosing_found _ _ _ _ _ _ _ c.loop-i.invariant c.requires c.loop-i-test.true _ c.get32-d.ensures _ c.on_channel.ensures c.if-not-on_channel.false _ c.plan-p.ensures _ _ c.count_spans-s.ensures c.if-s.true _ c.stream_of.ensures
+pub returns-then-s-gt0 : goal.returns-then-s-gt0
+returns-then-s-gt0 c = choosing_found _ _ _ _ _ _ _ c.loop-i.invariant c.requires c.loop-i-test.true _ c.get32-d.ensures _ c.on_channel.ensures c.if-not-on_channel.false _ c.plan-p.ensures _ _ c.count_spans-s.ensures c.if-s-gt0.true _ c.stream_of.ensures
 
 pub loop-i-preserved : goal.loop-i-preserved
-loop-i-preserved c = choosing_bad _ _ _ _ _ _ _ c.loop-i.invariant c.requires c.loop-i-test.true _ c.get32-d.ensures _ c.on_channel.ensures c.if-not-on_channel.false _ c.plan-p.ensures _ _ c.count_spans-s.ensures c.if-s.false (omega arith) _ refl
+loop-i-preserved c = choosing_bad _ _ _ _ _ _ _ c.loop-i.invariant c.requires c.loop-i-test.true _ c.get32-d.ensures _ c.on_channel.ensures c.if-not-on_channel.false _ c.plan-p.ensures _ _ c.count_spans-s.ensures c.if-s-gt0.false (omega arith) _ refl
 
 pub returns : goal.returns
 returns c = choosing_end _ _ _ _ _ _ _ c.loop-i.invariant c.loop-i-test.false
