@@ -41,7 +41,7 @@ impl<'a> Begun<'a> {
     }
 
     // The next packet with the key of packet i that has bytes; the count of packets if there is none.
-    // Stays: a number for none, since every walk ends at a packet that comes no later than the count, and so tests for both at once.
+    // Stays: a number for none, since joining ends at a packet that comes no later than the count, and so tests for both at once.
     fn later(self, i: usize) -> usize
         requires { i < self.upto }
         ensures { word self.entry.links.now (2 * i) ≡ result + 1 }

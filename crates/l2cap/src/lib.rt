@@ -117,6 +117,7 @@ fn put_pdu(w: &mut [u8], at: usize, p: Row)
 
 // Joins need bytes of what packet first has begun, with the packets before upto, at the start of rest: what of work is behind the
 // packets' rows and the payloads joined so far. The packets' links end it.
+// Stays: work in two parts, since of work that one function splits twice no more than the length is known at its end.
 fn join(file: &[u8], rows: &[u8], rest: &mut [u8], first: usize, upto: usize, need: usize) -> usize
     requires { Join file.now rows.now rest.old (length file.now / 4) first upto need }
     ensures { Writes rest.old 0 (take need (begun file.now rows.now first upto)) result rest.new }
