@@ -135,6 +135,8 @@ fn join(file: &[u8], rows: &[u8], rest: &mut [u8], first: usize, upto: usize, ne
 
 // Packet i completes the PDU that packet first began: its row, and its bytes at the end of the joined ones if they have to be
 // joined. Returns their end.
+// Stays: file, w and t side by side here and below; w is written, and with it as a &mut in a struct (tried in measuring) a method promises
+// too that the borrow is the same.
 fn finish(file: &[u8], w: &mut [u8], t: Tables, i: usize, first: usize, need: usize) -> usize
     requires { Finish file.now w.old (length file.now / 4) t i first need }
     ensures { Finished file.now w.old (length file.now / 4) t i first need w.new result }

@@ -105,6 +105,7 @@ pub enum UnpackError {
 
 // What a look at a frame tells: its type byte, its sequence number, its payload's length, and the payload's first byte,
 // 0 if it has none.
+// Stays: 0 and no Option, since a name prints 00 there; size says whether there is a byte.
 #[derive(Clone, Copy, PartialEq, Eq, Debug)]
 pub struct Frame {
     pub kind: u8,

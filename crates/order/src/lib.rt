@@ -25,6 +25,7 @@ pub enum OrderError {
 // ---- the list written
 
 // Puts the places of the names of a list into the first words, and returns how many they are.
+// Stays: Lent is asked here and below: it says how long the output is that is written, and the list has its own type.
 fn place_names(names: Names, out: &mut [u8]) -> usize
     requires { Lent names out.old }
     ensures { Placed names.entry result out.new }

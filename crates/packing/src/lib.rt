@@ -88,6 +88,7 @@ struct Ran {
 }
 
 // Blocks of sixteen in which every byte is escaped, as long as there are such.
+// Stays: source, output and place side by side, as in every function that writes here; a struct of them would be made for each call.
 fn escape_run(src: &[u8], out: &mut [u8], from: usize) -> Ran
     requires { from + length (escape src.now) ≤ length out.old }
     ensures { RanIs src.now out.old from result out.new }

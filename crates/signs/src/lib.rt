@@ -14,6 +14,7 @@ use trace::{Format, Record};
 use words::{field16, get_be32};
 
 // How often a sign comes, and the byte at which the record starts that shows it first; 0 if none does.
+// Stays: two numbers, since the calls tell both as they stand, the 0 too; many says whether there is a first.
 #[derive(Clone, Copy)]
 pub struct Gap {
     pub many: u64,

@@ -72,6 +72,7 @@ fn hand_back(w: &mut [u8], p: Plan, i: usize)
 }
 
 // Tells every piece the length held after the last piece of its key, from the last piece to the first.
+// Stays: SpreadPre is asked here and below, of work that is written, where a view's ghost field has work as it is.
 fn spread_back(w: &mut [u8], p: Plan)
     requires { SpreadPre w.old p }
     ensures { Spread w.old p w.new }

@@ -45,7 +45,7 @@ impl<'a> Head<'a> {
         fill(part.bytes, out, self.len);
     }
 
-    // The payload's first byte, 0 if it has none.
+    // The payload's first byte, 0 if it has none, as in mdr's Frame.
     pub fn first_byte(self) -> u8
         ensures { result ≡ get_or (payload self.entry) 0 0 }
     {

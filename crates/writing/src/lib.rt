@@ -16,6 +16,7 @@ use split::Pieces;
 use words::{get32, get64, part, put_le};
 
 // Writes the span of the h bytes held and the first k bytes of piece i.
+// Stays: piece, output and place side by side here and below, since each step gives the next another place.
 fn write_closed(s: Pieces, i: usize, out: &mut [u8], at: usize, h: usize, k: usize) -> usize
     requires { ClosePre s.file.now s.w.now s.plan i out.old at h k }
     ensures { Writes out.old at (closed_item s.entry.file.now s.entry.w.now s.entry.plan i h k) result out.new }
