@@ -66,9 +66,9 @@ module _ (x : Excerpt) (index rx : ℕ) where
         let t : key % 2 ≡ rx = omega (arith, w.1) in
         record {
           shows = λ f s time.
-            let d : take (le16 b 2) (drop 4 b) ≡ take len (drop (x.place + 4) f) =
-            ap (λ (l : List ℕ). take (le16 b 2) (drop 4 l)) (sym s.same) ∙ part_part f x.place (length b) 4 (le16 b 2) (omega arith) ∙ rw (el, ev) in
-            rw (le-leb (4 + le16 b 2) (length b) (omega arith), d, l, t, et, eh);
+              let d : take (le16 b 2) (drop 4 b) ≡ take len (drop (x.place + 4) f) =
+              ap (λ (l : List ℕ). take (le16 b 2) (drop 4 l)) (sym s.same) ∙ part_part f x.place (length b) 4 (le16 b 2) (omega arith) ∙ rw (el, ev) in
+              rw (le-leb (4 + le16 b 2) (length b) (omega arith), d, l, t, et, eh);
           held = omega arith;
         }
 

@@ -21,7 +21,8 @@ pub struct Fragment {
 }
 
 // An adapter's index and a handle field as 2 * link + direction.
-// Stays: the direction is a number here and below, a bit of the key as of btsnoop's flags; a bool would be made of one bit to be the other.
+// Stays: the index and the direction are two numbers, here and in `Excerpt`: the direction is a bit of btsnoop's flags and of the key, so a bool would be
+// made of one bit to be the other, and a struct of both would be made anew by each caller to be taken apart here.
 fn key_of(index: u32, handle: u16, rx: u32) -> u32
     requires { (index < 65536) × (rx ≤ 1) }
     ensures { result ≡ 2 * link_of index (handle % 4096) + rx }

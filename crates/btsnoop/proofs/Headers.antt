@@ -1,5 +1,5 @@
 -- What reading the header answers.
-use Rattle.std.specs.Prelude.{Ok, Err}
+use Rattle.std.specs.Prelude.{Option, Some, None, Ok, Err}
 use Prim.Native.Nat.{ℕ, ◌<◌, ◌≤◌}
 use mathlib.Core.Path.{◌≡◌, refl, sym, ◌∙◌}
 use mathlib.Core.Bool.{Bool, true, false}
@@ -7,13 +7,15 @@ use mathlib.Core.List.{List}
 use native.Mathlib.Omega.{arith}
 use lib.ListN.{length, take}
 use lib.Dec.{leb, eqb}
-use borrow.Author.Tests.{le-leb, lt-leb, leb-true}
+use borrow.Author.Tests.{le-leb, lt-leb, leb-true, ne_eqb}
 use Rattle.laws.proofs.Choice.{split_b, no_way}
 use Rattle.laws.specs.Keys.{eq_k}
 use Rattle.laws.specs.Numbers.{be32}
 use Rattle.btsnoop.specs.Header.{magic, is_btsnoop, datalink, is_datalink}
 use Rattle.btsnoop.specs.declared.HeaderError.TheVariants.{NotBtsnoop, Datalink}
-use Rattle.btsnoop.specs.Headers.{header_of}
+use Rattle.btsnoop.specs.declared.Datalink as link
+use Rattle.btsnoop.specs.declared.Datalink.TheVariants.{Hci, H4, Monitor}
+use Rattle.btsnoop.specs.Headers.{datalink_by, datalink_of, header_of}
 
 module _ (f : List ℕ) where
   pub begins_short : length f < 16 → false ≡ is_btsnoop f
@@ -41,14 +43,37 @@ module _ (f : List ℕ) (t : Bool) (e : t ≡ is_btsnoop f) where
   unfolding header_of
   header_not q = rw (sym e ∙ q)
 
-  module _ (q : t ≡ true) (n : ℕ) (m : n ≡ be32 f 12) (s : Bool) (d : s ≡ is_datalink n) where
-    pub header_datalink : s ≡ true → Ok n ≡ header_of f
-    unfolding header_of datalink
-    header_datalink z = rw (sym e ∙ q, ← m, sym d ∙ z)
+  module _ (q : t ≡ true) (n : ℕ) (m : n ≡ be32 f 12) (o : Option link.Datalink) (d : o ≡ datalink_of n) where
+    pub header_datalink : (x : link.Datalink) → o ≡ Some x → Ok x ≡ header_of f
+    unfolding header_of datalink datalink_of
+    header_datalink x z = split_b (is_datalink n)
+        (λ s. let k : Some x ≡ Some (datalink_by n) = sym z ∙ d ∙ rw s in let y : x ≡ datalink_by n = cc in rw (sym e ∙ q, ← m, s, y))
+        (λ s. let k : Some x ≡ None = sym z ∙ d ∙ rw s in let y : ◌≡◌ {A = ℕ} 0 1 = cc in absurd (omega arith))
 
-    pub header_other : s ≡ false → Err (Datalink n) ≡ header_of f
-    unfolding header_of datalink
-    header_other z = rw (sym e ∙ q, ← m, sym d ∙ z)
+    pub header_other : o ≡ None → Err (Datalink n) ≡ header_of f
+    unfolding header_of datalink datalink_of
+    header_other z = split_b (is_datalink n)
+        (λ s. let k : Some (datalink_by n) ≡ None = (sym (d ∙ rw s)) ∙ z in let y : ◌≡◌ {A = ℕ} 0 1 = cc in absurd (omega arith))
+        (λ s. rw (sym e ∙ q, ← m, s))
+
+-- ---- the datalink of a number
+
+module _ (n : ℕ) where
+  pub datalink_hci : n ≡ 1001 → Some Hci ≡ datalink_of n
+  unfolding datalink_of is_datalink
+  datalink_hci e = rw e
+
+  pub datalink_h4 : n ≡ 1002 → Some H4 ≡ datalink_of n
+  unfolding datalink_of is_datalink
+  datalink_h4 e = rw e
+
+  pub datalink_monitor : n ≡ 2001 → Some Monitor ≡ datalink_of n
+  unfolding datalink_of is_datalink
+  datalink_monitor e = rw e
+
+  pub datalink_none : (n ≡ 1001 → ⊥) → (n ≡ 1002 → ⊥) → (n ≡ 2001 → ⊥) → None ≡ datalink_of n
+  unfolding datalink_of is_datalink
+  datalink_none a b c = rw (ne_eqb n 1001 a, ne_eqb n 1002 b, ne_eqb n 2001 c)
 
 -- ---- what a header that was read tells
 
@@ -70,11 +95,11 @@ other_link f n e =
     (λ b. let q = rw (a, b) at e in (a, b, (let z : n ≡ datalink f = cc in z))))
     (λ a. let q = rw a at e in let z : ◌≡◌ {A = ℕ} 0 1 = cc in absurd (omega arith))
 
-pub known_link : (f : List ℕ) (n : ℕ) → header_of f ≡ Ok n → (is_btsnoop f ≡ true) × (is_datalink (datalink f) ≡ true) × (n ≡ datalink f)
+pub known_link : (f : List ℕ) (x : link.Datalink) → header_of f ≡ Ok x → (is_btsnoop f ≡ true) × (is_datalink (datalink f) ≡ true) × (x ≡ datalink_by (datalink f))
 unfolding header_of
-known_link f n e =
+known_link f x e =
     split_b (is_btsnoop f)
     (λ a. split_b (is_datalink (datalink f))
-    (λ b. let q = rw (a, b) at e in (a, b, (let z : n ≡ datalink f = cc in z)))
+    (λ b. let q = rw (a, b) at e in (a, b, (let z : x ≡ datalink_by (datalink f) = cc in z)))
     (λ b. let q = rw (a, b) at e in let z : ◌≡◌ {A = ℕ} 0 1 = cc in absurd (omega arith)))
     (λ a. let q = rw a at e in let z : ◌≡◌ {A = ℕ} 0 1 = cc in absurd (omega arith))

@@ -1,15 +1,19 @@
 -- Reading the packet of one record.
 use Rattle.std.specs.Prelude.{Option, None}
 use Prim.Native.Nat.{ℕ, ◌/◌, ◌%◌, ◌<◌, ◌≤◌}
-use mathlib.Core.Path.{◌≡◌}
+use mathlib.Core.Path.{◌≡◌, refl, fun_ext}
 use native.Mathlib.Omega.{arith}
 use lib.ListN.{length}
 use borrow.Author.Tests.{eq-eqb, ne_eqb}
+use Rattle.laws.proofs.Choice.{split≡}
 use Rattle.laws.specs.Numbers.{be32}
 use Rattle.acl.proofs.Reading.{after_end, after_stands}
 use Rattle.acl.specs.Reading.{AclIs, After, H4Is, bytes_in, shown}
 use Rattle.acl.specs.declared.Fragment.{Fragment}
 use Rattle.acl.specs.declared.excerpt.Excerpt.{Excerpt}
+use Rattle.btsnoop.specs.Headers.{number_of, datalink_by}
+use Rattle.btsnoop.specs.declared.Datalink.{Datalink}
+use Rattle.btsnoop.specs.declared.Datalink.TheVariants.{Hci, H4, Monitor}
 use Rattle.btsnoop.specs.Packets.{milliseconds, hci_packet, monitor_packet, packet_of}
 use Rattle.btsnoop.specs.Reading.{HciIs, MonitorIs, RecordIs}
 
@@ -29,32 +33,49 @@ module _ (x : Excerpt) (flags : ℕ) where
   unfolding monitor_packet shown
   monitor_none n m = record { shows = λ f s time. rw (ne_eqb (flags % 65536) 4 n, ne_eqb (flags % 65536) 5 m); held = tt }
 
-  module _ (datalink : ℕ) where
-    pub hci_skip : flags / 2 % 2 ≡ 1 → HciIs x datalink flags None
-    unfolding hci_packet shown
-    hci_skip e = record { shows = λ f s time. rw (eq-eqb (flags / 2 % 2) 1 e); held = tt }
+  pub hci_skip : (d : Datalink) → flags / 2 % 2 ≡ 1 → HciIs x d flags None
+  unfolding hci_packet shown
+  hci_skip d e = record { shows = λ f s time. rw (eq-eqb (flags / 2 % 2) 1 e); held = tt }
 
-    pub hci_h4 : (flags / 2 % 2 ≡ 1 → ⊥) → datalink ≡ 1002 → (r : Option Fragment) → H4Is x (flags % 2) r → HciIs x datalink flags r
+  module _ (n : flags / 2 % 2 ≡ 1 → ⊥) where
+    pub hci_h4 : (d : Datalink) → d ≡ H4 → (r : Option Fragment) → H4Is x (flags % 2) r → HciIs x d flags r
     unfolding hci_packet
-    hci_h4 n e r a = record { shows = λ f s time. rw (ne_eqb (flags / 2 % 2) 1 n, eq-eqb datalink 1002 e) (a.shows f s time); held = a.held }
+    hci_h4 d q r a = record { shows = λ f s time. rw (q, ne_eqb (flags / 2 % 2) 1 n) (a.shows f s time); held = a.held }
 
-    pub hci_plain : (flags / 2 % 2 ≡ 1 → ⊥) → (datalink ≡ 1002 → ⊥) → (r : Option Fragment) → AclIs x 0 (flags % 2) r → HciIs x datalink flags r
+    pub hci_plain : (d : Datalink) → (d ≡ H4 → ⊥) → (r : Option Fragment) → AclIs x 0 (flags % 2) r → HciIs x d flags r
     unfolding hci_packet
-    hci_plain n m r a = record { shows = λ f s time. rw (ne_eqb (flags / 2 % 2) 1 n, ne_eqb datalink 1002 m) (a.shows f s time); held = a.held }
+    hci_plain Hci q r a = record { shows = λ f s time. rw (ne_eqb (flags / 2 % 2) 1 n) (a.shows f s time); held = a.held }
+    hci_plain H4 q r a = absurd (q refl)
+    hci_plain Monitor q r a = record { shows = λ f s time. rw (ne_eqb (flags / 2 % 2) 1 n) (a.shows f s time); held = a.held }
 
 -- ---- the record
 
-module _ (x : Excerpt) (datalink : ℕ) (h : 24 ≤ length (bytes_in x)) (flags : ℕ) (e : flags ≡ be32 (bytes_in x) 8) (y : Excerpt) (a : After x 24 y) where
-  pub record_monitor : datalink ≡ 2001 → (r : Option Fragment) → MonitorIs y flags r → RecordIs x datalink r
+module _ (x : Excerpt) (h : 24 ≤ length (bytes_in x)) (flags : ℕ) (e : flags ≡ be32 (bytes_in x) 8) (y : Excerpt) (a : After x 24 y) where
+  pub record_monitor : (d : Datalink) → d ≡ Monitor → (r : Option Fragment) → MonitorIs y flags r → RecordIs x d r
   unfolding packet_of
-  record_monitor q r m = record {
-    shows = λ f s. rw (eq-eqb datalink 2001 q, ← e, ← a.rest) (m.shows f (after_stands x 24 y a h f s) (milliseconds (bytes_in x)));
+  record_monitor d q r m = record {
+    shows = λ f s. rw (q, ← e, ← a.rest) (m.shows f (after_stands x 24 y a h f s) (milliseconds (bytes_in x)));
     held = rw (after_end x 24 y a h) at m.held;
   }
 
-  pub record_hci : (datalink ≡ 2001 → ⊥) → (r : Option Fragment) → HciIs y datalink flags r → RecordIs x datalink r
+  pub record_hci : (d : Datalink) → (d ≡ Monitor → ⊥) → (r : Option Fragment) → HciIs y d flags r → RecordIs x d r
   unfolding packet_of
-  record_hci q r m = record {
-    shows = λ f s. rw (ne_eqb datalink 2001 q, ← e, ← a.rest) (m.shows f (after_stands x 24 y a h f s) (milliseconds (bytes_in x)));
+  record_hci Hci q r m = record {
+    shows = λ f s. rw (← e, ← a.rest) (m.shows f (after_stands x 24 y a h f s) (milliseconds (bytes_in x)));
     held = rw (after_end x 24 y a h) at m.held;
   }
+  record_hci H4 q r m = record {
+    shows = λ f s. rw (← e, ← a.rest) (m.shows f (after_stands x 24 y a h f s) (milliseconds (bytes_in x)));
+    held = rw (after_end x 24 y a h) at m.held;
+  }
+  record_hci Monitor q r m = absurd (q refl)
+
+-- ---- a number that is not taken would be read as 1001
+
+pub read_as : (n : ℕ) → packet_of (number_of (datalink_by n)) ≡ packet_of n
+unfolding packet_of hci_packet
+read_as n = fun_ext (λ r. split≡ n 2001
+    (λ e. rw e)
+    (λ e. split≡ n 1002
+    (λ q. rw q)
+    (λ q. rw (ne_eqb n 2001 e, ne_eqb n 1002 q))))

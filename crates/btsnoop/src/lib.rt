@@ -2,8 +2,8 @@
 #![tactic(auto)]
 
 ghost use Rattle.std.specs.Prelude.{◌≡◌, ◌+◌, ◌-◌, ◌/◌, ◌%◌, ◌≤◌, ◌<◌, length, drop};
-ghost use Rattle.btsnoop.specs.Header.{is_btsnoop, is_datalink};
-ghost use Rattle.btsnoop.specs.Headers.{header_of};
+ghost use Rattle.btsnoop.specs.Header.{is_btsnoop};
+ghost use Rattle.btsnoop.specs.Headers.{datalink_of, header_of};
 ghost use Rattle.btsnoop.specs.Records.{record_size};
 ghost use Rattle.btsnoop.specs.Packets.{milliseconds};
 ghost use Rattle.btsnoop.specs.Reading.{MonitorIs, HciIs, RecordIs};
@@ -11,12 +11,13 @@ ghost use Rattle.btsnoop.specs.Reading.{MonitorIs, HciIs, RecordIs};
 use acl::{Excerpt, Fragment};
 use words::{get_be32, get_be64, same};
 
-// Datalinks that are read here: HCI packets by their flags, H4 packets, and packets of a monitor.
-const HCI: u32 = 1001;
-
-pub const H4: u32 = 1002;
-
-pub const MONITOR: u32 = 2001;
+// The datalinks that are read: HCI packets by their flags, H4 packets, and packets of a monitor.
+#[derive(Clone, Copy)]
+pub enum Datalink {
+    Hci,
+    H4,
+    Monitor,
+}
 
 // Why a header is not taken: it is none of btsnoop, or its datalink is another.
 #[derive(Clone, Copy)]
@@ -35,25 +36,30 @@ fn is_btsnoop(file: &[u8]) -> bool
     same(&file[..8], b"btsnoop\0") && get_be32(file, 8) == 1
 }
 
-// Whether the datalink is one that is read.
-fn is_datalink(n: u32) -> bool
-    ensures { result ≡ is_datalink n }
+// The datalink of a number, if it is one that is read.
+fn datalink_of(n: u32) -> Option<Datalink>
+    ensures { result ≡ datalink_of n }
 {
-    n == HCI || n == H4 || n == MONITOR
+    match n {
+        1001 => Some(Datalink::Hci),
+        1002 => Some(Datalink::H4),
+        2001 => Some(Datalink::Monitor),
+        _ => None,
+    }
 }
 
 // Reads the header: the datalink.
-pub fn read_header(file: &[u8]) -> Result<u32, HeaderError>
+pub fn read_header(file: &[u8]) -> Result<Datalink, HeaderError>
     ensures { result ≡ header_of file.now }
 {
     if !is_btsnoop(file) {
         return Err(HeaderError::NotBtsnoop);
     }
     let n = get_be32(file, 12);
-    if !is_datalink(n) {
+    let Some(datalink) = datalink_of(n) else {
         return Err(HeaderError::Datalink(n));
-    }
-    Ok(n)
+    };
+    Ok(datalink)
 }
 
 // The size of the record at a place, from its front.
@@ -91,30 +97,30 @@ fn read_monitor(packet: Excerpt, flags: u32) -> Option<Fragment>
     }
 }
 
-// The packet of an HCI record.
-fn read_hci(packet: Excerpt, datalink: u32, flags: u32) -> Option<Fragment>
+// The packet of an HCI record, H4 or not.
+fn read_hci(packet: Excerpt, datalink: Datalink, flags: u32) -> Option<Fragment>
     ensures { HciIs packet.entry datalink flags result }
 {
     if flags / 2 % 2 == 1 {
         return None;
     }
-    if datalink == H4 {
-        return packet.read_h4(flags % 2);
+    match datalink {
+        Datalink::H4 => packet.read_h4(flags % 2),
+        _ => packet.read_fragment(0, flags % 2),
     }
-    packet.read_fragment(0, flags % 2)
 }
 
 // The packet of a record.
-pub fn read_packet(r: Excerpt, datalink: u32) -> Option<Fragment>
+pub fn read_packet(r: Excerpt, datalink: Datalink) -> Option<Fragment>
     requires { 24 ≤ length r.bytes.now }
     ensures { RecordIs r.entry datalink result }
 {
     let flags = get_be32(r.bytes, 8);
     let packet = r.after(24);
-    if datalink == MONITOR {
-        return read_monitor(packet, flags);
+    match datalink {
+        Datalink::Monitor => read_monitor(packet, flags),
+        _ => read_hci(packet, datalink, flags),
     }
-    read_hci(packet, datalink, flags)
 }
 
 // The milliseconds of the record at a place.

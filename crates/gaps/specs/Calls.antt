@@ -1,5 +1,5 @@
 -- What the call answers: how many of each sign there are and where the first is, or a refusal.
-use Rattle.std.specs.Prelude.{ℕ, Result, Ok, Err, ◌≡◌, false, ◌&&◌, List, ◌++◌, length}
+use Rattle.std.specs.Prelude.{ℕ, Result, ◌≡◌, false, ◌&&◌, List, ◌++◌, length}
 use Rattle.laws.specs.Answers.{Answer, accepted, refused, answered}
 use Rattle.trace.specs.Formats.{container_of, format_of}
 use Rattle.trace.specs.Headers.{told_refusal}

@@ -33,11 +33,7 @@ fn is_truncated(tail: Tail, at: usize, end: usize) -> bool
 }
 
 // Reads the packets of a trace whose header is read.
-fn open_records<'a>(
-    trace: Trace<'a>,
-    work: &mut [u8],
-    tail: Tail,
-) -> Result<Opened<'a>, Refusal>
+fn open_records<'a>(trace: Trace<'a>, work: &mut [u8], tail: Tail) -> Result<Opened<'a>, Refusal>
     requires { ReadPre trace.format trace.file.now work.old }
     ensures { RecordsOpen trace.entry (tail_of tail) result work.new }
 {

@@ -25,10 +25,11 @@ use Rattle.acl.specs.declared.excerpt.Excerpt.{Excerpt}
 use Rattle.acl.specs.declared.Fragment.{Fragment}
 use Rattle.btsnoop.specs.Reading as btsnoop_reading
 use Rattle.btsnoop.specs.Packets as btsnoop_packets
+use Rattle.btsnoop.specs.declared.Datalink.{Datalink}
 use Rattle.pcap.specs.Reading as pcap_reading
 use Rattle.pcap.specs.Packets as pcap_packets
 use Rattle.pcap.specs.declared.Encoding.{Encoding}
-use Rattle.trace.specs.Formats.{file_head, record_head, size_by, time_by, packet_by, records_from}
+use Rattle.trace.specs.Formats.{record_head, size_by, time_by, packet_by, records_from}
 use Rattle.trace.proofs.Formats.{head_least, head_most, file_head_least, size_least, packet_room, packet_none, time_part}
 use Rattle.trace.specs.Walk.{RecordAt, is_empty}
 use Rattle.trace.specs.Reader.{Moves, Starts}
@@ -62,7 +63,7 @@ module _ (r : Record) where
     held_in : (y : Option Fragment) → Held (end_of x) y → Held r.end y
     held_in y h = let z : end_of x ≡ r.end = rw (e, p) bytes_end in rw z at h
 
-    module _ (d : ℕ) (q : r.trace.format ≡ ByDatalink d) where
+    module _ (d : Datalink) (q : r.trace.format ≡ ByDatalink d) where
       pub btsnoop_packet : (y : Option Fragment) → btsnoop_reading.RecordIs x d y → RecordIs r y
       unfolding packet_by time_by
       btsnoop_packet y m = record { shows = rw (q, ← e) (m.shows r.trace.file.now stands); held = held_in y m.held }
@@ -72,7 +73,7 @@ module _ (r : Record) where
       unfolding packet_by time_by pcap_packets.packet_of
       pcap_packet y m = record { shows = rw (q, ← e) (m.shows r.trace.file.now stands (pcap_packets.milliseconds c.big c.nano (bytes_in x))); held = held_in y m.held }
 
-  module _ (d : ℕ) (q : r.trace.format ≡ ByDatalink d) where
+  module _ (d : Datalink) (q : r.trace.format ≡ ByDatalink d) where
     pub btsnoop_room : r.at + 24 ≤ length r.trace.file.now
     unfolding record_head
     btsnoop_room = let h : r.at + 24 ≤ r.end = rw q at r.whole.least in omega (arith, r.whole.most)

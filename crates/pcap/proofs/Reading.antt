@@ -72,9 +72,9 @@ module _ (x : Excerpt) where
     unfolding directed_packet
     packet_directed g y a r m = record {
       shows = λ f s time.
-        let d = m.shows f (after_stands x 20 y a h f s) time in
-        rw (way_is, drop-drop 4 16 b, ← a.rest) (split≤ 1 way
-            (λ l. let z : way ≡ 1 = omega arith in rw (ne_eqb way 0 (λ y. absurd (omega arith)), eq-eqb way 1 z, ← z) d)
-            (λ l. let z : way ≡ 0 = omega arith in rw (eq-eqb way 0 z, ← z) d));
+          let d = m.shows f (after_stands x 20 y a h f s) time in
+          rw (way_is, drop-drop 4 16 b, ← a.rest) (split≤ 1 way
+          (λ l. let z : way ≡ 1 = omega arith in rw (ne_eqb way 0 (λ y. absurd (omega arith)), eq-eqb way 1 z, ← z) d)
+          (λ l. let z : way ≡ 0 = omega arith in rw (eq-eqb way 0 z, ← z) d));
       held = rw (after_end x 20 y a h) at m.held;
     }

@@ -5,7 +5,6 @@ use mathlib.Core.Path.{◌≡◌, ap, ◌∙◌}
 use mathlib.Core.Bool.{Bool, true, false}
 use mathlib.Core.List.{List}
 use native.Mathlib.Omega.{arith}
-use lib.ListN.{length}
 use borrow.Author.Tests.{lt-ltb, le-ltb}
 use Rattle.acl.specs.Reading.{between}
 use Rattle.trace.proofs.Formats.{head_least}
@@ -21,7 +20,7 @@ use Rattle.signs.specs.Gaps.{record_gaps}
 use Rattle.signs.specs.Counting.{noted}
 use Rattle.signs.proofs.Places.{rest_at, rest_start, rest_turn, rest_none}
 use Rattle.signs.specs.declared.Gap.{Gap}
-use Rattle.recorded.specs.Looking.{recorded_of, Readable, noted_if, noted_rise, looked, looked_all, unseen, Risen, Bounded, Looks}
+use Rattle.recorded.specs.Looking.{recorded_of, noted_if, noted_rise, looked, looked_all, unseen, Risen, Bounded, Looks}
 use Rattle.recorded.specs.declared.Seen.{Seen}
 use Rattle.recorded.proofs.Tallies.{all_gaps}
 

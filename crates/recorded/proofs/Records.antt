@@ -9,6 +9,7 @@ use lib.ListN.{length}
 use lib.Dec.{ltb, eqb}
 use Rattle.laws.specs.Numbers.{be32}
 use Rattle.pcap.specs.Header.{number}
+use Rattle.btsnoop.specs.declared.Datalink.{Datalink}
 use Rattle.pcap.specs.declared.Encoding.{Encoding}
 use Rattle.trace.specs.Formats.{packet_by}
 use Rattle.trace.specs.Finding.{bytes_of}
@@ -21,7 +22,7 @@ use Rattle.signs.specs.Recorded.{is_short, is_zeros, is_acl, is_none, is_skipped
 -- ---- its numbers
 
 module _ (r : Record) (b : List ℕ) (s : b ≡ bytes_of r) where
-  module _ (d : ℕ) (q : r.trace.format ≡ ByDatalink d) where
+  module _ (d : Datalink) (q : r.trace.format ≡ ByDatalink d) where
     pub original_btsnoop : 0 + 4 ≤ length b
     original_btsnoop = omega (arith, bytes_btsnoop r b s d q)
 

@@ -15,6 +15,9 @@ use Rattle.laws.specs.Numbers.{be32, le16}
 use Rattle.words.specs.Fields.{field_of}
 use Rattle.container.specs.Packets.{fragment, h4_packet}
 use Rattle.acl.proofs.Parts.{be32_drop}
+use Rattle.btsnoop.specs.Headers.{number_of}
+use Rattle.btsnoop.specs.declared.Datalink.{Datalink}
+use Rattle.btsnoop.specs.declared.Datalink.TheVariants.{Hci, H4, Monitor}
 use Rattle.btsnoop.specs.Packets.{milliseconds, hci_packet, monitor_packet, packet_of}
 use Rattle.pcap.specs.Packets as pcap_packets
 use Rattle.pcap.specs.declared.Encoding.{Encoding}
@@ -37,36 +40,35 @@ and_false : (b : Bool) → (b && false) ≡ false
 and_false true = refl
 and_false false = refl
 
+and_true : (b : Bool) → (b && true) ≡ b
+and_true true = refl
+and_true false = refl
+
 -- ---- ACL data
-
-pub monitor_sent : (flags : ℕ) → flags % 65536 ≡ 4 → eqb (flags % 65536) 4 ≡ (eqb (flags % 65536) 4 || eqb (flags % 65536) 5)
-monitor_sent flags e = rw (eq-eqb (flags % 65536) 4 e)
-
-pub monitor_else : (flags : ℕ) → (flags % 65536 ≡ 4 → ⊥) → eqb (flags % 65536) 5 ≡ (eqb (flags % 65536) 4 || eqb (flags % 65536) 5)
-monitor_else flags n = rw (ne_eqb (flags % 65536) 4 n)
 
 -- a slice up to the end
 abbrev rest : List ℕ → ℕ → List ℕ
 rest b n = take (length b - n) (drop n b)
 
-module _ (b : List ℕ) (datalink flags : ℕ) (e : flags ≡ be32 b 8) where
-  pub acl_monitor : datalink ≡ 2001 → (t : Bool) → t ≡ (eqb (flags % 65536) 4 || eqb (flags % 65536) 5) → t ≡ is_acl (ByDatalink datalink) b
+not_one : (n : ℕ) → not (eqb (n / 2 % 2) 1) ≡ eqb (n / 2 % 2) 0
+not_one n = split≡ (n / 2 % 2) 1 (λ e. rw e) (λ e. let z : n / 2 % 2 ≡ 0 = omega arith in rw z)
+
+module _ (b : List ℕ) (d : Datalink) (flags : ℕ) (e : flags ≡ be32 b 8) where
+  pub acl_monitor : d ≡ Monitor → (t : Bool) → t ≡ (eqb (flags % 65536) 4 || eqb (flags % 65536) 5) → t ≡ is_acl (ByDatalink d) b
   unfolding is_acl
-  acl_monitor q t h = rw (eq-eqb datalink 2001 q, ← e) h
+  acl_monitor q t h = rw (q, ← e) h
 
-  module _ (n : datalink ≡ 2001 → ⊥) where
-    pub acl_not : flags / 2 % 2 ≡ 1 → false ≡ is_acl (ByDatalink datalink) b
-    unfolding is_acl
-    acl_not q = rw (ne_eqb datalink 2001 n, ← e, eq-eqb (flags / 2 % 2) 1 q)
+  pub acl_hci : d ≡ Hci → eqb (flags / 2 % 2) 0 ≡ is_acl (ByDatalink d) b
+  unfolding is_acl
+  acl_hci q = rw (q, ← e, not_one flags) (sym (and_true (eqb (flags / 2 % 2) 0)))
 
-    module _ (q : flags / 2 % 2 ≡ 1 → ⊥) where
-      pub acl_h4 : datalink ≡ 1002 → (t : Bool) → t ≡ eqb (get_or (rest b 24) 0 0) 2 → t ≡ is_acl (ByDatalink datalink) b
-      unfolding is_acl
-      acl_h4 d t h = rw (ne_eqb datalink 2001 n, ← e, ne_eqb (flags / 2 % 2) 1 q, eq-eqb datalink 1002 d, ← take_rest b 24) h
+  pub acl_h4 : d ≡ H4 → flags / 2 % 2 ≡ 0 → (t : Bool) → t ≡ eqb (get_or (rest b 24) 0 0) 2 → t ≡ is_acl (ByDatalink d) b
+  unfolding is_acl
+  acl_h4 q z t h = rw (q, ← e, z, ← take_rest b 24) h
 
-      pub acl_plain : (datalink ≡ 1002 → ⊥) → true ≡ is_acl (ByDatalink datalink) b
-      unfolding is_acl
-      acl_plain d = rw (ne_eqb datalink 2001 n, ← e, ne_eqb (flags / 2 % 2) 1 q, ne_eqb datalink 1002 d)
+  pub acl_not : d ≡ H4 → (flags / 2 % 2 ≡ 0 → ⊥) → eqb (flags / 2 % 2) 0 ≡ is_acl (ByDatalink d) b
+  unfolding is_acl
+  acl_not q n = rw (q, ← e, not_one flags, ne_eqb (flags / 2 % 2) 0 n)
 
 module _ (b : List ℕ) where
   pub directed_short : length b < 20 → DirectedIs b false
@@ -96,7 +98,7 @@ module _ (b : List ℕ) where
 
 -- by the case that the format is
 module _ (r : Record) (b : List ℕ) (s : b ≡ bytes_of r) where
-  pub acl_flagged : (d : ℕ) → r.trace.format ≡ ByDatalink d → (t : Bool) → t ≡ is_acl (ByDatalink d) b → t ≡ is_acl r.trace.format (bytes_of r)
+  pub acl_flagged : (d : Datalink) → r.trace.format ≡ ByDatalink d → (t : Bool) → t ≡ is_acl (ByDatalink d) b → t ≡ is_acl r.trace.format (bytes_of r)
   acl_flagged d q t e = rw (q, ← s) e
 
   pub acl_directed : (x : Encoding) → r.trace.format ≡ ByEncoding x → (t : Bool) → DirectedIs b t → t ≡ is_acl r.trace.format (bytes_of r)
@@ -112,44 +114,52 @@ none_h4 : (rx time : ℕ) (b : List ℕ) → get_or b 0 0 ≡ 2 → is_none (h4_
 unfolding h4_packet
 none_h4 rx time b e = rw (eq-eqb (get_or b 0 0) 2 e) (none_data 0 rx time (drop 1 b))
 
-module _ (datalink : ℕ) (r : List ℕ) where
-  flagged_none : is_acl (ByDatalink datalink) r ≡ false → is_none (packet_of datalink r) ≡ true
-  unfolding is_acl packet_of monitor_packet hci_packet h4_packet is_none
-  flagged_none e =
-      split≡ datalink 2001
-      (λ d. split≡ (be32 r 8 % 65536) 4
-      (λ q. no_way (rw (eq-eqb datalink 2001 d, eq-eqb (be32 r 8 % 65536) 4 q)) e)
-      (λ q. split≡ (be32 r 8 % 65536) 5
-      (λ p. no_way (rw (eq-eqb datalink 2001 d, ne_eqb (be32 r 8 % 65536) 4 q, eq-eqb (be32 r 8 % 65536) 5 p)) e)
-      (λ p. rw (eq-eqb datalink 2001 d, ne_eqb (be32 r 8 % 65536) 4 q, ne_eqb (be32 r 8 % 65536) 5 p))))
-      (λ d. split≡ (be32 r 8 / 2 % 2) 1
-      (λ q. rw (ne_eqb datalink 2001 d, eq-eqb (be32 r 8 / 2 % 2) 1 q))
-      (λ q. split≡ datalink 1002
-      (λ h. split≡ (get_or (drop 24 r) 0 0) 2
-      (λ b. no_way (rw (ne_eqb datalink 2001 d, ne_eqb (be32 r 8 / 2 % 2) 1 q, eq-eqb datalink 1002 h, eq-eqb (get_or (drop 24 r) 0 0) 2 b)) e)
-      (λ b. rw (ne_eqb datalink 2001 d, ne_eqb (be32 r 8 / 2 % 2) 1 q, eq-eqb datalink 1002 h, ne_eqb (get_or (drop 24 r) 0 0) 2 b)))
-      (λ h. no_way (rw (ne_eqb datalink 2001 d, ne_eqb (be32 r 8 / 2 % 2) 1 q, ne_eqb datalink 1002 h)) e)))
+module _ (r : List ℕ) where
+  abbrev flags : ℕ
+  flags = be32 r 8
 
-  flagged_data : is_acl (ByDatalink datalink) r ≡ true → is_none (packet_of datalink r) ≡ lacks_data (drop (before_packet (ByDatalink datalink)) r)
+  abbrev first : ℕ
+  first = get_or (drop 24 r) 0 0
+
+  flagged_none : (d : Datalink) → is_acl (ByDatalink d) r ≡ false → is_none (packet_of (number_of d) r) ≡ true
+  unfolding is_acl packet_of monitor_packet hci_packet h4_packet is_none
+  flagged_none Monitor e =
+      split≡ (flags % 65536) 4
+      (λ q. no_way (rw (eq-eqb (flags % 65536) 4 q)) e)
+      (λ q. split≡ (flags % 65536) 5
+      (λ p. no_way (rw (ne_eqb (flags % 65536) 4 q, eq-eqb (flags % 65536) 5 p)) e)
+      (λ p. rw (ne_eqb (flags % 65536) 4 q, ne_eqb (flags % 65536) 5 p)))
+  flagged_none H4 e =
+      split≡ (flags / 2 % 2) 1
+      (λ q. rw (eq-eqb (flags / 2 % 2) 1 q))
+      (λ q. split≡ first 2
+      (λ b. no_way (rw (ne_eqb (flags / 2 % 2) 1 q, eq-eqb first 2 b)) e)
+      (λ b. rw (ne_eqb (flags / 2 % 2) 1 q, ne_eqb first 2 b)))
+  flagged_none Hci e =
+      split≡ (flags / 2 % 2) 1
+      (λ q. rw (eq-eqb (flags / 2 % 2) 1 q))
+      (λ q. no_way (rw (ne_eqb (flags / 2 % 2) 1 q)) e)
+
+  flagged_data : (d : Datalink) → is_acl (ByDatalink d) r ≡ true → is_none (packet_of (number_of d) r) ≡ lacks_data (drop (before_packet (ByDatalink d)) r)
   unfolding is_acl packet_of monitor_packet hci_packet before_packet
-  flagged_data e =
-      split≡ datalink 2001
-      (λ d.
-      let n : datalink ≡ 1002 → ⊥ = λ z. omega arith in
-      split≡ (be32 r 8 % 65536) 4
-      (λ q. rw (eq-eqb datalink 2001 d, ne_eqb datalink 1002 n, eq-eqb (be32 r 8 % 65536) 4 q) (none_data (be32 r 8 / 65536) 0 (milliseconds r) (drop 24 r)))
-      (λ q. split≡ (be32 r 8 % 65536) 5
-      (λ p. rw (eq-eqb datalink 2001 d, ne_eqb datalink 1002 n, ne_eqb (be32 r 8 % 65536) 4 q, eq-eqb (be32 r 8 % 65536) 5 p) (none_data (be32 r 8 / 65536) 1 (milliseconds r) (drop 24 r)))
-      (λ p. no_way e (rw (eq-eqb datalink 2001 d, ne_eqb (be32 r 8 % 65536) 4 q, ne_eqb (be32 r 8 % 65536) 5 p)))))
-      (λ d. split≡ (be32 r 8 / 2 % 2) 1
-      (λ q. no_way e (rw (ne_eqb datalink 2001 d, eq-eqb (be32 r 8 / 2 % 2) 1 q)))
-      (λ q. split≡ datalink 1002
-      (λ h. split≡ (get_or (drop 24 r) 0 0) 2
+  flagged_data Monitor e =
+      split≡ (flags % 65536) 4
+      (λ q. rw (eq-eqb (flags % 65536) 4 q) (none_data (flags / 65536) 0 (milliseconds r) (drop 24 r)))
+      (λ q. split≡ (flags % 65536) 5
+      (λ p. rw (ne_eqb (flags % 65536) 4 q, eq-eqb (flags % 65536) 5 p) (none_data (flags / 65536) 1 (milliseconds r) (drop 24 r)))
+      (λ p. no_way e (rw (ne_eqb (flags % 65536) 4 q, ne_eqb (flags % 65536) 5 p))))
+  flagged_data H4 e =
+      split≡ (flags / 2 % 2) 1
+      (λ q. no_way e (rw (eq-eqb (flags / 2 % 2) 1 q)))
+      (λ q. split≡ first 2
       (λ b.
       let w : drop 1 (drop 24 r) ≡ drop 25 r = drop-drop 1 24 r in
-      rw (ne_eqb datalink 2001 d, ne_eqb (be32 r 8 / 2 % 2) 1 q, eq-eqb datalink 1002 h, ← w) (none_h4 (be32 r 8 % 2) (milliseconds r) (drop 24 r) b))
-      (λ b. no_way e (rw (ne_eqb datalink 2001 d, ne_eqb (be32 r 8 / 2 % 2) 1 q, eq-eqb datalink 1002 h, ne_eqb (get_or (drop 24 r) 0 0) 2 b))))
-      (λ h. rw (ne_eqb datalink 2001 d, ne_eqb (be32 r 8 / 2 % 2) 1 q, ne_eqb datalink 1002 h) (none_data 0 (be32 r 8 % 2) (milliseconds r) (drop 24 r)))))
+      rw (ne_eqb (flags / 2 % 2) 1 q, ← w) (none_h4 (flags % 2) (milliseconds r) (drop 24 r) b))
+      (λ b. no_way e (rw (ne_eqb (flags / 2 % 2) 1 q, ne_eqb first 2 b))))
+  flagged_data Hci e =
+      split≡ (flags / 2 % 2) 1
+      (λ q. no_way e (rw (eq-eqb (flags / 2 % 2) 1 q)))
+      (λ q. rw (ne_eqb (flags / 2 % 2) 1 q) (none_data 0 (flags % 2) (milliseconds r) (drop 24 r)))
 
 module _ (e : Encoding) (r : List ℕ) where
   abbrev way : ℕ
@@ -185,24 +195,29 @@ module _ (e : Encoding) (r : List ℕ) where
 
 pub acl_none : (g : Format) (r : List ℕ) → is_acl g r ≡ false → is_none (packet_by g r) ≡ true
 unfolding packet_by
-acl_none (ByDatalink d) r q = flagged_none d r q
+acl_none (ByDatalink d) r q = flagged_none r d q
 acl_none (ByEncoding e) r q = directed_none e r q
 
 pub acl_data : (g : Format) (r : List ℕ) → is_acl g r ≡ true → is_none (packet_by g r) ≡ lacks_data (drop (before_packet g) r)
 unfolding packet_by before_packet
-acl_data (ByDatalink d) r q = flagged_data d r q
+acl_data (ByDatalink d) r q = flagged_data r d q
 acl_data (ByEncoding e) r q = directed_data e r q
 
 -- ---- what the code returns
 
 module _ (g : Format) where
-  pub before_h4 : (d : ℕ) → g ≡ ByDatalink d → d ≡ 1002 → 25 ≡ before_packet g
-  unfolding before_packet
-  before_h4 d q e = rw (q, eq-eqb d 1002 e)
+  module _ (d : Datalink) (q : g ≡ ByDatalink d) where
+    pub before_hci : d ≡ Hci → 24 ≡ before_packet g
+    unfolding before_packet
+    before_hci e = rw (q, e)
 
-  pub before_plain : (d : ℕ) → g ≡ ByDatalink d → (d ≡ 1002 → ⊥) → 24 ≡ before_packet g
-  unfolding before_packet
-  before_plain d q n = rw (q, ne_eqb d 1002 n)
+    pub before_h4 : d ≡ H4 → 25 ≡ before_packet g
+    unfolding before_packet
+    before_h4 e = rw (q, e)
+
+    pub before_monitor : d ≡ Monitor → 24 ≡ before_packet g
+    unfolding before_packet
+    before_monitor e = rw (q, e)
 
   pub before_directed : (x : Encoding) → g ≡ ByEncoding x → 21 ≡ before_packet g
   unfolding before_packet
@@ -225,17 +240,16 @@ module _ (b : List ℕ) (x : Option ℕ) (h : x ≡ field_of b 2) where
 -- a record of ACL data has the bytes before the packet
 acl_long : (g : Format) (r : List ℕ) → record_head g ≤ length r → is_acl g r ≡ true → before_packet g ≤ length r
 unfolding record_head is_acl before_packet
-acl_long (ByDatalink d) r h t = split≤ 25 (length r)
-    (λ l. split≡ d 1002 (λ e. rw (eq-eqb d 1002 e) l) (λ e. rw (ne_eqb d 1002 e) h))
-    (λ l. split≡ d 1002
-    (λ e.
-    let m : d ≡ 2001 → ⊥ = λ x. omega arith in
+acl_long (ByDatalink Hci) r h t = h
+acl_long (ByDatalink Monitor) r h t = h
+acl_long (ByDatalink H4) r h t = split≤ 25 (length r)
+    (λ l. l)
+    (λ l.
     let k : length r ≤ 24 = omega arith in
     let n : drop 24 r ≡ [] = drop_of_length-le r k in
     no_way t (split≡ (be32 r 8 / 2 % 2) 1
-    (λ x. rw (ne_eqb d 2001 m, eq-eqb (be32 r 8 / 2 % 2) 1 x))
-    (λ x. rw (ne_eqb d 2001 m, ne_eqb (be32 r 8 / 2 % 2) 1 x, eq-eqb d 1002 e, n))))
-    (λ e. rw (ne_eqb d 1002 e) h))
+    (λ x. rw (eq-eqb (be32 r 8 / 2 % 2) 1 x))
+    (λ x. rw (ne_eqb (be32 r 8 / 2 % 2) 1 x, n))))
 acl_long (ByEncoding x) r h t = split≤ 21 (length r)
     (λ l. l)
     (λ l.

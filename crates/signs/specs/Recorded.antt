@@ -3,6 +3,7 @@ use Rattle.std.specs.Prelude.{ℕ, ◌+◌, ◌-◌, ◌/◌, ◌%◌, Bool, tru
 use Rattle.std.proofs.Math.Option.{Option, none, some}
 use Rattle.laws.specs.Numbers.{be32}
 use Rattle.container.specs.Packets.{Packet}
+use Rattle.btsnoop.specs.Headers.{number_of}
 use Rattle.pcap.specs.Header.{number}
 use Rattle.trace.specs.Formats.{packet_by}
 use Rattle.trace.specs.declared.Format.{Format}
@@ -23,9 +24,9 @@ is_zeros (b ∷ bs) = eqb b 0 && is_zeros bs
 -- In pcap by its direction, 0 or 1, and the byte 02 after it.
 unfoldable pub is_acl : Format → List ℕ → Bool
 is_acl (ByDatalink d) r =
-    cond (eqb d 2001)
+    cond (eqb (number_of d) 2001)
     (eqb (be32 r 8 % 65536) 4 || eqb (be32 r 8 % 65536) 5)
-    (not (eqb (be32 r 8 / 2 % 2) 1) && (not (eqb d 1002) || eqb (get_or (drop 24 r) 0 0) 2))
+    (not (eqb (be32 r 8 / 2 % 2) 1) && (not (eqb (number_of d) 1002) || eqb (get_or (drop 24 r) 0 0) 2))
 is_acl (ByEncoding e) r = (eqb (be32 (drop 16 r) 0) 0 || eqb (be32 (drop 16 r) 0) 1) && eqb (get_or (drop 20 r) 0 0) 2
 
 unfoldable pub is_none : Option Packet → Bool

@@ -9,7 +9,7 @@ ghost use Rattle.signs.specs.Counting.{noted, NotePre};
 ghost use Rattle.signs.specs.Recorded.{is_acl, is_none};
 ghost use Rattle.signs.specs.Reading.{DirectedIs, lacks_data, before_packet};
 
-use btsnoop::{H4, MONITOR};
+use btsnoop::Datalink;
 use trace::{Format, Record};
 use words::{field16, get_be32};
 
@@ -53,21 +53,17 @@ fn is_h4_acl(packet: &[u8]) -> bool
 }
 
 // Whether a record of a btsnoop file is ACL data by its flags.
-fn is_flagged_acl(bytes: &[u8], datalink: u32) -> bool
+fn is_flagged_acl(bytes: &[u8], datalink: Datalink) -> bool
     requires { 24 ≤ length bytes.now }
     ensures { result ≡ is_acl (ByDatalink datalink) bytes.now }
 {
     let flags = get_be32(bytes, 8);
-    if datalink == MONITOR {
-        return is_monitor_acl(flags);
+    let is_data = flags / 2 % 2 == 0;
+    match datalink {
+        Datalink::Monitor => is_monitor_acl(flags),
+        Datalink::H4 => is_data && is_h4_acl(&bytes[24..]),
+        Datalink::Hci => is_data,
     }
-    if flags / 2 % 2 == 1 {
-        return false;
-    }
-    if datalink == H4 {
-        return is_h4_acl(&bytes[24..]);
-    }
-    true
 }
 
 // Whether a record of a pcap file is ACL data by its direction and the byte after it.
@@ -107,8 +103,9 @@ fn before_packet(format: Format) -> usize
     ensures { result ≡ before_packet format }
 {
     match format {
-        Format::Btsnoop(H4) => 25,
-        Format::Btsnoop(_) => 24,
+        Format::Btsnoop(Datalink::Hci) => 24,
+        Format::Btsnoop(Datalink::H4) => 25,
+        Format::Btsnoop(Datalink::Monitor) => 24,
         Format::Pcap(_) => 21,
     }
 }

@@ -6,6 +6,7 @@ use mathlib.Core.List.{List, []}
 use native.Mathlib.Omega.{arith}
 use lib.ListN.{length, drop, length-drop}
 use lib.Seq.{length-take-le}
+use Rattle.btsnoop.specs.declared.Datalink.{Datalink}
 use Rattle.pcap.specs.declared.Encoding.{Encoding}
 use Rattle.trace.specs.Formats.{record_head, records_from}
 use Rattle.trace.specs.Walk.{RecordAt, RecordPre}
@@ -13,7 +14,6 @@ use Rattle.trace.specs.Reader.{Moves, found_by}
 use Rattle.trace.specs.Finding.{bytes_of, FoundHere, Found, Reads}
 use Rattle.trace.proofs.Formats.{head_least}
 use Rattle.trace.proofs.ReaderLaws.{record_told, none_told}
-use Rattle.trace.specs.declared.Format.{Format}
 use Rattle.trace.specs.declared.Format.TheVariants.{Btsnoop as ByDatalink, Pcap as ByEncoding}
 use Rattle.trace.specs.declared.Step.{Step}
 use Rattle.trace.specs.declared.Step.TheVariants as whole
@@ -32,7 +32,7 @@ module _ (r : Record) where
 
   -- by the case that its format is
   module _ (b : List ℕ) (s : b ≡ bytes_of r) where
-    pub bytes_btsnoop : (d : ℕ) → r.trace.format ≡ ByDatalink d → 24 ≤ length b
+    pub bytes_btsnoop : (d : Datalink) → r.trace.format ≡ ByDatalink d → 24 ≤ length b
     unfolding record_head
     bytes_btsnoop d q = let h : 24 ≤ length (bytes_of r) = rw q at bytes_least in rw s h
 

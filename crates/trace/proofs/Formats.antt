@@ -8,7 +8,11 @@ use lib.ListN.{length, take, drop, length-drop, take-append-drop}
 use lib.Seq.{length-take-le}
 use Rattle.container.specs.Container as container
 use Rattle.container.specs.Packets.{Packet}
+use Rattle.btsnoop.specs.Header.{datalink}
+use Rattle.btsnoop.specs.Headers.{number_of}
 use Rattle.btsnoop.specs.Records as btsnoop_records
+use Rattle.btsnoop.specs.declared.Datalink.{Datalink}
+use Rattle.btsnoop.proofs.Reading.{read_as}
 use Rattle.btsnoop.proofs.Laws as btsnoop_laws
 use Rattle.btsnoop.proofs.Records as btsnoop_times
 use Rattle.pcap.specs.Records as pcap_records
@@ -50,7 +54,7 @@ file_head_most (ByEncoding e) = omega arith
 
 -- ---- by the case that a format is
 
-module _ (g : Format) (d : ℕ) (q : g ≡ ByDatalink d) where
+module _ (g : Format) (d : Datalink) (q : g ≡ ByDatalink d) where
   pub file_head_btsnoop : (16 ≡ file_head g) × (16 ≤ 24)
   unfolding file_head
   file_head_btsnoop = (rw q, omega arith)
@@ -87,7 +91,7 @@ size_least (ByEncoding e) b = omega arith
 -- a record that holds a packet has 25 bytes besides the packet's
 pub packet_room : (g : Format) (r : List ℕ) (p : Packet) → packet_by g r ≡ some p → 25 + length p.bytes ≤ length r
 unfolding packet_by
-packet_room (ByDatalink d) r p e = let h = btsnoop_laws.packet_room d r p e in omega arith
+packet_room (ByDatalink d) r p e = let h = btsnoop_laws.packet_room (number_of d) r p e in omega arith
 packet_room (ByEncoding x) r p e = pcap_laws.packet_room x.big x.nano r p e
 
 -- so a shorter record has none
@@ -118,7 +122,7 @@ head_of Pcap f = refl
 
 pub packet_of_law : (b : Container) (f : List ℕ) → packet_by (format_of b f) ≡ (container_of b).packet f
 unfolding packet_by
-packet_of_law Btsnoop f = refl
+packet_of_law Btsnoop f = read_as (datalink f)
 packet_of_law Pcap f = refl
 
 pub records_of : (b : Container) (f : List ℕ) → records_by (format_of b f) f ≡ container.records (container_of b) f
@@ -128,7 +132,7 @@ records_of Pcap f = refl
 
 pub packets_of_law : (b : Container) (f : List ℕ) → packets_by (format_of b f) f ≡ container.packets_in (container_of b) f
 unfolding container.packets_in container.records file_head size_by packet_by
-packets_of_law Btsnoop f = refl
+packets_of_law Btsnoop f = rw (read_as (datalink f))
 packets_of_law Pcap f = refl
 
 pub tail_of_law : (b : Container) (f : List ℕ) → tail_by (format_of b f) f ≡ container.tail_offset (container_of b) f

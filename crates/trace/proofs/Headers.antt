@@ -5,6 +5,7 @@ use mathlib.Core.Path.{◌≡◌, sym, ◌∙◌}
 use mathlib.Core.List.{List}
 use Rattle.btsnoop.specs.Headers as btsnoop_headers
 use Rattle.btsnoop.proofs.Headers as btsnoop_read
+use Rattle.btsnoop.specs.declared.Datalink.{Datalink}
 use Rattle.btsnoop.specs.declared.HeaderError as btsnoop_header
 use Rattle.btsnoop.specs.declared.HeaderError.TheVariants as btsnoop_says
 use Rattle.pcap.specs.Headers as pcap_headers
@@ -20,8 +21,8 @@ use Rattle.trace.specs.declared.Format.TheVariants.{Btsnoop as ByDatalink, Pcap 
 use Rattle.trace.specs.declared.Refusal.{Refusal}
 
 module _ (b : Container) (f : List ℕ) where
-  module _ (q : b ≡ Btsnoop) (h : Result ℕ btsnoop_header.HeaderError) (e : h ≡ btsnoop_headers.header_of f) where
-    pub btsnoop_known : (n : ℕ) → h ≡ Ok n → HeaderIs b f (Ok (ByDatalink n))
+  module _ (q : b ≡ Btsnoop) (h : Result Datalink btsnoop_header.HeaderError) (e : h ≡ btsnoop_headers.header_of f) where
+    pub btsnoop_known : (n : Datalink) → h ≡ Ok n → HeaderIs b f (Ok (ByDatalink n))
     btsnoop_known n z = let k = btsnoop_read.known_link f n (sym e ∙ z) in rw q (record { says = (k.0, k.1, rw k.2) })
 
     pub btsnoop_refused : (y : btsnoop_header.HeaderError) → h ≡ Err y → (x : Refusal) → x ≡ btsnoop_refusal y → HeaderIs b f (Err x)

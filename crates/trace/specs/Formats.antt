@@ -5,6 +5,7 @@ use Rattle.laws.specs.Lists.{flat}
 use Rattle.container.specs.Container as container
 use Rattle.container.specs.Packets.{Packet, packets}
 use Rattle.btsnoop.specs.Header.{datalink}
+use Rattle.btsnoop.specs.Headers.{number_of, datalink_by}
 use Rattle.btsnoop.specs.Records.{btsnoop}
 use Rattle.btsnoop.specs.Records as btsnoop_records
 use Rattle.btsnoop.specs.Packets as btsnoop_packets
@@ -24,7 +25,7 @@ container_of Pcap = pcap
 
 -- what a file's header says
 abbrev pub format_of : Container → List ℕ → Format
-format_of Btsnoop f = ByDatalink (datalink f)
+format_of Btsnoop f = ByDatalink (datalink_by (datalink f))
 format_of Pcap f = ByEncoding (record { big = is_big f; nano = is_nano f })
 
 -- ---- by what it says: the bytes of the file header, those of a record before its packet, a record's size from its front, its time, the packet in it
@@ -46,7 +47,7 @@ time_by (ByDatalink d) r = btsnoop_packets.milliseconds r
 time_by (ByEncoding e) r = pcap_packets.milliseconds e.big e.nano r
 
 unfoldable pub packet_by : Format → List ℕ → Option Packet
-packet_by (ByDatalink d) r = btsnoop_packets.packet_of d r
+packet_by (ByDatalink d) r = btsnoop_packets.packet_of (number_of d) r
 packet_by (ByEncoding e) r = pcap_packets.packet_of e.big e.nano r
 
 -- ---- the file's whole records, the packets in them, where they end

@@ -11,6 +11,7 @@ ghost use Rattle.trace.specs.Listings.{WalkedTo};
 mod reader;
 mod record;
 
+use btsnoop::Datalink;
 use pcap::Encoding;
 pub use reader::Reader;
 pub use record::Record;
@@ -26,8 +27,7 @@ pub enum Container {
 #[derive(Clone, Copy)]
 pub enum Format {
     // a btsnoop file: its datalink
-    // Stays: a number, since the definitions read a record by any datalink that a header has; an enum of the three that are taken would leave the rest no format.
-    Btsnoop(u32),
+    Btsnoop(Datalink),
     // a pcap file: how its numbers are written
     Pcap(Encoding),
 }
@@ -77,7 +77,7 @@ pub fn read_header(file: &[u8], container: Container) -> Result<Format, Refusal>
 }
 
 // How many bytes the file header has, after which the first record starts.
-pub fn file_head(format: Format) -> usize
+fn file_head(format: Format) -> usize
     ensures { (result ≡ file_head format) × (result ≤ 24) }
 {
     match format {

@@ -7,9 +7,6 @@ use Rattle.btsnoop.proofs.is_btsnoop.Goals as goal
 pub returns-then-file-lt16 : goal.returns-then-file-lt16
 returns-then-file-lt16 c = search begins_short
 
-pub slice_bounds-same-end : goal.slice_bounds-same-end
-slice_bounds-same-end c = sym (length-take-le 8 c.args.file.now (omega arith))
-
 pub returns-then-same : goal.returns-then-same
 returns-then-same c = search begins_version
 

@@ -4,8 +4,8 @@ use Rattle.btsnoop.proofs.read_hci.Goals as goal
 pub returns-then-flags-eq1 : goal.returns-then-flags-eq1
 returns-then-flags-eq1 c = search hci_skip
 
-pub returns-then-datalink-eq-H4 : goal.returns-then-datalink-eq-H4
-returns-then-datalink-eq-H4 c = search hci_h4
+pub returns-in-H4 : goal.returns-in-H4
+returns-in-H4 c = search hci_h4
 
-pub returns : goal.returns
-returns c = search hci_plain
+pub returns-in_default : goal.returns-in_default
+returns-in_default c = search hci_plain

@@ -2,9 +2,6 @@ use Rattle.following.proofs.Walking.{follow_start, follow_pre, follow_again, fol
 use Rattle.l2cap.proofs.Running.{link_room}
 use Rattle.following.proofs.follow_packets.Goals as goal
 
-pub link_packets-rows-requires : goal.link_packets-rows-requires
-link_packets-rows-requires c = search link_room
-
 pub loop-r-init : goal.loop-r-init
 loop-r-init c = rw c.into_iter-r-iterator.ensures.into_iter_gives (search follow_start)
 

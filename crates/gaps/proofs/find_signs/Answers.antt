@@ -1,9 +1,6 @@
 use Rattle.gaps.proofs.Finding.{find_readable, find_followed, find_all}
 use Rattle.gaps.proofs.find_signs.Goals as goal
 
-pub record_signs-recorded-requires : goal.record_signs-recorded-requires
-record_signs-recorded-requires c = search find_readable
-
 pub left_open-left-requires : goal.left_open-left-requires
 left_open-left-requires c = search find_followed
 

@@ -4,8 +4,5 @@ use Rattle.leftover.proofs.meet.Goals as goal
 pub returns-then-lacks_packet : goal.returns-then-lacks_packet
 returns-then-lacks_packet c = search meets_none
 
-pub count_packet-requires : goal.count_packet-requires
-count_packet-requires c = search meets_count
-
 pub returns : goal.returns
 returns c = search meets_one

@@ -7,8 +7,5 @@ returns-then-n-gt1048576 c = search open_long
 pub returns-then-work-n : goal.returns-then-work-n
 returns-then-work-n c = search open_short
 
-pub open_header-requires : goal.open_header-requires
-open_header-requires c = search open_sized
-
 pub returns : goal.returns
 returns c = search open_read

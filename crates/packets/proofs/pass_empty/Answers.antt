@@ -1,9 +1,6 @@
 use Rattle.packets.proofs.Adding.{pass_start, pass_less, pass_turn}
 use Rattle.packets.proofs.pass_empty.Goals as goal
 
-pub loop-i-init : goal.loop-i-init
-loop-i-init c = search pass_start
-
 pub loop-i-smaller : goal.loop-i-smaller
 loop-i-smaller c = search pass_less
 

@@ -1,5 +1,5 @@
 use Rattle.trace.proofs.Finding.{bytes_btsnoop, bytes_pcap}
-use Rattle.packets.proofs.Adding.{bytes_within, btsnoop_packet, pcap_packet}
+use Rattle.packets.proofs.Adding.{btsnoop_packet, pcap_packet}
 use Rattle.packets.proofs.read_packet.Goals as goal
 
 pub read_packet-requires : goal.read_packet-requires

@@ -4,9 +4,3 @@ use Rattle.signs.proofs.is_acl.Goals as goal
 
 pub is_flagged_acl-requires : goal.is_flagged_acl-requires
 is_flagged_acl-requires c = search bytes_btsnoop
-
-pub returns-in-Btsnoop : goal.returns-in-Btsnoop
-returns-in-Btsnoop c = search acl_flagged
-
-pub returns-in-Pcap : goal.returns-in-Pcap
-returns-in-Pcap c = search acl_directed

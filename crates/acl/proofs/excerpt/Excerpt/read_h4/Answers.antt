@@ -8,6 +8,6 @@ returns-then-self-eq2 c = search h4_acl
 pub returns : goal.returns
 returns c =
     elim c.else-not-is_empty.branch [
-      else-not-is_empty-via-then-not-is_empty+else-self-eq2 w ↦ search h4_other
-    | else-not-is_empty-via-else-not-is_empty w ↦ search h4_none
+      | else-not-is_empty-via-then-not-is_empty+else-self-eq2 w ↦ search h4_other
+      | else-not-is_empty-via-else-not-is_empty w ↦ search h4_none
     ]
