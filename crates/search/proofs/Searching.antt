@@ -162,6 +162,12 @@ lasts x m s h g =
     rw (take_all m (drop (length s - m) s) l) (seek_skip x (length s - m) s g)
 
 -- the first sixteen of 16 to 32 bytes, or the last sixteen if the first have no x
+pub later_is : (n at : ℕ) (b : Bool) → at ≡ n - 16 → b ≡ true → at ≡ cond b (n - 16) 0
+later_is n at b e t = rw t e
+
+pub sooner_is : (n at : ℕ) (b : Bool) → at ≡ 0 → b ≡ false → at ≡ cond b (n - 16) 0
+sooner_is n at b e t = rw t e
+
 module _ (s : List ℕ) (x at : ℕ) (b : Bool) (h : length s ≤ 32) (g : 16 ≤ length s) (w : Without (take 16 s) x b) (e : at ≡ cond b (length s - 16) 0) where
   pub half_high : at + 16 ≤ length s
   half_high = split_b b (λ t. let k : at ≡ length s - 16 = rw t at e in omega arith) (λ t. let k : at ≡ 0 = rw t at e in omega arith)

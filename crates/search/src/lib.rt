@@ -1,8 +1,10 @@
-// The search for a byte in a slice, by blocks: a block that has none is passed by without an early way out. Where the byte is
-// nowhere in a slice, the answer is the slice's length.
+// The search for a byte in a slice, by blocks: a block that has none is passed by without an early way out. Where there is none
+// in the slice, the answer is its length.
+// Stays: no Option, since callers go on with the place: `&s[find(s, x)..]` begins with x, or is empty, and a part's place is
+// added to those of its bytes.
 #![tactic(auto)]
 
-ghost use Rattle.std.specs.Prelude.{◌≡◌, ◌≤◌, length, cond};
+ghost use Rattle.std.specs.Prelude.{◌≡◌, ◌≤◌, length};
 ghost use Rattle.search.specs.Seek.{seek};
 ghost use Rattle.search.specs.Steps.{Without, Passed, Sought};
 
@@ -30,13 +32,6 @@ fn place_of(s: &[u8], x: u8) -> usize
     best
 }
 
-// One of two places.
-fn either(later: bool, a: usize, b: usize) -> usize
-    ensures { result ≡ cond later b a }
-{
-    if later { b } else { a }
-}
-
 // The place of the first x, byte by byte.
 pub fn find_few(s: &[u8], x: u8) -> usize
     ensures { result ≡ seek x s.now }
@@ -58,8 +53,7 @@ fn find_short(s: &[u8], x: u8) -> usize
     if n < 16 {
         return find_few(s, x);
     }
-    let later = is_without(&s[..16], x);
-    let at = either(later, 0, n - 16);
+    let at = if is_without(&s[..16], x) { n - 16 } else { 0 };
     let half = &s[at..at + 16];
     if is_without(half, x) {
         return n;
