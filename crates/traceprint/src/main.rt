@@ -22,9 +22,8 @@ use fixtures::{PlanError, plan};
 use items::{Step, item_at};
 use opening::Tail;
 use reading::read_full;
-use std::fmt;
-use std::io;
 use std::io::Write;
+use std::{fmt, io};
 use trace::{Container, Refusal};
 
 // ---- text
