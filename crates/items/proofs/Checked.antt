@@ -67,8 +67,5 @@ module _ (l : Bor (List ℕ)) (r : Result ℕ ℕ) (n : ℕ) (c : r ≡ check_of
     pub names_walk : Walks name_test l.now 0
     names_walk = good.walks
 
-    pub names_small : length l.now ≤ 16777216
-    names_small = good.small
-
     pub names_well : (ns : Names) → ns.list ≡ l → ns.at ≡ 0 → CheckedWell l ns
-    names_well ns p q = record { list = p; start = q; reads = rw (p, q) (names_in_law l.now n good) }
+    names_well ns p q = record { list = p; start = q; small = good.small; reads = rw (p, q) (names_in_law l.now n good) }

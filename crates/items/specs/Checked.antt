@@ -1,5 +1,5 @@
 -- What the checked lists give: spans and names, one after another.
-use Rattle.std.specs.Prelude.{Option, Result, Ok, Err, ℕ, ◌+◌, ◌≡◌, MatchOption, List, [], ◌∷◌, length}
+use Rattle.std.specs.Prelude.{Option, Result, Ok, Err, ℕ, ◌+◌, ◌≡◌, ◌≤◌, MatchOption, List, [], ◌∷◌, length}
 use Rattle.std.specs.Borrow.{Bor}
 use Rattle.items.specs.Items.{Span, span, rx_of, well_formed, ill_formed, names_in}
 use Rattle.items.specs.Walks.{spans_from, names_from}
@@ -45,6 +45,7 @@ GivesName l r m = MatchOption r ((names_left l ≡ []) × (names_left m ≡ []))
 pub record CheckedWell (l : Bor (List ℕ)) (ns : Names) : Type 0 where
   pub list : ns.list ≡ l
   pub start : ns.at ≡ 0
+  pub small : length l.now ≤ 16777216
   pub reads : names_in l.now ≡ well_formed (names_left ns)
 
 abbrev pub CheckedNames : Bor (List ℕ) → Result Names ℕ → Type 0

@@ -1,7 +1,6 @@
 // Lists that were checked: what they hold, one after another.
 #![tactic(auto)]
 
-ghost use Rattle.std.specs.Prelude.{◌≤◌, length};
 ghost use Rattle.items.specs.Items.{span_test, name_test};
 ghost use Rattle.items.specs.Walks.{Walks};
 
@@ -14,7 +13,6 @@ pub struct Spans<'a> {
     pub list: &'a [u8],
     pub at: usize,
     pub ghost walks: { Walks span_test list.now at },
-    pub ghost small: { length list.now ≤ 16777216 },
 }
 
 impl<'a> Iterator for Spans<'a> {
@@ -46,7 +44,6 @@ pub struct Names<'a> {
     pub list: &'a [u8],
     pub at: usize,
     pub ghost walks: { Walks name_test list.now at },
-    pub ghost small: { length list.now ≤ 16777216 },
 }
 
 impl<'a> Names<'a> {

@@ -45,7 +45,7 @@ module _ (l : Bor (List ℕ)) (r : Bool) (up : Bool) (s : Runs l.now up r) (e : 
 
   module _ (ns : Names) (p : ns.list ≡ l) (q : ns.at ≡ 0) where
     whole : CheckedWell l ns
-    whole = record { list = p; start = q; reads = rw (p, q) (names_in_law l.now _ run.good) }
+    whole = record { list = p; start = q; small = run.good.small; reads = rw (p, q) (names_in_law l.now _ run.good) }
 
     pub read_up : up ≡ true → ((k : ℕ) → get_or l.now k 0 < 256) → ReadIs l (Ok (Up ns))
     read_up z bytes =
@@ -112,7 +112,7 @@ module _ (l : Bor (List ℕ)) (d : List ℕ) (r : Result Way OrderError) (s : Re
 
     pub way_pre : (w : List ℕ) → length w ≡ length l.now → WayPre way w
     way_pre w h = record {
-      lent = record { start = well.whole.start; long = h ∙ ap (λ (b : Bor (List ℕ)). length b.now) (sym well.whole.list) };
+      lent = record { start = well.whole.start; small = rw well.whole.list well.whole.small; long = h ∙ ap (λ (b : Bor (List ℕ)). length b.now) (sym well.whole.list) };
       stands = well.stands;
     }
 

@@ -18,6 +18,7 @@ use Rattle.order.specs.declared.OrderError.TheVariants.{IllFormed, OutShort}
 -- all of a list that was checked, and an output of its length
 pub record Lent (ns : Names) (w : List ℕ) : Type 0 where
   pub start : ns.at ≡ 0
+  pub small : length ns.list.now ≤ 16777216
   pub long : length w ≡ length ns.list.now
 
 -- the names at the places in the first n words

@@ -11,7 +11,7 @@ pub get_le32-requires : goal.get_le32-requires
 get_le32-requires c = omega (arith, name_room _ _ c.args.self.now.walks c.if-list-at.false)
 
 pub invariant_of-self : goal.invariant_of-self
-invariant_of-self c = record { walks = name_next _ _ c.args.self.now.walks c.if-list-at.false _ c.get_le32.ensures; small = c.args.self.now.small }
+invariant_of-self c = record { walks = name_next _ _ c.args.self.now.walks c.if-list-at.false _ c.get_le32.ensures }
 
 pub returns-clause-steps : goal.returns-clause-steps
 returns-clause-steps c = name_gave _ _ _ _ c.if-list-at.false c.get_le32.ensures refl refl refl

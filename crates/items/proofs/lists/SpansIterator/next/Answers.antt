@@ -11,7 +11,7 @@ pub get_le32-size-requires : goal.get_le32-size-requires
 get_le32-size-requires c = let f = span_fits _ _ c.args.self.now.walks c.if-list-at.false _ refl in omega (arith, f.0, f.1)
 
 pub invariant_of-self : goal.invariant_of-self
-invariant_of-self c = record { walks = span_next _ _ c.args.self.now.walks c.if-list-at.false _ c.get_le32-size.ensures; small = c.args.self.now.small }
+invariant_of-self c = record { walks = span_next _ _ c.args.self.now.walks c.if-list-at.false _ c.get_le32-size.ensures }
 
 pub span_to-requires-clause-long : goal.span_to-requires-clause-long
 span_to-requires-clause-long c = (span_fits _ _ c.args.self.now.walks c.if-list-at.false _ (ap (λ n. c.args.self.now.at + 6 + n) c.get_le32-size.ensures)).0
