@@ -4,7 +4,7 @@ use mathlib.Core.List.{List, [], ◌∷◌, ◌++◌, append_assoc, append-nil}
 use Prim.Native.Nat.{ℕ, zero, suc, ◌+◌, ◌-◌, ◌*◌, ◌<◌, ◌≤◌, min}
 use native.Mathlib.Omega.{arith}
 use mathlib.Core.Bool.{Bool, true, false, cond}
-use lib.ListN.{length, get_or, take, drop, length-take, length-drop, length-append, get_or-append}
+use lib.ListN.{length, get_or, take, drop, length-take, length-drop, get_or-append}
 use lib.Seq.{length-take-le, take_all, take-nil, take-take, get_or-append-add, get_or-take, get_or-drop}
 use lib.Dec.{eqb}
 use borrow.Author.Tests.{eq-eqb, ne_eqb}
@@ -151,37 +151,33 @@ byte_here f w k i upto j h e fit l =
 
 -- the byte is number j of what the key has from packet i on
 pub record Seeking (f w : List ℕ) (first upto at i j : ℕ) : Type 0 where
-  pub before : i < upto
-  pub mine : word w (6 * i) ≡ word w (6 * first)
-  pub there : j < length (since f w (word w (6 * first)) i upto)
+  pub mine : i < upto → word w (6 * i) ≡ word w (6 * first)
   pub same : get_or (since f w (word w (6 * first)) i upto) j 0 ≡ get_or (begun f w first upto) at 0
 
 module _ (f w l : List ℕ) (first upto : ℕ) (p : Walk f w l first upto) (at : ℕ) where
   module _ (i j : ℕ) (s : Seeking f w first upto at i j) where
-    module _ (n : ℕ) (ne : n ≡ word w (6 * i + 3)) where
+    module _ (h : i < upto) (n : ℕ) (ne : n ≡ word w (6 * i + 3)) where
       module _ (r : ℕ) (e : word l (2 * i) ≡ r + 1) where
         pub seek_less : upto - r < upto - i
-        seek_less = omega (arith, s.before, link_more f w l first upto p i s.before r e)
+        seek_less = omega (arith, link_more f w l first upto p i h r e)
 
         pub seek_turn : n ≤ j → Seeking f w first upto at r (j - n)
-        seek_turn h =
+        seek_turn le =
             let k : ℕ = word w (6 * first) in
             let b : List ℕ = (packet_at f w i).bytes in
-            let own : since f w k i upto ≡ b ++ since f w k r upto = since_next f w l first upto p i s.before r e k s.mine in
-            let long : length b ≡ n = bytes_length f w i (fit f w l first upto p i s.before) ∙ sym ne in
-            let more : j - n < length (since f w k r upto) = omega (arith, s.there, ap length own, length-append b (since f w k r upto), long) in
-            let in_range : r < upto =
-            split≤ upto r (λ u. let z : length (since f w k r upto) ≡ 0 = ap length (since_stop f w k r upto u) in absurd (omega arith)) (λ u. u) in
+            let own : since f w k i upto ≡ b ++ since f w k r upto = since_next f w l first upto p i h r e k (s.mine h) in
+            let long : length b ≡ n = bytes_length f w i (fit f w l first upto p i h) ∙ sym ne in
             record {
-              before = in_range;
-              mine = link_key f w l first upto p i s.before r e k s.mine in_range;
-              there = more;
+              mine = link_key f w l first upto p i h r e k (s.mine h);
               same = sym (rw (own, past b (since f w k r upto) j (omega (arith, long)), long)) ∙ s.same;
             }
 
-      module _ (h : j < n) (m : ℕ) (me : m ≡ word w (6 * i + 2)) where
+      module _ (lt : j < n) (m : ℕ) (me : m ≡ word w (6 * i + 2)) where
         pub seek_here : get_or f (m + j) 0 ≡ get_or (begun f w first upto) at 0
-        seek_here = rw me (sym (byte_here f w (word w (6 * first)) i upto j s.before s.mine (fit f w l first upto p i s.before) (omega arith)) ∙ s.same)
+        seek_here = rw me (sym (byte_here f w (word w (6 * first)) i upto j h (s.mine h) (fit f w l first upto p i h) (omega arith)) ∙ s.same)
+
+    pub seek_end : upto ≤ i → 0 ≡ get_or (begun f w first upto) at 0
+    seek_end h = sym (rw (since_stop f w (word w (6 * first)) i upto h)) ∙ s.same
 
   -- both bytes of a number lie in the first packet
   module _ (n : ℕ) (ne : n ≡ word w (6 * first + 3)) (le : at + 2 ≤ n) (s : ℕ) (se : s ≡ word w (6 * first + 2)) where

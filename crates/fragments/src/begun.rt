@@ -49,23 +49,27 @@ impl<'a> Begun<'a> {
         get32(self.links, 2 * i) as usize - 1
     }
 
-    // The byte number at.
+    // The byte number at; 0 if it is not there.
+    // Stays: 0 and no Option, since the definition reads a number past the end as of zeros.
     fn byte(self, at: usize) -> u8
-        requires { at < length (bytes_of self) }
         ensures { result ≡ get_or (bytes_of self.entry) at 0 }
     {
         let mut i = self.first;
         let mut j = at;
-        while len_of(self.rows, i) <= j {
-            j -= len_of(self.rows, i);
+        while i < self.upto {
+            let n = len_of(self.rows, i);
+            if j < n {
+                return self.file[place_of(self.rows, i) + j];
+            }
+            j -= n;
             i = self.later(i);
         }
-        self.file[place_of(self.rows, i) + j]
+        0
     }
 
     // The 16-bit number at a place. It may be split over fragments, and nearly always lies in the first.
     pub fn half(self, at: usize) -> u16
-        requires { (at < 4) × (at + 2 ≤ length (bytes_of self)) }
+        requires { at < 4 }
         ensures { result ≡ le16 (bytes_of self.entry) at }
     {
         if at + 2 <= len_of(self.rows, self.first) {
