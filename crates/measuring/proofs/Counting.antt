@@ -180,7 +180,7 @@ module _ (f w : List ℕ) (p : Plan) (i : ℕ) (s : Sums) (q : CountPre f w p i 
   fits = own_fits f w p i q.own q.fits
 
   small : h + len_at w p i ≤ 1048576
-  small = omega (arith, length_joined f w p i lying q.row fits, joined_small f w p i lying q.row fits)
+  small = omega (arith, length_joined f w p i lying q.row fits, joined_small f w p i lying q.row fits q.laid.sum)
 
   pub count_held : CountHeld f w p i h s.tally
   unfolding opened
@@ -220,7 +220,7 @@ module _ (f w : List ℕ) (p : Plan) (i : ℕ) (s : Sums) (q : CountPre f w p i 
       part = omega (arith, er, capped_le c.rest)
 
       rest : c.rest ≤ 1048576
-      rest = omega (arith, b.left, rest_le (joined f w p i), joined_small f w p i lying q.row fits)
+      rest = omega (arith, b.left, rest_le (joined f w p i), joined_small f w p i lying q.row fits q.laid.sum)
 
       pub count_add : (m : ℕ) → m ≡ len_at w p i → AddPre s m h c.rest r
       count_add m em =

@@ -73,14 +73,12 @@ module _ (f u w : List ℕ) (p : Plan) (l : Lying f w p) (s : Front (4 * p.held)
   pub lying_front : 4 * (p.ends + p.n) ≤ length u → Lying f u p
   lying_front e = record {
     chained = record { rows = l.chained.rows; chain = l.chained.chain; linked = linked_front; ends = l.chained.ends; words = e };
-    sum = rw infos_same l.sum;
     within = within_same;
   }
 
 pub laid_lying : (f w : List ℕ) (p : Plan) → Laid f w p → Lying f w p
 laid_lying f w p l = record {
   chained = record { rows = l.rows; chain = l.chain; linked = l.linked; ends = l.ends; words = omega (arith, l.area, l.room) };
-  sum = l.sum;
   within = l.within;
 }
 

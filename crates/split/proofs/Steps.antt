@@ -51,8 +51,8 @@ module _ (f w : List ℕ) (p : Plan) (i : ℕ) (l : Lying f w p) (o : i < p.n) (
       let d : infos_of w p.rows (suc i) ≤ infos_of w p.rows p.n = infos_mono w p.rows (suc i) p.n (omega arith) in
       omega arith
 
-  pub joined_small : length (joined f w p i) ≤ 1048576
-  joined_small = omega (arith, joined_infos, l.sum)
+  pub joined_small : infos_of w p.rows p.n ≤ 1048576 → length (joined f w p i) ≤ 1048576
+  joined_small s = omega (arith, joined_infos)
 
 -- ---- the words of a piece
 
@@ -147,7 +147,7 @@ module _ (f w : List ℕ) (p : Plan) (i h : ℕ) (q : JoinPre f w p i h) where
   join_room = omega (arith, joined_infos f w p i join_lying q.row join_fits, q.laid.room)
 
   join_most : length (joined f w p i) ≤ 1048576
-  join_most = joined_small f w p i join_lying q.row join_fits
+  join_most = joined_small f w p i join_lying q.row join_fits q.laid.sum
 
   -- the tables, and the area behind them
   module _ (u : List ℕ) (eu : u ≡ take p.area w) (a : List ℕ) (ea : a ≡ drop p.area w) where

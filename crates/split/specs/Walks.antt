@@ -5,7 +5,7 @@ use Rattle.words.specs.Words.{word}
 use Rattle.words.specs.Front.{Front}
 use Rattle.spans.specs.Scan.{rest_of}
 use Rattle.search.specs.Seek.{seek}
-use Rattle.rfcomm.specs.PieceTable.{infos_of, Within}
+use Rattle.rfcomm.specs.PieceTable.{Within}
 use Rattle.split.specs.Rows.{row_of, dlci_at, key_at, len_at, start_at, bytes_at, held_of, stream_to, joined, capped_length, newest_of, Linked, Laid}
 use Rattle.split.specs.declared.Plan.{Plan}
 
@@ -55,7 +55,6 @@ pub record StartIs (w : List ℕ) (p : Plan) (i r : ℕ) : Type 0 where
 -- below the tables in w lies what was joined, and the rest in f; w may end behind the tables, so that there is no area
 pub record Lying (f w : List ℕ) (p : Plan) : Type 0 where
   pub chained : Chained w p
-  pub sum : infos_of w p.rows p.n ≤ 1048576
   pub within : (i : ℕ) → i < p.n → Within f w (row_of p i) (4 * p.held)
 
 -- m bytes of the piece j from skip on, to a place in out

@@ -6,12 +6,15 @@
 // put together where a 3C closes it. No piece of another key is walked, and what counting finds is not searched for again.
 #![tactic(auto)]
 
-ghost use Rattle.split.specs.Walks.{LinkRoom, LinkedTo, JoinPre, Joined};
+ghost use Rattle.std.specs.Prelude.{◌≡◌};
+ghost use Rattle.split.specs.Rows.{len_at};
+ghost use Rattle.split.specs.Walks.{Row, LinkRoom, LinkedTo, JoinPre, Joined};
 
 mod pieces;
 
 use classes::{Rows, link_all};
 pub use pieces::{Pieces, Table};
+use words::get32;
 
 // Where the tables lie in work: the pieces, what links them, the lengths held and the places of 3C by words, the area by
 // bytes. And the DLCI.
@@ -24,6 +27,14 @@ pub struct Plan {
     pub ends: usize,
     pub area: usize,
     pub dlci: u32,
+}
+
+// The length of piece i.
+pub fn length_of(w: &[u8], p: Plan, i: usize) -> usize
+    requires { Row w.now p i }
+    ensures { result ≡ len_at w.now p i }
+{
+    (get32(w, p.rows + 8 * i + 5) % 65536) as usize
 }
 
 // ---- the pieces linked, before all else

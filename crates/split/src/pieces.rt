@@ -3,7 +3,7 @@
 
 ghost use Rattle.split.specs.Walks.{Chained, Lying};
 
-use crate::Plan;
+use crate::{Plan, length_of};
 use words::{copy_to, get32, part};
 
 // The table of pieces in work, and the words that link them.
@@ -15,7 +15,8 @@ pub struct Table<'a> {
 }
 
 impl<'a> Table<'a> {
-    ghost use Rattle.std.specs.Prelude.{◌<◌};
+    ghost use Rattle.std.specs.Prelude.{◌≡◌, ◌<◌};
+    ghost use Rattle.split.specs.Rows.{held_of};
     ghost use Rattle.split.specs.Walks.{Earlier, one_more};
 
     // The piece of its key before piece i, if there is one. The word has one more than its number.
@@ -24,6 +25,17 @@ impl<'a> Table<'a> {
         ensures { Earlier self.entry.w.now self.entry.plan i (one_more result) }
     {
         (get32(self.w, self.plan.chain + i) as usize).checked_sub(1)
+    }
+
+    // The length held after the newest piece before i that has the key of i.
+    pub fn held_before(self, i: usize) -> usize
+        requires { i < self.plan.n }
+        ensures { result ≡ held_of self.entry.w.now self.entry.plan i }
+    {
+        match self.earlier(i) {
+            Some(j) => get32(self.w, self.plan.held + j) as usize,
+            None => 0,
+        }
     }
 }
 
@@ -49,7 +61,7 @@ impl<'a> Pieces<'a> {
         requires { i < self.plan.n }
         ensures { result ≡ len_at self.entry.w.now self.entry.plan i }
     {
-        (get32(self.w, self.plan.rows + 8 * i + 5) % 65536) as usize
+        length_of(self.w, self.plan, i)
     }
 
     // Where piece i starts, in the file or in work.
@@ -98,10 +110,11 @@ impl<'a> Pieces<'a> {
         requires { i < self.plan.n }
         ensures { result ≡ held_of self.entry.w.now self.entry.plan i }
     {
-        match self.earlier(i) {
-            Some(j) => get32(self.w, self.plan.held + j) as usize,
-            None => 0,
-        }
+        let table = Table {
+            w: self.w,
+            plan: self.plan,
+        };
+        table.held_before(i)
     }
 
     // Copies m bytes of piece j, from skip on, to a place in out.

@@ -88,6 +88,7 @@ module _ (f w : List ℕ) (n : ℕ) (channel : Channel) (u : List ℕ) (c : Choi
       unfolding plan_of
       lists_pre = record {
         told = rw ep (q.told s e);
+        small = (laid_later f w n t u q.front k p s.dlci ep).sum;
         room = rw (all_same f w n t u q.front p s.dlci ep) (omega (arith, needed));
       }
 

@@ -69,7 +69,7 @@ module _ (f w : List ℕ) (p : Plan) (l : Lying f w p) (i : ℕ) (out : List ℕ
   closed_pre = record {
     row = q.row;
     come = come;
-    small = omega (arith, y.holds, length_joined f w p i l q.row (own_fits f w p i q.own q.fits), joined_small f w p i l q.row (own_fits f w p i q.own q.fits));
+    small = omega (arith, y.holds, length_joined f w p i l q.row (own_fits f w p i q.own q.fits), joined_small f w p i l q.row (own_fits f w p i q.own q.fits) q.small);
     part = omega (arith, y.high);
     room = omega (arith, q.room, ap length closed_items, length-append (closed_item f w p i h (e + 1)) (items_from f w p i (e + 1)), closed_size);
   }
@@ -249,6 +249,7 @@ module _ (f w : List ℕ) (p : Plan) (l : Lying f w p) (out₀ out : List ℕ) (
       pub writing_pre : WritePre f w p i out at
       writing_pre = record {
         row = h;
+        small = g.small;
         own = own;
         fits = v.fits;
         quiet = v.quiet;

@@ -2,6 +2,7 @@
 use Rattle.std.specs.Prelude.{ℕ, ◌+◌, ◌<◌, ◌≤◌, ◌≡◌, List, ◌++◌, length, get_or, take, drop}
 use Rattle.laws.specs.Stores.{Writes}
 use Rattle.items.specs.Items.{span, span_item, span_list}
+use Rattle.rfcomm.specs.PieceTable.{infos_of}
 use Rattle.spans.specs.Scan.{spans_of, rest_of}
 use Rattle.search.specs.Seek.{seek}
 use Rattle.spans.specs.Spans.{spans}
@@ -19,6 +20,7 @@ items_of f w p i = span_list (tagged (piece f w p i).rx (piece f w p i).time (sp
 
 pub record WritePre (f w : List ℕ) (p : Plan) (i : ℕ) (out : List ℕ) (at : ℕ) : Type 0 where
   pub row : i < p.n
+  pub small : infos_of w p.rows p.n ≤ 1048576
   pub own : dlci_at w p i ≡ p.dlci
   pub fits : Fits f w p i
   pub quiet : AllQuiet (opened f w p i)
@@ -68,7 +70,8 @@ pub record ClosePre (f w : List ℕ) (p : Plan) (i : ℕ) (out : List ℕ) (at h
   pub part : k ≤ len_at w p i
   pub room : at + 14 + h + k ≤ length out
 
--- the words that counting left, and room for the list
+-- the words that counting left, not too many bytes in all, and room for the list
 pub record ListPre (f w : List ℕ) (p : Plan) (out : List ℕ) : Type 0 where
   pub told : AllTold f w p p.n
+  pub small : infos_of w p.rows p.n ≤ 1048576
   pub room : length (span_list (spans (all f w p))) ≤ length out
