@@ -349,9 +349,6 @@ module _ (f w : List ℕ) (q : ℕ) (t : Tables) (i : ℕ) (p : Step f w q t i) 
         pub step_walk : InWork f w q first (i + 1)
         step_walk = record { tabled = p.tabled; quarter = p.ready.quarter; linked = p.linked; before = omega (arith, step_first.0) }
 
-        pub step_long : got ≡ length (begun f w first (i + 1))
-        step_long = rw step_begun step_first.1
-
         held_next : some (since f w (word w (6 * i)) first (i + 1)) ≡ after f w (3 * q) t.live i
         unfolding held_of
         held_next = (rw e at (arrive_held f w (3 * q) t.live i p.ready.sound))

@@ -43,7 +43,6 @@ struct Row {
 
 // How many bytes make a PDU complete of which got are there. With fewer than 4 its length is not there, and no packet is walked for it.
 fn needed(b: Begun, got: usize) -> usize
-    requires { got ≡ length (bytes_of b) }
     ensures { Need (bytes_of b.entry) got result }
 {
     if got < 4 {

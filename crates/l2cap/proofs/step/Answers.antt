@@ -1,4 +1,4 @@
-use Rattle.l2cap.proofs.Stepping.{step_row, step_arrive, step_skip, step_walk, step_long, step_finish, narrow_first, first_fits, narrow_got, at_room, full_room, step_hold, step_full}
+use Rattle.l2cap.proofs.Stepping.{step_row, step_arrive, step_skip, step_walk, step_finish, narrow_first, first_fits, narrow_got, at_room, full_room, step_hold, step_full}
 use native.Mathlib.Omega.{arith}
 use Rattle.l2cap.proofs.step.Goals as goal
 
@@ -13,9 +13,6 @@ returns-in_default c = search step_skip
 
 pub in_work-requires : goal.in_work-requires
 in_work-requires c = step_walk _ _ _ _ _ c.requires _ c.row_of-at.ensures _ c.arrive.ensures _ _ c.in-Some.is
-
-pub needed-need-requires : goal.needed-need-requires
-needed-need-requires c = rw c.in_work.ensures (step_long _ _ _ _ _ c.requires _ c.row_of-at.ensures _ c.arrive.ensures _ _ c.in-Some.is)
 
 pub finish-end-requires : goal.finish-end-requires
 finish-end-requires c = step_finish _ _ _ _ _ c.requires _ c.row_of-at.ensures _ c.arrive.ensures _ _ c.in-Some.is _ (rw c.in_work.ensures at c.needed-need.ensures) c.if-need-got.true
