@@ -10,7 +10,7 @@ use lib.Dec.{eqb}
 use mir.Val.{bool_byte}
 use borrow.Author.Tests.{eqb-true, eq-eqb, ne_eqb, lt-ltb, le-ltb}
 use Rattle.laws.proofs.Choice.{split_b, split≡, no_way}
-use Rattle.laws.proofs.Lists.{drop_step, drop_end}
+use Rattle.laws.proofs.Lists.{drop_end}
 use Rattle.mdr.specs.Frame.{unpacks_of}
 use Rattle.spans.specs.Scan.{begun, end, ended, spans_n, rest_n, spans_of, rest_of}
 use Rattle.search.specs.Seek.{seek}
