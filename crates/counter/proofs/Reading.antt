@@ -59,9 +59,6 @@ pub record Reading (s : List ℕ) (v i : ℕ) : Type 0 where
   pub small : v ≤ 4294967295
   pub same : rest v (drop i s) ≡ rest 0 s
 
-pub read_start : (s : List ℕ) → Reading s 0 0
-read_start s = record { small = omega arith; same = refl }
-
 step : (v x : ℕ) (l : List ℕ) → 48 ≤ x → x ≤ 57 → rest v (x ∷ l) ≡ rest (10 * v + (x - 48)) l
 unfolding to_hyphen digits is_digit
 step v x l p q = rw (ne_eqb x 45 (λ e. omega arith)) (rw (le-leb 48 x p, le-leb x 57 q))

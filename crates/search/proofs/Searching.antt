@@ -107,9 +107,6 @@ pub record Lacking (l : List ℕ) (x : ℕ) (found : Bool) (i : ℕ) : Type 0 wh
   pub none : found ≡ false → i + seek x (drop i l) ≡ seek x l
   pub some : found ≡ true → seek x l < length l
 
-pub lacking_start : (l : List ℕ) (x : ℕ) → Lacking l x false 0
-lacking_start l x = record { high = omega arith; none = λ e. omega arith; some = λ h. no_way h refl }
-
 module _ (l : List ℕ) (x : ℕ) (found : Bool) (i : ℕ) (v : Lacking l x found i) where
   pub lacking_turn : i < length l → Lacking l x (found || eqb (get_or l i 0) x) (i + 1)
   lacking_turn h =
@@ -169,9 +166,6 @@ pub sooner_is : (n at : ℕ) (b : Bool) → at ≡ 0 → b ≡ false → at ≡ 
 sooner_is n at b e t = rw t e
 
 module _ (s : List ℕ) (x at : ℕ) (b : Bool) (h : length s ≤ 32) (g : 16 ≤ length s) (w : Without (take 16 s) x b) (e : at ≡ cond b (length s - 16) 0) where
-  pub half_high : at + 16 ≤ length s
-  half_high = split_b b (λ t. let k : at ≡ length s - 16 = rw t at e in omega arith) (λ t. let k : at ≡ 0 = rw t at e in omega arith)
-
   half_found : seek x s ≡ at + seek x (take 16 (drop at s))
   half_found =
       split_b b

@@ -5,12 +5,12 @@ use mathlib.Core.Bool.{Bool, true, false, cond}
 use mathlib.Core.List.{List, [], ◌∷◌, ◌++◌}
 use native.Mathlib.Omega.{arith}
 use lib.ListN.{length, get_or, take, drop, length-append, length-drop}
-use lib.Seq.{length-take-le, take_all}
+use lib.Seq.{length-take-le}
 use lib.Dec.{eqb}
 use mir.Val.{bool_byte}
-use borrow.Author.Tests.{eqb-true, eq-eqb, ne_eqb, lt-ltb, le-ltb}
-use Rattle.laws.proofs.Choice.{split_b, split≡, no_way}
-use Rattle.laws.proofs.Lists.{drop_step, drop_end}
+use borrow.Author.Tests.{eq-eqb, ne_eqb, lt-ltb, le-ltb}
+use Rattle.laws.proofs.Choice.{split_b}
+use Rattle.laws.proofs.Lists.{drop_end}
 use Rattle.mdr.specs.Frame.{unpacks_of}
 use Rattle.spans.specs.Scan.{begun, end, ended, spans_n, rest_n, spans_of, rest_of}
 use Rattle.search.specs.Seek.{seek}
@@ -18,7 +18,7 @@ use Rattle.search.proofs.Searching.{seek_le}
 use Rattle.spans.proofs.Scanning.{shorter, rest_more}
 use Rattle.spans.specs.Bytewise.{Quiet}
 use Rattle.spans.proofs.Bytewise.{no_end, no_start_law, closes_first}
-use Rattle.spans.specs.Parts.{bit, tally_one, tally_all, Room, CountedIs}
+use Rattle.spans.specs.Parts.{bit, tally_one, tally_all, CountedIs}
 use Rattle.search.specs.Steps.{Sought}
 use Rattle.spans.specs.Scans.{UpTo, ScanPre, Begins, AddedIs, FirstPre, FirstIs, FromPre, OpenPre, OpenIs, ScannedIs}
 use Rattle.spans.specs.declared.Tally.{Tally}
@@ -41,20 +41,6 @@ seek_before x (y ∷ l) (suc m) h e = rw (seek_before x l m (omega arith) e)
 pub up_to_last : (l : List ℕ) → 0 < length l → get_or l (length l - 1) 0 ≡ 0x3C → UpTo l (length l - 1)
 up_to_last l h e = record { high = omega arith; same = seek_before 0x3C l (length l - 1) (omega arith) e }
 
-pub up_to_all : (l : List ℕ) → 0 < length l → UpTo l (length l - 1 + 1)
-up_to_all l h = let z : length l - 1 + 1 ≡ length l = omega arith in rw z (record { high = omega arith; same = rw (take_all (length l) l (omega arith)) })
-
-pub up_to_found : (l : List ℕ) (m : ℕ) → UpTo l m → (r : ℕ) → Sought (take (m - 0) l) 0x3C r → r ≡ seek 0x3C l
-up_to_found l m u r s = let z : m - 0 ≡ m = omega arith in (rw z at s.at) ∙ omega (arith, u.same)
-
--- ---- whether a part begins a span
-
-pub begins_held : (x : List ℕ) (h : ℕ) → 0 < h → Begins x h true
-begins_held x h g = record { yes = λ e z. absurd (omega arith); no = λ e. no_way refl e }
-
-pub begins_self : (x : List ℕ) (h : ℕ) → h ≤ 0 → Begins x h (eqb (get_or x 0 0) 0x3E)
-begins_self x h g = record { yes = λ e z. eqb-true (get_or x 0 0) 0x3E e; no = λ e. omega arith }
-
 -- ---- one span more
 
 bit_from : (b : Bool) → bool_byte b ≡ bit b
@@ -76,11 +62,6 @@ module _ (x : List ℕ) (h : ℕ) (t : Tally) where
   added_known e = record {
     is = λ b l. (let k : t.bytes + 14 + length (b ++ x) ≡ t.bytes + 14 + h + length x = omega (arith, length-append b x) in rw (k, ne_eqb t.frames 0 (λ z. omega arith)));
   }
-
-  pub added_first : ScanPre x h t → t.frames ≤ 0 → (r : Tally) → r ≡ tally_one t x → AddedIs x h t r
-  added_first q e r er = record { is = λ b l. er ∙ rw (nil b (l ∙ none)) } where
-    none : h ≡ 0
-    none = split≡ h 0 (λ z. z) (λ z. absurd (omega (arith, q.known (omega arith))))
 
 -- ---- the first span
 
@@ -130,16 +111,6 @@ module _ (x : List ℕ) (h : ℕ) (t : Tally) (e : ℕ) (q : FirstPre x h t e) w
 pub from_none : (x : List ℕ) (skip : ℕ) (t : Tally) → FromPre x skip t → skip ≡ length x → CountedIs (drop skip x) t (record { tally = t; rest = 0 })
 unfolding spans_of spans_n rest_of rest_n seek tally_all
 from_none x skip t q e = rw (drop_end x skip (omega arith)) (record { all = refl; left = refl; fewer = q.room.fewer; bytes = omega arith; most = omega arith })
-
-module _ (x : List ℕ) (skip : ℕ) (t : Tally) where
-  from_whole : take (length x - skip) (drop skip x) ≡ drop skip x
-  from_whole = take_all (length x - skip) (drop skip x) (simp length-drop (omega arith))
-
-  pub from_room : FromPre x skip t → Room t (length (take (length x - skip) (drop skip x)))
-  from_room q = rw from_whole (record { fewer = q.room.fewer; bytes = omega (arith, q.room.bytes, length-drop skip x) })
-
-  pub from_part : (c : Counted) → CountedIs (take (length x - skip) (drop skip x)) t c → CountedIs (drop skip x) t c
-  from_part c k = rw from_whole at k
 
 -- ---- a part with no 3C
 
@@ -217,9 +188,6 @@ module _ (x : List ℕ) (h : ℕ) (t : Tally) (q : ScanPre x h t) (e : ℕ) (ee 
   scan_first n = record { pre = q; at = ee; high = omega (arith, seek_le 0x3C x) }
 
   module _ (f : First) (g : FirstIs x h t f) where
-    pub scan_from : FromPre x f.skip f.tally
-    scan_from = record { within = g.within; room = record { fewer = g.fewer; bytes = omega (arith, g.bytes, q.room.bytes) } }
-
     pub scanned : (c : Counted) → CountedIs (drop f.skip x) f.tally c → ScannedIs x h t (record { tally = c.tally; end = e; rest = c.rest })
     scanned c k = record {
       end = ee;

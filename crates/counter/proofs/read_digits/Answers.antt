@@ -1,4 +1,4 @@
-use Rattle.counter.proofs.Reading.{read_start, read_digit, read_over, read_hyphen, read_other, read_end}
+use Rattle.counter.proofs.Reading.{read_digit, read_over, read_hyphen, read_other, read_end}
 use native.Mathlib.Omega.{arith}
 use Rattle.counter.proofs.read_digits.Goals as goal
 
@@ -16,9 +16,6 @@ returns-in_default-2 c =
 pub returns-then-from-v : goal.returns-then-from-v
 returns-then-from-v c =
     read_over _ _ _ c.loop-b.invariant c.loop-b-test.true (omega arith) (omega arith) (omega arith)
-
-pub loop-b-init : goal.loop-b-init
-loop-b-init c = read_start _
 
 pub loop-b-preserved : goal.loop-b-preserved
 loop-b-preserved c =

@@ -9,8 +9,5 @@ returns-then-s g c = search sought
 pub returns-then-at : goal.returns-then-at
 returns-then-at g c = soon_found _ _ _ (omega arith) _ c.find_few-at.ensures c.if-at.true
 
-pub overflow_add-result : goal.overflow_add-result
-overflow_add-result g c = omega (arith, (soon_past _ _ _ (omega arith) _ c.find_few-at.ensures c.if-at.false _ (rw take_rest at c.find.ensures)).most)
-
 pub returns : goal.returns
 returns g c = soon_past _ _ _ (omega arith) _ c.find_few-at.ensures c.if-at.false _ (rw take_rest at c.find.ensures)

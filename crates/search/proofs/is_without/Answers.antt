@@ -1,8 +1,5 @@
-use Rattle.search.proofs.Searching.{lacking_start, lacking_turn, lacking_end}
+use Rattle.search.proofs.Searching.{lacking_turn, lacking_end}
 use Rattle.search.proofs.is_without.Goals as goal
-
-pub loop-b-init : goal.loop-b-init
-loop-b-init c = search lacking_start
 
 pub loop-b-preserved : goal.loop-b-preserved
 loop-b-preserved c = search lacking_turn

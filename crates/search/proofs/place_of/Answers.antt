@@ -1,4 +1,4 @@
-use Rattle.search.proofs.Searching.{placing_start, placing_hit, placing_miss, placing_end}
+use Rattle.search.proofs.Searching.{placing_start, placing_hit, placing_miss}
 use Rattle.search.proofs.place_of.Goals as goal
 
 pub loop-i-init : goal.loop-i-init
@@ -9,6 +9,3 @@ loop-i-preserved-then-s-i c = search placing_hit
 
 pub loop-i-preserved : goal.loop-i-preserved
 loop-i-preserved c = search placing_miss
-
-pub returns : goal.returns
-returns c = search placing_end

@@ -1,4 +1,4 @@
-use Rattle.spans.proofs.Buffers.{counting_start, counting_room, counting_turn, counting_end, next_smaller}
+use Rattle.spans.proofs.Buffers.{counting_room, counting_turn, counting_end, next_smaller}
 use Rattle.spans.proofs.count_part.Goals as goal
 
 pub add_span-sum-requires : goal.add_span-sum-requires

@@ -1,4 +1,4 @@
-use Rattle.spans.proofs.Scans.{scanned_open, scan_first, scanned}
+use Rattle.spans.proofs.Scans.{scanned_open, scan_first}
 use Rattle.spans.proofs.scan.Goals as goal
 
 pub returns-then-e-part : goal.returns-then-e-part
@@ -6,6 +6,3 @@ returns-then-e-part c = search scanned_open
 
 pub count_first-f-requires : goal.count_first-f-requires
 count_first-f-requires c = search scan_first
-
-pub returns : goal.returns
-returns c = search scanned

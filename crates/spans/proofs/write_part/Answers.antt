@@ -1,4 +1,4 @@
-use Rattle.spans.proofs.Buffers.{writing_start, writing_room, writing_turn, writing_end, next_smaller}
+use Rattle.spans.proofs.Buffers.{writing_room, writing_turn, writing_end, next_smaller}
 use Rattle.spans.proofs.write_part.Goals as goal
 
 pub put_span-to-requires : goal.put_span-to-requires
