@@ -15,7 +15,7 @@ pub struct Excerpt<'a> {
 }
 
 impl<'a> Excerpt<'a> {
-    ghost use Rattle.std.specs.Prelude.{◌<◌};
+    ghost use Rattle.std.specs.Prelude.{cond};
     ghost use Rattle.acl.specs.Reading.{After, AclIs, H4Is};
 
     // What follows its first n bytes.
@@ -30,16 +30,11 @@ impl<'a> Excerpt<'a> {
     }
 
     // The ACL packet; none where a field or the data is not all there.
-    pub fn read_fragment(self, index: u32, rx: u32) -> Option<Fragment>
-        requires { (index < 65536) × (rx ≤ 1) }
-        ensures { AclIs self.entry index rx result }
+    pub fn read_fragment(self, index: u16, rx: bool) -> Option<Fragment>
+        ensures { AclIs self.entry index (cond rx 1 0) result }
     {
-        let Some(handle) = field16(self.bytes, 0) else {
-            return None;
-        };
-        let Some(size) = field16(self.bytes, 2) else {
-            return None;
-        };
+        let handle = field16(self.bytes, 0)?;
+        let size = field16(self.bytes, 2)?;
         if self.bytes.len() < 4 + usize::from(size) {
             return None;
         }
@@ -52,13 +47,12 @@ impl<'a> Excerpt<'a> {
     }
 
     // An H4 packet: the first byte is 02 for ACL.
-    pub fn read_h4(self, rx: u32) -> Option<Fragment>
-        requires { rx ≤ 1 }
-        ensures { H4Is self.entry rx result }
+    pub fn read_h4(self, rx: bool) -> Option<Fragment>
+        ensures { H4Is self.entry (cond rx 1 0) result }
     {
-        if !self.bytes.is_empty() && self.bytes[0] == 2 {
-            return self.after(1).read_fragment(0, rx);
+        if self.bytes.first() != Some(&2) {
+            return None;
         }
-        None
+        self.after(1).read_fragment(0, rx)
     }
 }

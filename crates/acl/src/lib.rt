@@ -1,7 +1,7 @@
 // An ACL packet in the bytes of a record, whichever container the record is of.
 #![tactic(auto)]
 
-ghost use Rattle.std.specs.Prelude.{◌≡◌, not, ◌+◌, ◌*◌, ◌/◌, ◌%◌, ◌≤◌, ◌<◌, eqb};
+ghost use Rattle.std.specs.Prelude.{◌≡◌, not, ◌+◌, ◌*◌, ◌/◌, ◌%◌, ◌≤◌, cond, eqb};
 ghost use Rattle.container.specs.Packets.{link_of};
 
 mod excerpt;
@@ -21,13 +21,10 @@ pub struct Fragment {
 }
 
 // An adapter's index and a handle field as 2 * link + direction.
-// Stays: the index and the direction are two numbers, here and in `Excerpt`: the direction is a bit of btsnoop's flags and of the key, so a bool would be
-// made of one bit to be the other, and a struct of both would be made anew by each caller to be taken apart here.
-fn key_of(index: u32, handle: u16, rx: u32) -> u32
-    requires { (index < 65536) × (rx ≤ 1) }
-    ensures { result ≡ 2 * link_of index (handle % 4096) + rx }
+fn key_of(index: u16, handle: u16, rx: bool) -> u32
+    ensures { result ≡ 2 * link_of index (handle % 4096) + cond rx 1 0 }
 {
-    2 * (4096 * index + (handle % 4096) as u32) + rx
+    2 * (4096 * u32::from(index) + u32::from(handle % 4096)) + u32::from(rx)
 }
 
 // Whether the boundary flag starts a PDU; else it continues one.

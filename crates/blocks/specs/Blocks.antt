@@ -1,13 +1,8 @@
 -- What the sums, counts and tests of some bytes promise.
-use Rattle.std.specs.Prelude.{◌≡◌, ℕ, ◌+◌, ◌%◌, ◌<◌, ◌≤◌, Bool, true, cond, List, length}
+use Rattle.std.specs.Prelude.{◌≡◌, ℕ, ◌%◌, ◌≤◌, Bool, true, cond, List, length}
 use Rattle.mdr.specs.Sum.{total}
 use Rattle.mdr.specs.Escaping.{count_in}
 use Rattle.blocks.specs.declared.Totals.{Totals}
-
--- a less b, wrapping in eight bits
-pub record Minus (a b r : ℕ) : Type 0 where
-  pub back : (r + b) % 256 ≡ a
-  pub small : r < 256
 
 -- the sum of the bytes, and how many lie between two values
 pub record Tallied (l : List ℕ) (lo hi : ℕ) (t : Totals) : Type 0 where

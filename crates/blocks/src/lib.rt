@@ -5,7 +5,7 @@ ghost use Rattle.std.specs.Prelude.{◌≡◌, ◌+◌, ◌≤◌, length};
 ghost use Rattle.laws.specs.Stores.{Writes};
 ghost use Rattle.mdr.specs.Sum.{checksum_of};
 ghost use Rattle.mdr.specs.Escape.{within};
-ghost use Rattle.blocks.specs.Blocks.{Minus, Tallied, AllAre, Bare, Full};
+ghost use Rattle.blocks.specs.Blocks.{Tallied, AllAre, Bare, Full};
 
 use words::copy_to;
 
@@ -58,6 +58,8 @@ pub fn tally<const LO: u8, const HI: u8>(s: &[u8]) -> Totals
 
 // Whether all bytes are as asked: between two values, or not. There is no early way out, so that the loop runs on many
 // bytes at once.
+// Stays: no Iterator::all, which ends at the first and so looks at one byte in a turn: 32,760 bare bytes are unpacked in 2,047 ns (PERFORMANCE),
+// 16 in each. Whether inside or not is a value, since is_bare and is_full differ in it alone.
 fn all_are<const LO: u8, const HI: u8>(part: &[u8], inside: bool) -> bool
     ensures { AllAre inside LO HI part.now result }
 {
@@ -82,11 +84,12 @@ pub fn is_full<const LO: u8, const HI: u8>(part: &[u8]) -> bool
     all_are::<LO, HI>(part, true)
 }
 
-// a less b, wrapping in eight bits.
-pub fn minus(a: u8, b: u8) -> u8
-    ensures { Minus a b result }
-{
-    a.wrapping_sub(b)
+// Some bytes, and whether it is known that none of them lies between two values.
+#[derive(Clone, Copy)]
+pub struct Part<'a, const LO: u8, const HI: u8> {
+    pub bytes: &'a [u8],
+    pub bare: bool,
+    pub ghost unescaped: { Bare LO HI bytes.now bare },
 }
 
 // The sum of the bytes, wrapping in eight bits.
@@ -103,6 +106,9 @@ pub fn checksum(bytes: &[u8]) -> u8
 // ---- storing
 
 // Sixteen bytes at once: all are loaded before the first is stored.
+// Stays: a slice of 16, here and in packing, and of 32 in unescaping. first_chunk gives an Option and try_into a Result: unescaping::fill_block and
+// packing::escape_mixed know of the bytes, and would have a case that cannot come. packing::escape_at asks for 16 first, and goes on over the rest
+// by as many as were used, 16 or more, so that the tail of split_first_chunk would serve one of its two ways.
 pub fn copy_block(part: &[u8], out: &mut [u8], at: usize) -> usize
     requires part_len { length part.now ≡ 16 }
     requires at_in_bounds { at + 16 ≤ length out.old }

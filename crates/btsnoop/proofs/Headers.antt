@@ -1,5 +1,5 @@
 -- What reading the header answers.
-use Rattle.std.specs.Prelude.{Option, Some, None, Ok, Err}
+use Rattle.std.specs.Prelude.{Ok, Err}
 use Prim.Native.Nat.{ℕ, ◌<◌, ◌≤◌}
 use mathlib.Core.Path.{◌≡◌, refl, sym, ◌∙◌}
 use mathlib.Core.Bool.{Bool, true, false}
@@ -15,7 +15,7 @@ use Rattle.btsnoop.specs.Header.{magic, is_btsnoop, datalink, is_datalink}
 use Rattle.btsnoop.specs.declared.HeaderError.TheVariants.{NotBtsnoop, Datalink}
 use Rattle.btsnoop.specs.declared.Datalink as link
 use Rattle.btsnoop.specs.declared.Datalink.TheVariants.{Hci, H4, Monitor}
-use Rattle.btsnoop.specs.Headers.{datalink_by, datalink_of, header_of}
+use Rattle.btsnoop.specs.Headers.{datalink_by, header_of}
 
 module _ (f : List ℕ) where
   pub begins_short : length f < 16 → false ≡ is_btsnoop f
@@ -43,37 +43,26 @@ module _ (f : List ℕ) (t : Bool) (e : t ≡ is_btsnoop f) where
   unfolding header_of
   header_not q = rw (sym e ∙ q)
 
-  module _ (q : t ≡ true) (n : ℕ) (m : n ≡ be32 f 12) (o : Option link.Datalink) (d : o ≡ datalink_of n) where
-    pub header_datalink : (x : link.Datalink) → o ≡ Some x → Ok x ≡ header_of f
-    unfolding header_of datalink datalink_of
-    header_datalink x z = split_b (is_datalink n)
-        (λ s. let k : Some x ≡ Some (datalink_by n) = sym z ∙ d ∙ rw s in let y : x ≡ datalink_by n = cc in rw (sym e ∙ q, ← m, s, y))
-        (λ s. let k : Some x ≡ None = sym z ∙ d ∙ rw s in let y : ◌≡◌ {A = ℕ} 0 1 = cc in absurd (omega arith))
+  module _ (q : t ≡ true) (n : ℕ) (m : n ≡ be32 f 12) (u : Bool) (z : u ≡ is_datalink n) where
+    pub header_other : u ≡ false → Err (Datalink n) ≡ header_of f
+    unfolding header_of datalink
+    header_other h = rw (sym e ∙ q, ← m, sym z ∙ h)
 
-    pub header_other : o ≡ None → Err (Datalink n) ≡ header_of f
-    unfolding header_of datalink datalink_of
-    header_other z = split_b (is_datalink n)
-        (λ s. let k : Some (datalink_by n) ≡ None = (sym (d ∙ rw s)) ∙ z in let y : ◌≡◌ {A = ℕ} 0 1 = cc in absurd (omega arith))
-        (λ s. rw (sym e ∙ q, ← m, s))
+    pub header_read : u ≡ true → (d : link.Datalink) → d ≡ datalink_by n → Ok d ≡ header_of f
+    unfolding header_of datalink
+    header_read h d k = rw (sym e ∙ q, ← m, sym z ∙ h, k)
 
 -- ---- the datalink of a number
 
 module _ (n : ℕ) where
-  pub datalink_hci : n ≡ 1001 → Some Hci ≡ datalink_of n
-  unfolding datalink_of is_datalink
-  datalink_hci e = rw e
+  pub by_h4 : n ≡ 1002 → H4 ≡ datalink_by n
+  by_h4 e = rw e
 
-  pub datalink_h4 : n ≡ 1002 → Some H4 ≡ datalink_of n
-  unfolding datalink_of is_datalink
-  datalink_h4 e = rw e
+  pub by_monitor : n ≡ 2001 → Monitor ≡ datalink_by n
+  by_monitor e = rw e
 
-  pub datalink_monitor : n ≡ 2001 → Some Monitor ≡ datalink_of n
-  unfolding datalink_of is_datalink
-  datalink_monitor e = rw e
-
-  pub datalink_none : (n ≡ 1001 → ⊥) → (n ≡ 1002 → ⊥) → (n ≡ 2001 → ⊥) → None ≡ datalink_of n
-  unfolding datalink_of is_datalink
-  datalink_none a b c = rw (ne_eqb n 1001 a, ne_eqb n 1002 b, ne_eqb n 2001 c)
+  pub by_other : (n ≡ 1002 → ⊥) → (n ≡ 2001 → ⊥) → Hci ≡ datalink_by n
+  by_other a b = rw (ne_eqb n 1002 a, ne_eqb n 2001 b)
 
 -- ---- what a header that was read tells
 

@@ -1,5 +1,5 @@
 -- What reading the header answers: the datalink, or why it is not taken.
-use Rattle.std.specs.Prelude.{ℕ, Option, Some, None, Result, Ok, Err, cond, List, eqb}
+use Rattle.std.specs.Prelude.{ℕ, Result, Ok, Err, cond, List, eqb}
 use Rattle.btsnoop.specs.Header.{is_btsnoop, datalink, is_datalink}
 use Rattle.btsnoop.specs.declared.Datalink as link
 use Rattle.btsnoop.specs.declared.Datalink.TheVariants.{Hci, H4, Monitor}
@@ -12,13 +12,9 @@ number_of Hci = 1001
 number_of H4 = 1002
 number_of Monitor = 2001
 
--- the datalink as which a number is read: one that is not taken would be read as the first
+-- the datalink as which a number is read: one that is none of the three is read as the first
 abbrev pub datalink_by : ℕ → link.Datalink
 datalink_by n = cond (eqb n 2001) Monitor (cond (eqb n 1002) H4 Hci)
-
--- if it is taken
-unfoldable pub datalink_of : ℕ → Option link.Datalink
-datalink_of n = cond (is_datalink n) (Some (datalink_by n)) None
 
 unfoldable pub header_of : List ℕ → Result link.Datalink HeaderError
 header_of f = cond (is_btsnoop f) (cond (is_datalink (datalink f)) (Ok (datalink_by (datalink f))) (Err (Datalink (datalink f)))) (Err NotBtsnoop)

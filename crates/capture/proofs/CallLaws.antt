@@ -4,7 +4,6 @@ use Prim.Native.Nat.{ℕ}
 use mathlib.Core.Path.{◌≡◌, refl, sym, ◌∙◌}
 use mathlib.Core.Bool.{false, ◌&&◌}
 use mathlib.Core.List.{List, [], ◌∷◌}
-use native.Mathlib.Omega.{arith}
 use lib.ListN.{length, get_or}
 use Rattle.laws.proofs.Choice.{no_way}
 use Rattle.laws.specs.Answers.{accepted, refused, Meets}
@@ -13,7 +12,6 @@ use Rattle.trace.specs.Formats.{container_of, format_of}
 use Rattle.trace.specs.Headers.{told_refusal}
 use Rattle.trace.proofs.Formats.{lawful}
 use Rattle.trace.specs.declared.Container.{Container}
-use Rattle.trace.specs.declared.Format.{Format}
 use Rattle.trace.specs.declared.Refusal.{Refusal}
 use Rattle.trace.specs.declared.Refusal.TheVariants.{FileLong, WorkShort, NotBtsnoop, Datalink, NotPcap, LinkType, Truncated}
 use Rattle.packets.specs.PacketTable.{packets_from}
@@ -45,11 +43,8 @@ use Rattle.capture.proofs.PassLaws.{composed, left_file}
 
 -- ---- what is left in work
 
-no_list : {G : Type 0} → ◌≡◌ {A = ℕ} 0 1 → G
-no_list z = absurd (omega arith)
-
 left_none : (b : Container) (f : List ℕ) (o : import.Options) (e : ImportError) (u : List ℕ) → Left b f o (Err e) u
-left_none b f o e u = record { at = λ s g. no_list cc }
+left_none b f o e u = record { at = λ s g. no_way refl cc }
 
 -- ---- from the packets on
 

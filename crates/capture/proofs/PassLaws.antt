@@ -1,49 +1,24 @@
 -- The passes of import fit together: what each needs is what those before it left, and together they read the file.
 use Prim.Native.Nat.{ℕ, ◌*◌, ◌/◌, ◌<◌}
 use mathlib.Core.Path.{◌≡◌, refl, ◌∙◌}
-use mathlib.Core.Bool.{Bool}
 use mathlib.Core.List.{List}
 use lib.ListN.{length}
 use Rattle.container.specs.Container.{packets_in}
 use Rattle.trace.specs.Formats.{container_of}
 use Rattle.trace.proofs.Formats.{packets_of_law, tail_of_law}
-use Rattle.trace.specs.declared.Format.{Format}
-use Rattle.packets.specs.PacketTable.{Tabled}
-use Rattle.packets.specs.Adding.{ReadTo}
 use Rattle.packets.specs.declared.Packets.{Packets}
 use Rattle.l2cap.specs.Pdus.{pdus}
 use Rattle.l2cap.specs.PduTable.{pdus_from}
-use Rattle.channels.specs.Passing.{ReadChannels}
 use Rattle.rfcomm.specs.Pieces.{judged}
-use Rattle.gathering.specs.Gathering.{PiecesPre, ReadPieces}
 use Rattle.gathering.specs.declared.Gathered.{Gathered}
 use Rattle.outcome.specs.Import.{file_pieces, file_wrong, read}
 use Rattle.streams.specs.Streams.{channel_of, table_pieces, told, Leaves, Listed}
-use Rattle.streams.proofs.Streams.{tabled}
-use Rattle.streams.specs.Streams as streams
 use Rattle.std.specs.Prelude.{Ok, Err}
 use Rattle.streams.specs.declared.Stream.{Stream}
 use Rattle.streams.specs.declared.ListError.TheVariants.{NoStream, OutShort}
 use Rattle.capture.specs.Options.{options_of}
 use Rattle.capture.specs.Passes.{count_of, Passes, Composed}
 use Rattle.capture.specs.declared.Options.{Options}
-
--- ---- what each pass needs
-
-pub reassemble_needs : (g : Format) (f w : List ℕ) (p : Packets) → ReadTo g f w p → Tabled f w p.count
-reassemble_needs g f w p r = r.read.tabled
-
-module _ (f v : List ℕ) (made : ℕ) (x : List ℕ) (rows : ℕ) (rc : ReadChannels f v made x rows) where
-  list_is : pdus_from f x (2 * (length f / 4)) 0 made ≡ pdus_from f v (2 * (length f / 4)) 0 made
-  list_is = rc.signalled.pdus.list
-
-  pub pieces_need : PiecesPre f x made rows
-  pieces_need = record { signalled = rw list_is rc.signalled }
-
-pub spans_need : (fcs : Bool) (f x : List ℕ) (made : ℕ) (u : List ℕ) (g : Gathered) → ReadPieces fcs f x made u g → streams.Tabled f u g.pieces
-spans_need fcs f x made u g rp = tabled f u g.pieces _ rp.pieced
-
--- ---- together
 
 -- a list is told by the wrong frames of its DLCI alone
 told_by : (tail : ℕ) (a b : ℕ → ℕ) (l : Listed) → ((s : Stream) → l ≡ Ok s → a s.dlci ≡ b s.dlci) → told tail a l ≡ told tail b l
@@ -55,7 +30,7 @@ told_by tail a b (Ok s) h = rw (h s refl)
 module _ (f : List ℕ) (o : Options) (p : Packets) (out : List ℕ) (g : Gathered) (l : Listed) (out' : List ℕ) (s : Passes f o p out g l out') where
   -- the PDUs in the table are the file's
   file_pdus : pdus_from f s.w₃ (2 * (length f / 4)) 0 s.made ≡ pdus (packets_in (container_of o.container) f)
-  file_pdus = list_is f s.w₂ s.made s.w₃ s.rows s.read_channels ∙ s.reassemble.list ∙ rw (s.read_packets.read.list, packets_of_law o.container f)
+  file_pdus = s.read_channels.signalled.pdus.list ∙ s.reassemble.list ∙ rw (s.read_packets.read.list, packets_of_law o.container f)
 
   -- and so are the pieces
   file_pieces_law : table_pieces f s.w₄ g.pieces ≡ file_pieces (container_of o.container) (options_of o).judging f

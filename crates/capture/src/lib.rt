@@ -90,9 +90,8 @@ fn import_packets(
     ensures { PacketsMeet options.container file.now (options_of options) out.old result work.new out.new }
 {
     let t = reassemble(file, work, p.count);
-    let made = t.made;
-    let rows = read_channels(file, work, made);
-    let g = read_pieces(file, work, made, rows, options.fcs);
+    let rows = read_channels(file, work, t.made);
+    let g = read_pieces(file, work, t.made, rows, options.fcs);
     let stream = list_spans(file, work, g.pieces, options.channel, out)?;
     Ok(Summary {
         stream,
@@ -106,10 +105,5 @@ fn import_packets(
 fn wrong_on(wrong: &[u32], dlci: u8) -> usize
     ensures { result ≡ get_or wrong.now dlci 0 }
 {
-    let k = dlci as usize;
-    if k < wrong.len() {
-        wrong[k] as usize
-    } else {
-        0
-    }
+    wrong.get(dlci as usize).copied().unwrap_or(0) as usize
 }

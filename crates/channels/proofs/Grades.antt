@@ -1,5 +1,6 @@
 -- Rows of the table of channels: what a raised grade does, and that what a signal says is told.
 use Rattle.std.specs.Prelude.{Option, Some, None}
+use Rattle.std.specs.Option.{option_eq}
 use Prim.Native.Nat.{ℕ, zero, suc, ◌+◌, ◌*◌, ◌/◌, ◌%◌, ◌<◌, ◌≤◌, max}
 use mathlib.Core.Path.{◌≡◌, refl, sym, ap, ◌∙◌}
 use denote.Enum.Bare.{sameb}
@@ -32,8 +33,8 @@ use Rattle.channels.specs.declared.Grade.{Grade}
 use Rattle.channels.specs.contracts.Grade.{the_type}
 use Rattle.channels.specs.declared.Grade.TheVariants.{Named, Answered, Asked}
 use Rattle.channels.specs.declared.Signal.{Signal as Said}
-use Rattle.channels.specs.declared.Signal.TheVariants.{Request, Response, Other}
-use Rattle.channels.proofs.Commands.{rx_one}
+use Rattle.channels.specs.declared.Signal.TheVariants.{Request, Response}
+use Rattle.channels.proofs.Payloads.{rx_one}
 
 -- ---- keys
 
@@ -129,22 +130,21 @@ module _ (ok : Bool) (s : Slot) where
   unfolding response_grade word_of
   response_fails e = rw e
 
-  module _ (e : ok ≡ true) (g : Option Grade) (p : g ≡ standing_of s) where
-    pub response_unnamed : g ≡ None → word_of Named ≡ response_grade ok s
-    unfolding response_grade word_of grade_of
-    response_unnamed q = rw (e, standing_unnamed s g p q)
+  module _ (g : Option Grade) (p : g ≡ standing_of s) (r : Bool) (er : r ≡ option_eq (sameb the_type) g (Some Asked)) where
+    asked : ltb 1 (grade_of s) ≡ r
+    unfolding standing_of grade_of
+    asked = go s (er ∙ rw p) where
+      go : (x : Slot) → r ≡ option_eq (sameb the_type) (standing_of x) (Some Asked) → ltb 1 (grade_of x) ≡ r
+      go none h = sym h
+      go (some v z) h = sym (graded_asked v) ∙ sym h
 
-    module _ (v : Grade) (q : g ≡ Some v) (r : Bool) (er : r ≡ sameb the_type v Asked) where
-      asked : ltb 1 (grade_of s) ≡ r
-      asked = sym (graded_asked (grade_of s)) ∙ rw (er, (standing_named s g p v q).1)
+    pub response_admits : ok ≡ true → r ≡ true → word_of Answered ≡ response_grade ok s
+    unfolding response_grade word_of
+    response_admits e h = rw (e, asked, h)
 
-      pub response_admits : r ≡ true → word_of Answered ≡ response_grade ok s
-      unfolding response_grade word_of
-      response_admits h = rw (e, asked, h)
-
-      pub response_unasked : r ≡ false → word_of Named ≡ response_grade ok s
-      unfolding response_grade word_of
-      response_unasked h = rw (e, asked, h)
+    pub response_unasked : ok ≡ true → r ≡ false → word_of Named ≡ response_grade ok s
+    unfolding response_grade word_of
+    response_unasked e h = rw (e, asked, h)
 
 -- ---- a grade raised
 
@@ -278,7 +278,7 @@ response_asks false q true = refl
 response_asks false q false = refl
 
 module _ (w : List ℕ) (b n : ℕ) (t : Triple) (small : t.cid < 65536) (k v : ℕ) (ke : k ≡ channel_key t.link (rx_of t.direction) t.cid) (u : List ℕ) (r : ℕ) (ra : Raised w b n k v u r) where
-  request_noted : (psm : ℕ) → v ≡ request_grade psm → Noted w b n (Request t psm) u r
+  request_noted : (psm : ℕ) → v ≡ request_grade psm → Noted w b n (Some (Request t psm)) u r
   unfolding told request_grade triple_of names admits asks_for
   request_noted psm ve = record {
     tells = λ ss rest q.
@@ -292,12 +292,12 @@ module _ (w : List ℕ) (b n : ℕ) (t : Triple) (small : t.cid < 65536) (k v : 
     size = ra.size;
   }
 
-  pub noted_request : (said : Said) (psm : ℕ) → said ≡ Request t psm → v ≡ request_grade psm → Noted w b n said u r
-  noted_request said psm e ve = rw e (request_noted psm ve)
+  pub noted_request : (said : Option Said) (s : Said) → said ≡ Some s → (psm : ℕ) → s ≡ Request t psm → v ≡ request_grade psm → Noted w b n said u r
+  noted_request said s z psm e ve = rw (z, e) (request_noted psm ve)
 
   response_noted :
       (source : ℕ) → source < 65536 → (ok : Bool) (o : Direction) → rx_of o ≡ opposite (rx_of t.direction) → (a : ℕ) → a ≡ channel_key t.link (rx_of o) source →
-      v ≡ response_grade ok (lookup w b n a) → Noted w b n (Response t source ok) u r
+      v ≡ response_grade ok (lookup w b n a) → Noted w b n (Some (Response t source ok)) u r
   unfolding told response_grade triple_of names admits asks_for
   response_noted source few ok o oe a ae ve = record {
     tells = λ ss rest q.
@@ -313,11 +313,11 @@ module _ (w : List ℕ) (b n : ℕ) (t : Triple) (small : t.cid < 65536) (k v : 
   }
 
   pub noted_response :
-      (said : Said) (source : ℕ) (ok : Bool) → said ≡ Response t source ok → source < 65536 → (o : Direction) → rx_of o ≡ opposite (rx_of t.direction) → (a : ℕ) → a ≡ channel_key t.link (rx_of o) source →
+      (said : Option Said) (s : Said) → said ≡ Some s → (source : ℕ) (ok : Bool) → s ≡ Response t source ok → source < 65536 → (o : Direction) → rx_of o ≡ opposite (rx_of t.direction) → (a : ℕ) → a ≡ channel_key t.link (rx_of o) source →
       v ≡ response_grade ok (lookup w b n a) → Noted w b n said u r
-  noted_response said source ok e few o oe a ae ve = rw e (response_noted source few ok o oe a ae ve)
+  noted_response said s z source ok e few o oe a ae ve = rw (z, e) (response_noted source few ok o oe a ae ve)
 
-pub noted_other : (w : List ℕ) (b n : ℕ) (said : Said) → said ≡ Other → Noted w b n said w n
+pub noted_other : (w : List ℕ) (b n : ℕ) (said : Option Said) → said ≡ None → Noted w b n said w n
 unfolding told
 noted_other w b n said e = rw e (record { tells = λ ss rest q. q; most = omega arith; front = front_refl (4 * b) w; size = refl })
 

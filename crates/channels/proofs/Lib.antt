@@ -1,4 +1,4 @@
-pub mod Commands
+pub mod Payloads
 pub mod Grades
 pub mod Walk
 pub mod CoreNamed

@@ -37,7 +37,7 @@ use Rattle.channels.specs.declared.Grade.{Grade}
 use Rattle.channels.specs.contracts.Grade.{the_type}
 use Rattle.channels.specs.declared.Grade.TheVariants.{Named}
 use Rattle.channels.proofs.Passing.{reassembled_own}
-use Rattle.channels.proofs.Commands.{body_room, command_first, command_more, command_within, commands_end}
+use Rattle.channels.proofs.Payloads.{body_room, command_more, command_says, command_within, commands_end}
 use Rattle.channels.proofs.Grades.{side_key, admits_grade, standing_unnamed, standing_named, graded_admitted, telling_start, telling_end}
 
 -- ---- one step
@@ -56,10 +56,10 @@ signal_wide link rx c =
     (λ h. rw (lt-leb 4 (length (body c)) h) (omega arith))
 
 pub step_is :
-    (s : List ℕ) (at n : ℕ) → at < length s → n ≡ length (command_bytes (take (length s - at) (drop at s))) → (link : ℕ) (d : Direction) (said : Said) →
+    (s : List ℕ) (at n : ℕ) → at < length s → n ≡ length (command_bytes (take (length s - at) (drop at s))) → (link : ℕ) (d : Direction) (said : Option Said) →
     told said ≡ signal_of link (rx_of d) (take (at + n - at) (drop at s)) → StepIs s at link (rx_of d) (record { said = said; next = at + n })
 step_is s at n h e link d said t = record {
-  says = rw t ((command_first s at n h e).says link (rx_of d));
+  says = rw t (command_says s at n h e link (rx_of d));
   wide = rw t (omega (arith, signal_wide link (rx_of d) (take (at + n - at) (drop at s)), length-take (at + n - at) (drop at s)));
   more = command_more s at n h e;
   within = command_within s at n h e;
@@ -266,26 +266,26 @@ module _ (f w₀ : List ℕ) (made : ℕ) (ps : List Pdu) (p : Reassembled f w�
       }
 
 -- the same with the index
-pub running_begun : (f w : List ℕ) (made q : ℕ) → q ≡ length f / 4 → (x : Tree) → x ≡ channel_index q → Indexed w (channel_index q) 0 → RunningIn f w made w (record { at = x; count = 0 }) 0
-running_begun f w made q e x ex ix = record { place = rw (ex, e); running = running_start f w made; indexed = rw ex ix }
+pub running_begun : (f w : List ℕ) (made : ℕ) (x : Tree) → x ≡ channel_index (length f / 4) → Indexed w (channel_index (length f / 4)) 0 → RunningIn f w made w (record { at = x; count = 0 }) 0
+running_begun f w made x ex ix = record { place = ex; running = running_start f w made; indexed = rw ex ix }
 
 module _ (f w₀ : List ℕ) (made : ℕ) (ps : List Pdu) (p : Reassembled f w₀ made ps) (w : List ℕ) (t : Table) (i : ℕ) (v : RunningIn f w₀ made w t i) where
   pub running_done : made ≤ i → ReadChannels f w₀ made w t.count
   running_done h = running_end f w₀ made ps p w t.count i v.running h (rw v.place at v.indexed)
 
-  module _ (more : i < made) (q : ℕ) (e : q ≡ length f / 4) where
-    pub running_note : NotePreIn f w (2 * q + 7 * i) t
+  module _ (more : i < made) where
+    pub running_note : NotePreIn f w (2 * (length f / 4) + 7 * i) t
     unfolding channel_index
-    running_note = rw e (record {
+    running_note = record {
       pre = rw v.place (running_pre f w₀ made ps p w t.count i v.running more);
       indexed = v.indexed;
       stands = rw v.place (channel_stands f w (t.count + word w (2 * (length f / 4) + 7 * i + 4) / 8 + 1) (omega (arith, p.few)) p.small (omega (arith, p.room, v.running.size))
           (omega (arith, few_more f w₀ made ps p w t.count i v.running more, row_size f w₀ made ps p w t.count i v.running more)));
-    })
+    }
 
-    pub running_noted : (u : List ℕ) (r : ℕ) → PduNotedIn f w (2 * q + 7 * i) t u r → RunningIn f w₀ made u (record { at = t.at; count = r }) (i + 1)
+    pub running_noted : (u : List ℕ) (r : ℕ) → PduNotedIn f w (2 * (length f / 4) + 7 * i) t u r → RunningIn f w₀ made u (record { at = t.at; count = r }) (i + 1)
     unfolding channel_index
-    running_noted u r n = record { place = v.place; running = running_turn f w₀ made ps p w t.count i v.running more u r (rw (v.place, e) at n.noted); indexed = n.indexed }
+    running_noted u r n = record { place = v.place; running = running_turn f w₀ made ps p w t.count i v.running more u r (rw v.place at n.noted); indexed = n.indexed }
 
 -- ---- what becomes of a PDU
 
@@ -315,14 +315,14 @@ module _ (w : List ℕ) (b n side cid : ℕ) where
         (e ∙ sym (or-false (not (sameb the_type v Named)))))
 
 module _ (w : List ℕ) (q n side cid : ℕ) (t : Tries w q n) (x : Tree) (ex : x ≡ channel_index q) where
-  module _ (g : Option Grade) (p : g ≡ standing_of (lookup w x.rows n (side * 65536 + cid))) where
+  module _ (k : ℕ) (ek : k ≡ side * 65536 + cid) (g : Option Grade) (p : g ≡ standing_of (lookup w x.rows n k)) where
     pub tries_unnamed : g ≡ None → Judged w (3 * q) n side cid (leb 0x40 cid)
     unfolding channel_index
-    tries_unnamed e = tried_unnamed w (3 * q) n side cid g (rw ex at p) e
+    tries_unnamed e = tried_unnamed w (3 * q) n side cid g (rw (ex, ek) at p) e
 
     pub tries_named : (v : Grade) → g ≡ Some v → (r : Bool) → r ≡ not (sameb the_type v Named) → Judged w (3 * q) n side cid r
     unfolding channel_index
-    tries_named v e r h = tried_named w (3 * q) n side cid g (rw ex at p) v e r h
+    tries_named v e r h = tried_named w (3 * q) n side cid g (rw (ex, ek) at p) v e r h
 
 -- ---- the table empty, and then all PDUs
 
@@ -339,8 +339,8 @@ module _ (f w : List ℕ) (made : ℕ) (ps : List Pdu) (p : Reassembled f w made
     kept : Reassembled f v made ps
     kept = reassembled_front f v w made ps front c.size p
 
-    pub none_noted : NoneNoted f v made (length f / 4)
-    none_noted = record { quarter = refl; pdus = reassembled_own f v made ps kept; indexed = rw ex at c.indexed }
+    pub none_noted : NoneNoted f v made
+    none_noted = record { pdus = reassembled_own f v made ps kept; indexed = rw ex at c.indexed }
 
     pub noted_cleared : (u : List ℕ) (r : ℕ) → ReadChannels f v made u r → ReadChannels f w made u r
     noted_cleared u r s = record {

@@ -62,12 +62,12 @@ pub record Telling (ss : List Signal) (says : ℕ → Slot) (rest : List Signal)
   pub asks : (link rx cid : ℕ) → rx ≤ 1 → cid < 65536 → ltb 1 (grade_of (says (channel_key link rx cid))) ≡ any (asks_for (triple link rx cid)) earlier
 
 -- what a command says is noted
-pub record Noted (w : List ℕ) (b n : ℕ) (said : Said) (u : List ℕ) (r : ℕ) : Type 0 where
+pub record Noted (w : List ℕ) (b n : ℕ) (said : Option Said) (u : List ℕ) (r : ℕ) : Type 0 where
   pub tells : (ss rest : List Signal) → Telling ss (lookup w b n) (told said ++ rest) → Telling ss (lookup u b r) rest
   pub most : r ≤ n + length (told said)
   pub front : Front (4 * b) u w
   pub size : length u ≡ length w
 
-pub record NotedIn (w : List ℕ) (t : Table) (said : Said) (u : List ℕ) (r : ℕ) : Type 0 where
+pub record NotedIn (w : List ℕ) (t : Table) (said : Option Said) (u : List ℕ) (r : ℕ) : Type 0 where
   pub noted : Noted w t.at.rows t.count said u r
   pub indexed : Indexed u t.at r

@@ -59,10 +59,9 @@ pub record Tries (w : List ℕ) (q n : ℕ) : Type 0 where
   pub stands : Stands w (channel_index q) n
 
 -- no channel is noted yet
-pub record NoneNoted (f w : List ℕ) (made q : ℕ) : Type 0 where
-  pub quarter : q ≡ length f / 4
+pub record NoneNoted (f w : List ℕ) (made : ℕ) : Type 0 where
   pub pdus : Reassembled f w made (pdus_from f w (2 * (length f / 4)) 0 made)
-  pub indexed : Indexed w (channel_index q) 0
+  pub indexed : Indexed w (channel_index (length f / 4)) 0
 
 -- The PDUs that a list holds, and the channels that their signals name and admit, as the passes after it find them.
 pub record Signalled (f w : List ℕ) (made : ℕ) (ps : List Pdu) (rows : ℕ) : Type 0 where

@@ -34,7 +34,6 @@ pub struct Triple {
 pub enum Signal {
     Request(Triple, u16),
     Response(Triple, u16, bool),
-    Other,
 }
 
 // ---- one command
@@ -51,14 +50,10 @@ fn body_of(c: &[u8]) -> &[u8]
     ensures { result.now ≡ body c.now }
 {
     let Some(size) = field16(c, 2) else {
-        return &c[0..0];
+        return &[];
     };
-    let n = c.len();
     let end = 4 + usize::from(size);
-    if n < end {
-        return &c[n..n];
-    }
-    &c[4..end]
+    c.get(4..end).unwrap_or_default()
 }
 
 // The other direction.
@@ -75,34 +70,27 @@ fn flip(d: Direction) -> Direction
 fn is_success(b: &[u8]) -> bool
     ensures { result ≡ (leb 6 (length b.now) && eqb (le16 b.now 4) 0) }
 {
-    let Some(result) = field16(b, 4) else {
-        return false;
-    };
-    result == 0
+    field16(b, 4) == Some(0)
 }
 
-// What a command says, in a PDU of this link and direction: a request, a response, or nothing.
-fn read_signal(c: &[u8], link: u32, direction: Direction) -> Signal
+// What a command says, in a PDU of this link and direction, if it is a request or a response.
+fn read_signal(c: &[u8], link: u32, direction: Direction) -> Option<Signal>
     ensures { told result ≡ signal_of link (rx_of direction) c.now }
 {
     let b = body_of(c);
-    let Some(x) = field16(b, 0) else {
-        return Signal::Other;
-    };
-    let Some(y) = field16(b, 2) else {
-        return Signal::Other;
-    };
+    let x = field16(b, 0)?;
+    let y = field16(b, 2)?;
     let other = flip(direction);
     match c[0] {
-        REQUEST => Signal::Request(
+        REQUEST => Some(Signal::Request(
             Triple {
                 link,
                 direction: other,
                 cid: y,
             },
             x,
-        ),
-        RESPONSE => Signal::Response(
+        )),
+        RESPONSE => Some(Signal::Response(
             Triple {
                 link,
                 direction: other,
@@ -110,8 +98,8 @@ fn read_signal(c: &[u8], link: u32, direction: Direction) -> Signal
             },
             y,
             is_success(b),
-        ),
-        _ => Signal::Other,
+        )),
+        _ => None,
     }
 }
 
@@ -119,10 +107,7 @@ fn read_signal(c: &[u8], link: u32, direction: Direction) -> Signal
 fn asks_rfcomm(c: &[u8]) -> bool
     ensures { result ≡ asks_rfcomm c.now }
 {
-    let Some(psm) = field16(body_of(c), 0) else {
-        return false;
-    };
-    psm == RFCOMM && c[0] == REQUEST
+    field16(body_of(c), 0) == Some(RFCOMM) && c[0] == REQUEST
 }
 
 // ---- the commands of a payload
@@ -135,29 +120,52 @@ fn command_len(s: &[u8]) -> usize
     let Some(size) = field16(s, 2) else {
         return s.len();
     };
-    let n = 4 + usize::from(size);
-    if s.len() < n {
-        return s.len();
+    (4 + usize::from(size)).min(s.len())
+}
+
+// What is left of a payload. Iterating gives its commands, each as its bytes.
+#[derive(Clone, Copy)]
+struct Commands<'a> {
+    rest: &'a [u8],
+}
+
+impl<'a> Iterator for Commands<'a> {
+    ghost use Rattle.std.specs.Iterator.{YieldsFirstRef, item_count};
+    ghost use Rattle.channels.specs.Reading.{commands_left};
+
+    type Item = &'a [u8];
+
+    ghost next_gives = { YieldsFirstRef commands_left };
+
+    ghost remaining = { item_count commands_left };
+
+    fn next(&mut self) -> Option<&'a [u8]> {
+        let rest = self.rest;
+        if rest.len() < 4 {
+            return None;
+        }
+        let (first, after) = rest.split_at(command_len(rest));
+        self.rest = after;
+        Some(first)
     }
-    n
 }
 
 // Whether a command of the payload is a PSM 3 request.
 pub fn asks_session(s: &[u8]) -> bool
     ensures { result ≡ any asks_rfcomm (commands s.now) }
 {
-    let mut at = 0;
-    while at < s.len() {
-        let end = at + command_len(&s[at..]);
-        if asks_rfcomm(&s[at..end]) {
-            return true;
-        }
-        at = end;
-    }
-    false
+    Commands { rest: s }.any(asks_rfcomm)
 }
 
 // ---- the table of channels
+
+// The key of the channel of data with a CID on a side, 2 * link + direction.
+fn key_on(side: u64, cid: u64) -> u64
+    requires { (side < 8589934592) × (cid < 4294967296) }
+    ensures { result ≡ side * 65536 + cid }
+{
+    side * 65536 + cid
+}
 
 // The key of a channel.
 fn key_of(t: Triple) -> u64
@@ -165,8 +173,8 @@ fn key_of(t: Triple) -> u64
 {
     let side = 2 * (t.link as u64);
     match t.direction {
-        Direction::Rx => (side + 1) * 65536 + (t.cid as u64),
-        Direction::Tx => side * 65536 + (t.cid as u64),
+        Direction::Rx => key_on(side + 1, t.cid as u64),
+        Direction::Tx => key_on(side, t.cid as u64),
     }
 }
 
@@ -208,6 +216,7 @@ fn last_but_one(rows: usize) -> usize {
 }
 
 // The grade of the channel of this key, if anything names it.
+// Stays: the word's place by a sum, here, in raise and in gathering: two of the four are written, and a Forest is only read.
 fn look(f: Forest, key: u64) -> Option<Grade>
     ensures { result ≡ standing_of (lookup f.entry.w.now f.entry.table.at.rows f.entry.table.count key) }
 {
@@ -231,18 +240,15 @@ fn request_grade(psm: u16) -> Grade
 fn response_grade(f: Forest, asked: u64, ok: bool) -> Grade
     ensures { word_of result ≡ response_grade ok (lookup f.entry.w.now f.entry.table.at.rows f.entry.table.count asked) }
 {
-    if ok {
-        let Some(grade) = look(f, asked) else {
-            return Grade::Named;
-        };
-        if grade == Grade::Asked {
-            return Grade::Answered;
-        }
+    if ok && look(f, asked) == Some(Grade::Asked) {
+        Grade::Answered
+    } else {
+        Grade::Named
     }
-    Grade::Named
 }
 
 // Notes that a channel is named, with a grade; its grade never falls. Returns the count of rows.
+// Stays: grades compared as words: by a derived order (tried) the row's word is made a grade first, and the grade is made a word all the same.
 fn raise(w: &mut [u8], t: Table, key: u64, grade: Grade) -> usize
     requires { EnterPre w.old t }
     ensures { RaisedIn w.old t key (word_of grade) w.new result }
@@ -258,11 +264,14 @@ fn raise(w: &mut [u8], t: Table, key: u64, grade: Grade) -> usize
 }
 
 // Notes what a command says. Returns the count of rows.
-fn note(w: &mut [u8], t: Table, said: Signal) -> usize
+fn note(w: &mut [u8], t: Table, said: Option<Signal>) -> usize
     requires { EnterPre w.old t }
     ensures { NotedIn w.old t said w.new result }
 {
-    match said {
+    let Some(signal) = said else {
+        return t.count;
+    };
+    match signal {
         Signal::Request(c, psm) => {
             let key = key_of(c);
             raise(w, t, key, request_grade(psm))
@@ -278,7 +287,6 @@ fn note(w: &mut [u8], t: Table, said: Signal) -> usize
             let key = key_of(c);
             raise(w, t, key, grade)
         }
-        Signal::Other => t.count,
     }
 }
 
@@ -287,7 +295,7 @@ fn note(w: &mut [u8], t: Table, said: Signal) -> usize
 // What a command says, and the place after it.
 #[derive(Clone, Copy)]
 struct Step {
-    said: Signal,
+    said: Option<Signal>,
     next: usize,
 }
 
@@ -298,10 +306,7 @@ fn step_at(s: &[u8], at: usize, link: u32, direction: Direction) -> Step
 {
     let end = at + command_len(&s[at..]);
     let said = read_signal(&s[at..end], link, direction);
-    Step {
-        said: said,
-        next: end,
-    }
+    Step { said, next: end }
 }
 
 // One signalling step over the payload of the PDU whose row is at word row.
@@ -323,6 +328,7 @@ fn note_pdu(file: &[u8], w: &mut [u8], row: usize, mut t: Table) -> usize
     }
     let size = get32(w, row + 4) as usize;
     let mut at = 0;
+    // Stays: by places, and no iterator of commands: the payload may lie in work, which is written between two of them.
     while at < size {
         let step = pdu_step(file, w, row, at);
         let said = step.said;
@@ -346,10 +352,11 @@ fn index_of(q: usize) -> Tree
 }
 
 // Notes what all PDUs say, in a table that is empty, and returns the count of rows.
-fn note_pdus(file: &[u8], w: &mut [u8], made: usize, q: usize) -> usize
-    requires { NoneNoted file.now w.old made q }
+fn note_pdus(file: &[u8], w: &mut [u8], made: usize) -> usize
+    requires { NoneNoted file.now w.old made }
     ensures { ReadChannels file.now w.old made w.new result }
 {
+    let q = file.len() / 4;
     let mut t = Table {
         at: index_of(q),
         count: 0,
@@ -365,9 +372,8 @@ pub fn read_channels(file: &[u8], w: &mut [u8], made: usize) -> usize
     requires { Reassembled file.now w.old made (pdus_from file.now w.old (2 * (length file.now / 4)) 0 made) }
     ensures { ReadChannels file.now w.old made w.new result }
 {
-    let q = file.len() / 4;
-    clear(w, index_of(q));
-    note_pdus(file, w, made, q)
+    clear(w, index_of(file.len() / 4));
+    note_pdus(file, w, made)
 }
 
 // ---- what becomes of a PDU
@@ -381,6 +387,7 @@ pub fn asks(p: Pdu) -> bool
 
 // Whether a PDU is tried, by the first word of its row, 2 * link + direction, and its CID.
 // q is a quarter of the file's length.
+// Stays: w, q and rows, of which the Forest is made here: that q says where the index lies is channels' own.
 pub fn is_tried(w: &[u8], q: usize, rows: usize, side: u32, cid: u32) -> bool
     requires { Tries w.now q rows }
     ensures { Judged w.now (3 * q) rows side cid result }
@@ -390,7 +397,7 @@ pub fn is_tried(w: &[u8], q: usize, rows: usize, side: u32, cid: u32) -> bool
         w,
         table: Table { at, count: rows },
     };
-    let Some(grade) = look(f, (side as u64) * 65536 + (cid as u64)) else {
+    let Some(grade) = look(f, key_on(side as u64, cid as u64)) else {
         return 0x40 <= cid;
     };
     grade != Grade::Named

@@ -230,12 +230,12 @@ earlier_kept i v y e h = rw (le-ltb i v (omega (arith, e)))
 
 -- ---- and so all are linked
 
-module _ (w₀ : List ℕ) (x : Rows) (chain heads : ℕ) (g : LinkRoom w₀ x chain heads) (w : List ℕ) (f : Filled w₀ x.links (3 * x.n) 0 w) where
+module _ (w₀ : List ℕ) (x : Rows) (chain : ℕ) (g : LinkRoom w₀ x chain) (w : List ℕ) (f : Filled w₀ x.links (3 * x.n) 0 w) where
   pub all_unlinked : Unlinked w x chain
   all_unlinked = record {
     rows = g.rows;
     low = g.low;
-    room = omega (arith, g.tree, g.room, f.size);
+    room = omega (arith, g.room, f.size);
     many = g.many;
     clear = λ j a b. (let e : x.links + (j - x.links) ≡ j = omega arith in rw e at (f.is (j - x.links) (omega arith)));
   }

@@ -1,4 +1,5 @@
 -- The walk along the bits of a key, and one row more in the trees.
+use Rattle.std.specs.Prelude.{Option, None, Some, SomeIff}
 use mathlib.Core.Path.{◌≡◌, refl, sym, ap, ◌∙◌}
 use mathlib.Core.List.{List}
 use mathlib.Core.Logic.{inl, inr, ⊎_elim}
@@ -59,7 +60,7 @@ module _ (w : List ℕ) (x : Rows) (i : ℕ) where
       here : path_of w x (key_at w x i) q.depth ≡ v
       here = q.reads w (record { same = λ at a b o. refl }) ∙ sym (ev ∙ ec)
 
-      pub seeking_end : v ≡ 0 → SpotIs w x i (Free at)
+      seeking_end : v ≡ 0 → SpotIs w x i (Free at)
       seeking_end z = record {
         met = λ k e. let h : ◌≡◌ {A = ℕ} 0 1 = cc in absurd (omega arith);
         free = λ a e. let h : at ≡ a = cc in rw (← h) vacant;
@@ -73,45 +74,49 @@ module _ (w : List ℕ) (x : Rows) (i : ℕ) where
         vacant : FreeAt w x i at
         vacant = record { low = q.low; high = q.high; empty = sym (ev ∙ ec) ∙ z; depth = q.depth; reads = q.reads; others = gone }
 
-      module _ (z : v ≡ 0 → ⊥) where
-        some : 0 < v
-        some = split≡ v 0 (λ h. absurd (z h)) (λ h. omega arith)
+      module _ (a : Option ℕ) (ea : SomeIff a (1 ≤ v) (v - 1)) where
+        pub seeking_none : a ≡ None → SpotIs w x i (Free at)
+        seeking_none e = seeking_end (split≡ v 0 (λ h. h) (λ h. absurd ((rw e at ea) (omega arith))))
 
-        pub seeking_row : v ≤ i
-        seeking_row = omega (arith, ec, ev, p.slots.below at q.low q.high)
+        module _ (j : ℕ) (ej : a ≡ Some j) where
+          row : suc j ≡ v
+          row = let h : (1 ≤ v) × (j ≡ v - 1) = rw ej at ea in omega (arith, h.0, h.1)
 
-        row : suc (v - 1) ≡ v
-        row = omega (arith, some)
+          some : 0 < v
+          some = omega (arith, row)
 
-        module _ (k : Key) (ek : k ≡ key_at w x i) (t : Bool) (et : t ≡ eq_k (key_at w x (v - 1)) k) where
-          pub seeking_hit : t ≡ true → SpotIs w x i (Taken (v - 1))
-          seeking_hit h = record {
-            met = λ n e. let y : v - 1 ≡ n = cc in rw (← y) (record { depth = q.depth; path = here ∙ sym row; few = omega (arith, seeking_row, some); same = eq_k_true _ _ (sym et ∙ h) ∙ ek });
-            free = λ a e. let y : ◌≡◌ {A = ℕ} 0 1 = cc in absurd (omega arith);
-          }
+          pub seeking_row : j < i
+          seeking_row = omega (arith, row, ec, ev, p.slots.below at q.low q.high)
 
-          module _ (d : t ≡ false) (l : ℕ) (o : Roots x.n l) (bit : ℕ) (eb : bit ≡ bits % 2) where
-            el : l ≡ roots_of x.n
-            el = o.is
+          module _ (k : Key) (ek : k ≡ key_at w x i) (t : Bool) (et : t ≡ eq_k (key_at w x j) k) where
+            pub seeking_hit : t ≡ true → SpotIs w x i (Taken j)
+            seeking_hit h = record {
+              met = λ n e. let y : j ≡ n = cc in rw (← y) (record { depth = q.depth; path = here ∙ sym row; few = omega (arith, seeking_row, some); same = eq_k_true _ _ (sym et ∙ h) ∙ ek });
+              free = λ a e. let y : ◌≡◌ {A = ℕ} 0 1 = cc in absurd (omega arith);
+            }
 
-            pub seeking_turn : (b : ℕ) → b ≡ turn_of k bits → Seeking (x.links + l + 2 * (v - 1) + bit) b
-            unfolding bits_of
-            seeking_turn b e = record {
-              low = omega arith;
-              high = omega (arith, el, eb, seeking_row, some);
-              depth = suc q.depth;
-              reads = λ u g. node_step u (links_in x) (root_in x (key_at w x i)) (bits_of (roots_of x.n) (key_at w x i)) q.depth (v - 1) (leads u g) ∙ rw (el, eb, q.now);
-              now = e ∙ rw (ek, q.now);
-              others = passed;
-            } where
-              leads : (u : List ℕ) → Keeps w x.links (links_in x) i u → path_of u x (key_at w x i) q.depth ≡ suc (v - 1)
-              leads u g = q.reads u g ∙ g.same at q.low q.high (omega (arith, ec, ev, some)) ∙ sym (ev ∙ ec) ∙ sym row
+            module _ (d : t ≡ false) (l : ℕ) (o : Roots x.n l) (bit : ℕ) (eb : bit ≡ bits % 2) where
+              el : l ≡ roots_of x.n
+              el = o.is
 
-              passed : (e r : ℕ) → e < suc q.depth → path_of w x (key_at w x i) e ≡ suc r → key_at w x r ≡ key_at w x i → ⊥
-              passed e r m h y =
-                  split≡ e q.depth
-                  (λ o. let g : suc r ≡ v = sym h ∙ rw o here in let f : r ≡ v - 1 = omega (arith, g) in no_way (eq_eq_k _ _ (rw f at y ∙ sym ek)) (sym et ∙ d))
-                  (λ o. q.others e r (earlier e q.depth (omega arith) o) h y)
+              pub seeking_turn : (b : ℕ) → b ≡ turn_of k bits → Seeking (x.links + l + 2 * j + bit) b
+              unfolding bits_of
+              seeking_turn b e = record {
+                low = omega arith;
+                high = omega (arith, el, eb, seeking_row, some);
+                depth = suc q.depth;
+                reads = λ u g. node_step u (links_in x) (root_in x (key_at w x i)) (bits_of (roots_of x.n) (key_at w x i)) q.depth j (leads u g) ∙ rw (el, eb, q.now);
+                now = e ∙ rw (ek, q.now);
+                others = passed;
+              } where
+                leads : (u : List ℕ) → Keeps w x.links (links_in x) i u → path_of u x (key_at w x i) q.depth ≡ suc j
+                leads u g = q.reads u g ∙ g.same at q.low q.high (omega (arith, ec, ev, some)) ∙ sym (ev ∙ ec) ∙ sym row
+
+                passed : (e r : ℕ) → e < suc q.depth → path_of w x (key_at w x i) e ≡ suc r → key_at w x r ≡ key_at w x i → ⊥
+                passed e r m h y =
+                    split≡ e q.depth
+                    (λ o. let g : suc r ≡ v = sym h ∙ rw o here in let f : r ≡ j = omega (arith, g, row) in no_way (eq_eq_k _ _ (rw f at y ∙ sym ek)) (sym et ∙ d))
+                    (λ o. q.others e r (earlier e q.depth (omega arith) o) h y)
 
 -- ---- one row more
 

@@ -12,6 +12,9 @@ use mdr::{DataType, Frame};
 
 // ---- all names in one run of letters: those of table 1, of table 2, of the types, UNKNOWN and NO_COMMAND
 
+// Stays: three tables and no table of codes and names. A &str of each name takes 16 bytes of fixed memory beside its letters, where a start takes
+// two; and codes that stand together are sought by binary_search as they stand.
+
 static LETTERS: [u8; 4406] = *b"\
     CONNECT_GET_PROTOCOL_INFOCONNECT_RET_PROTOCOL_INFOCONNECT_GET_CAPABILITY_INFOCONNECT_RET_CAPABILITY_INFO\
     CONNECT_GET_DEVICE_INFOCONNECT_RET_DEVICE_INFOCONNECT_GET_SUPPORT_FUNCTIONCONNECT_RET_SUPPORT_FUNCTION\
@@ -92,8 +95,8 @@ static CODES: [u8; 229] = *b"\
     \x5A\x5B\x60\x61\x62\x63\x65\x66\x67\x68\x69\x70\x71\x72\x73\x74\x75\x76\x77\x78\x79\x7C\xF0\xF1\
     \xF2\xF3\xF4\xF5\xF6\xF7\xF8\xF9\xFA\xFB\xFC\xFD\xFF";
 
-// Stays: each of these gives a table the name that definitions have; read in place (tried in commands::name_of), a static stands in
-// each goal with all its numbers.
+// Stays: each of these gives a table the name that definitions have. Read in place (tried in name_of), a static stands in the goals with all
+// its numbers: three bounds closed only with eight definitions opened, and those of the second start and of the answer did not close.
 fn all_letters() -> &'static [u8]
     ensures { result.now ≡ all_letters }
 {
@@ -114,49 +117,54 @@ fn all_codes() -> &'static [u8]
 
 // ---- the name with a number
 
+// A name, by its number in the run.
+#[derive(Clone, Copy)]
+pub struct Name {
+    pub number: usize,
+    pub ghost known: { number < 246 },
+}
+
 // The numbers of UNKNOWN and of NO_COMMAND.
 const UNKNOWN: usize = 244;
 
 const NO_COMMAND: usize = 245;
 
-fn name_of(i: usize) -> &'static [u8]
-    requires { i < 246 }
-    ensures { NameIs i result.now }
+// A name's letters.
+fn name_of(n: Name) -> &'static [u8]
+    ensures { NameIs n.number result.now }
 {
     let starts = all_starts();
-    let start = starts[i] as usize;
-    let end = starts[i + 1] as usize;
+    let start = starts[n.number] as usize;
+    let end = starts[n.number + 1] as usize;
     &all_letters()[start..end]
 }
 
-// How long the name with a number is.
-pub fn name_len(i: usize) -> usize
-    requires { i < 246 }
-    ensures { (result ≡ length (name_at i)) × (result ≤ 4406) }
+// How long a name is.
+pub fn name_len(n: Name) -> usize
+    ensures { (result ≡ length (name_at n.number)) × (result ≤ 4406) }
 {
-    name_of(i).len()
+    name_of(n).len()
 }
 
-// Writes the name with a number at a place, and returns the place after it.
-pub fn put_name(out: &mut [u8], at: usize, i: usize) -> usize
-    requires i_bound { i < 246 }
-    requires i_in_bounds { at + length (name_at i) ≤ length out.old }
-    ensures { Writes out.old at (name_at i) result out.new }
+// Writes a name at a place, and returns the place after it.
+pub fn put_name(out: &mut [u8], at: usize, n: Name) -> usize
+    requires { at + length (name_at n.number) ≤ length out.old }
+    ensures { Writes out.old at (name_at n.number) result out.new }
 {
-    words::copy_to(name_of(i), out, at)
+    words::copy_to(name_of(n), out, at)
 }
 
-// Whether the name with a number is this one.
-fn is_name(i: usize, name: &[u8]) -> bool
-    requires { i < 246 }
-    ensures { result ≡ eq_k (name_at i) name.now }
+// Whether a name is this one.
+fn is_name(n: Name, name: &[u8]) -> bool
+    ensures { result ≡ eq_k (name_at n.number) name.now }
 {
-    words::same(name_of(i), name)
+    words::same(name_of(n), name)
 }
 
 // ---- the number of a name
 
 // The number of a byte's name, where a table's codes and names stand from a place on.
+// Stays: by match: in ok().map(..) the sum stands in a closure, of which nothing says that its place is below the count.
 fn find_in(first: usize, count: usize, b: u8) -> Option<usize>
     requires count_bound { first + count ≤ 229 }
     requires all_codes_value { rising (take count (drop first all_codes)) ≡ true }
@@ -197,7 +205,7 @@ fn command_in(table: Table, b: u8) -> usize
 }
 
 // The number of the name of a frame's command.
-pub fn command_name(f: Frame) -> usize
+fn command_number(f: Frame) -> usize
     ensures { Spot result (command_name f) }
 {
     if f.size == 0 {
@@ -209,8 +217,19 @@ pub fn command_name(f: Frame) -> usize
     }
 }
 
+// The name of a frame's command.
+pub fn command_name(f: Frame) -> Name
+    ensures { Spot result.number (command_name f) }
+{
+    Name {
+        number: command_number(f),
+    }
+}
+
 // Whether the command of a frame has this name.
-// Stays: letters answers this and is_command_name too, from fewer bytes; one of the two crates serves the calls at a time.
+// Stays: letters has name_len, put_name, is_name, is_command and is_command_name too, from fewer bytes; nothing calls it yet, and its note
+// (docs/notes/05-less-memory-for-names.md) lacks its figures. By it is_command_name takes 221 instructions for the first name where this takes
+// 68 (its row of PERFORMANCE is at 1.07), for the last 924 where this takes 2,146, and a name is written in 148 where this takes 111.
 pub fn is_command(f: Frame, name: &[u8]) -> bool
     ensures { result ≡ eq_k (command_name f) name.now }
 {
@@ -222,7 +241,7 @@ pub fn is_command_name(name: &[u8]) -> bool
     ensures { result ≡ is_command_name name.now }
 {
     for i in 0..229 {
-        if is_name(i, name) {
+        if is_name(Name { number: i }, name) {
             return true;
         }
     }
@@ -230,7 +249,8 @@ pub fn is_command_name(name: &[u8]) -> bool
 }
 
 // The number of the name of a type.
-pub fn data_type_name(t: DataType) -> usize
+// Stays: a match, as the type's byte in mdr is. Names are numbered one after another, bytes leave gaps, so that neither gives the other.
+fn type_number(t: DataType) -> usize
     ensures { Spot result (type_name t) }
 {
     match t {
@@ -250,5 +270,14 @@ pub fn data_type_name(t: DataType) -> usize
         DataType::ShotCommon => 242,
         DataType::ShotMdrNo2 => 243,
         DataType::Unknown(_) => UNKNOWN,
+    }
+}
+
+// The name of a type.
+pub fn data_type_name(t: DataType) -> Name
+    ensures { Spot result.number (type_name t) }
+{
+    Name {
+        number: type_number(t),
     }
 }

@@ -1,5 +1,6 @@
 -- Laws of the functions that read a name's counter.
 use Rattle.std.specs.Prelude.{Option, Some, None}
+use Rattle.std.specs.Option.{MatchOption}
 use mathlib.Core.Path.{◌≡◌, refl, sym, ap, ◌∙◌}
 use mathlib.Core.Logic.{◌≢◌}
 use mathlib.Core.Bool.{Bool, true, false}
@@ -7,6 +8,8 @@ use mathlib.Core.List.{List, [], ◌∷◌}
 use Prim.Native.Nat.{ℕ, suc, ◌+◌, ◌-◌, ◌*◌, ◌<◌, ◌≤◌}
 use native.Mathlib.Omega.{arith}
 use lib.Dec.{eqb}
+use denote.Bor.{Bor}
+use lib.Pointwise.{pointwise}
 use lib.ListN.{length, get_or, take, drop, length-take}
 use lib.Seq.{drop-cons, get_or-take}
 use borrow.Author.Tests.{eq-eqb, ne_eqb, le-leb, lt-leb}
@@ -130,71 +133,24 @@ signed_bare (x ∷ s) n = split≡ x 45 (λ p. rw (eq-eqb x 45 p)) (λ p. rw (ne
 
 -- ---- the mark
 
-pub mark_short : (s : List ℕ) → length s < 11 → false ≡ eq_k (take 11 s) mark
-unfolding mark
-mark_short s h = sym (ne_eq_k (take 11 s) mark (λ q. let z : length (take 11 s) ≡ 11 = ap length q in omega (arith, length-take 11 s)))
+-- as the code has it
+same_bytes : (a b : List ℕ) → pointwise eqb a b ≡ eq_k a b
+unfolding eq_k
+same_bytes [] [] = refl
+same_bytes [] (y ∷ b) = refl
+same_bytes (x ∷ a) [] = refl
+same_bytes (x ∷ a) (y ∷ b) = split_b (eqb x y) (λ e. rw e (same_bytes a b)) (λ e. rw e)
 
--- a word of a list that begins with the mark is the mark's
-pub mark_word : (s : List ℕ) (i w : ℕ) → i + 4 ≤ 11 → w ≡ le32 s i → w ≢ le32 mark i → false ≡ eq_k (take 11 s) mark
-unfolding le32
-mark_word s i w h e n =
-    sym (ne_eq_k (take 11 s) mark (λ q. n (e ∙ rw (← q, get_or-take 11 s i 0 (omega arith), get_or-take 11 s (i + 1) 0 (omega arith), get_or-take 11 s (i + 2) 0 (omega arith), get_or-take 11 s (i + 3) 0 (omega arith)))))
+-- what is left of a name after the mark
+module _ (s : List ℕ) (r : Option (Bor (List ℕ)))
+    (m : MatchOption r (pointwise eqb (take (length mark) s) mark ≡ false) (λ x. (pointwise eqb (take (length mark) s) mark ≡ true) × (x.now ≡ drop (length mark) s) × (length x.now + length mark ≡ length s))) where
+  pub unmarked : r ≡ None → None ≡ counter s
+  unfolding counter mark
+  unmarked e = let k = (rw e at m) in rw (sym (same_bytes (take 11 s) mark) ∙ k)
 
-low : (a x b y : ℕ) → a < 256 → b < 256 → a + 256 * x ≡ b + 256 * y → (a ≡ b) × (x ≡ y)
-low a x b y p q e = (omega arith, omega arith)
-
--- the four bytes of a word
-pub record Bytes (s : List ℕ) (i a b c d : ℕ) : Type 0 where
-  pub b0 : get_or s i 0 ≡ a
-  pub b1 : get_or s (i + 1) 0 ≡ b
-  pub b2 : get_or s (i + 2) 0 ≡ c
-  pub b3 : get_or s (i + 3) 0 ≡ d
-
-bytes_of : (s : List ℕ) (i a b c d : ℕ) → ((k : ℕ) → get_or s k 0 < 256) → a < 256 → b < 256 → c < 256
-    → le32 s i ≡ a + 256 * (b + 256 * (c + 256 * d)) → Bytes s i a b c d
-unfolding le32
-bytes_of s i a b c d bytes p q r e =
-    let l0 = low (get_or s i 0) (get_or s (i + 1) 0 + 256 * (get_or s (i + 2) 0 + 256 * get_or s (i + 3) 0)) a (b + 256 * (c + 256 * d)) (bytes i) p (omega arith) in
-    let l1 = low (get_or s (i + 1) 0) (get_or s (i + 2) 0 + 256 * get_or s (i + 3) 0) b (c + 256 * d) (bytes (i + 1)) q l0.1 in
-    let l2 = low (get_or s (i + 2) 0) (get_or s (i + 3) 0) c d (bytes (i + 2)) r l1.1 in
-    record { b0 = l0.0; b1 = l1.0; b2 = l2.0; b3 = l2.1 }
-
--- one byte more
-more : (s p : List ℕ) (i x n : ℕ) → i < length s → get_or s i 0 ≡ x → take n (drop (suc i) s) ≡ p → take (suc n) (drop i s) ≡ x ∷ p
-more s p i x n h e q = rw (drop-cons s i 0 h, e, q)
-
-module _ (s : List ℕ) (bytes : (k : ℕ) → get_or s k 0 < 256) (long : 11 ≤ length s) where
-  pub mark_whole : le32 s 0 ≡ 0x2D72646D → le32 s 4 ≡ 0x6B636170 → le32 s 7 ≡ 0x2D74656B → true ≡ eq_k (take 11 s) mark
-  unfolding mark
-  mark_whole x y z =
-      let a = bytes_of s 0 109 100 114 45 bytes (omega arith) (omega arith) (omega arith) x in
-      let b = bytes_of s 4 112 97 99 107 bytes (omega arith) (omega arith) (omega arith) y in
-      let c = bytes_of s 7 107 101 116 45 bytes (omega arith) (omega arith) (omega arith) z in
-      sym (eq_eq_k (take 11 s) mark
-      (more s _ 0 109 10 (omega arith) a.b0 (more s _ 1 100 9 (omega arith) a.b1 (more s _ 2 114 8 (omega arith) a.b2
-      (more s _ 3 45 7 (omega arith) a.b3 (more s _ 4 112 6 (omega arith) b.b0 (more s _ 5 97 5 (omega arith) b.b1
-      (more s _ 6 99 4 (omega arith) b.b2 (more s _ 7 107 3 (omega arith) b.b3 (more s _ 8 101 2 (omega arith) c.b1
-      (more s _ 9 116 1 (omega arith) c.b2 (more s _ 10 45 0 (omega arith) c.b3 refl))))))))))))
-
-  pub mark_last : (u v w : ℕ) → u ≡ le32 s 0 → u ≡ 0x2D72646D → v ≡ le32 s 4 → v ≡ 0x6B636170 → w ≡ le32 s 7 → eqb w 0x2D74656B ≡ eq_k (take 11 s) mark
-  unfolding mark le32
-  mark_last u v w eu u' ev v' ew =
-      split≡ w 0x2D74656B
-      (λ e. eq-eqb w 0x2D74656B e ∙ mark_whole (sym eu ∙ u') (sym ev ∙ v') (sym ew ∙ e))
-      (λ n. ne_eqb w 0x2D74656B n ∙ mark_word s 7 w (omega arith) ew n)
-
-module _ (s : List ℕ) (m : Bool) (e : m ≡ eq_k (take 11 s) mark) where
-  pub unmarked : m ≡ false → None ≡ counter s
-  unfolding counter
-  unmarked f = rw (← e, f)
-
-  pub mark_long : m ≡ true → 11 ≤ length s
-  unfolding mark
-  mark_long f = let z : length (take 11 s) ≡ 11 = ap length (eq_k_true (take 11 s) mark (sym e ∙ f)) in omega (arith, length-take 11 s)
-
-  pub marked : m ≡ true → within (signed (to_hyphen (after_hyphen (drop 11 s)))) ≡ counter s
-  unfolding counter
-  marked f = rw (← e, f)
+  pub marked : (x : Bor (List ℕ)) → r ≡ Some x → within (signed (to_hyphen (after_hyphen x.now))) ≡ counter s
+  unfolding counter mark
+  marked x e = let k = (rw e at m) in rw (k.1, sym (same_bytes (take 11 s) mark) ∙ k.0)
 
 within_most : (c : Option ℕ) → rank (within c) ≤ 4294967296
 unfolding within rank

@@ -28,15 +28,17 @@ use Rattle.fragments.specs.Bytes.{number_of}
 use Rattle.fragments.specs.Links.{LinkedTo}
 use Rattle.fragments.proofs.Walking.{number_at}
 use Rattle.l2cap.specs.Pdus.{packet_key}
-use Rattle.l2cap.specs.Steps.{open_from, open_at, open_in, row_at, held_of, map_of}
+use Rattle.l2cap.specs.Steps.{open_from, open_at, open_in, row_at, held_of, map_of, begun_tables}
+use Rattle.l2cap.specs.declared.Tables.{Tables}
 use Rattle.l2cap.proofs.Running.{Fresh, going_start, going_low, going_row, going_room, going_open, run_closed, link_fresh}
 use Rattle.signs.specs.Places.{Placed, placed_packet, placed_packets, packets_at}
 use Rattle.signs.specs.Recorded.{is_none}
 use Rattle.signs.specs.Partial.{Begun, begun_at, nothing, stray_out, strays, given_up_out, given_up, at_end}
 use Rattle.signs.specs.Following.{Followed, begun_place, open_place}
 use Rattle.signs.proofs.Places.{rest_at, packets_start, file_packets, rest_packets, rest_none}
-use Rattle.signs.proofs.Counting.{counted_gap}
+use Rattle.signs.proofs.Counting.{no_sign, counted_gap}
 use Rattle.following.specs.Passing.{RecordTurn, Turned, RecordTurned, first_pass, FollowedTo}
+use Rattle.signs.specs.declared.Gap.{Gap}
 use Rattle.following.specs.declared.Pass.{Pass}
 use Rattle.following.proofs.Begun.{begun_in, begun_place_law}
 use Rattle.following.proofs.Counting.{met_start, met_end}
@@ -100,6 +102,10 @@ module _ (g : Format) (f : List ℕ) (at e : ℕ) (here : RecordAt g f at e) whe
 pub record Walking (t : Trace) (w₀ : List ℕ) (q count : ℕ) (w : List ℕ) (s : Pass) (k : Reader) : Type 0 where
   pub trace : k.trace ≡ t
   pub follows : Following t.format t.file.now w₀ q count w s (coming t.format t.file.now k.at)
+
+-- no packet is read
+pub first_is : (q n : ℕ) (t : Tables) → t ≡ begun_tables q n → (a b : Gap) → a ≡ no_sign → b ≡ no_sign → record { count = 0; tables = t; signs = record { stray = a; given_up = b } } ≡ first_pass q n
+first_is q n t et a b ea eb = rw (et, ea, eb)
 
 pub follow_start :
     (t : Trace) (w : List ℕ) (count : ℕ) → Read t.format t.file.now w count → (q : ℕ) → q ≡ length t.file.now / 4 → (v : List ℕ) (n : ℕ) → LinkedTo w q count v n →

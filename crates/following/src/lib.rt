@@ -8,14 +8,13 @@ ghost use Rattle.l2cap.specs.Steps.{row_at, open_in};
 ghost use Rattle.following.specs.Showing.{shown_by, Show};
 ghost use Rattle.following.specs.Passing.{first_pass, Turn, Turned, RecordTurn, RecordTurned, FollowedTo};
 
-use fragments::link_packets;
+use fragments::{link_packets, starts};
 use l2cap::{Tables, look, row_of, run};
 use signs::{Gap, lacks_packet, note};
 use trace::{Record, Trace};
-use words::get32;
 
 // Continuations with nothing open, and starts that give up a partial PDU.
-#[derive(Clone, Copy)]
+#[derive(Clone, Copy, Default)]
 pub struct Partial {
     pub stray: Gap,
     pub given_up: Gap,
@@ -30,12 +29,12 @@ struct Pass {
 }
 
 // The signs with those of packet i, whose record starts at a place: by what is open before it is read, and whether it starts a PDU.
+#[tactic(auto, unfolding(crate::specs::Showing::shown_by))]
 fn show(w: &[u8], q: usize, i: usize, at: usize, g: Partial) -> Partial
     requires { Show w.now q i g }
     ensures { result ≡ shown_by (open_in w.now (row_at w.now q i)) (eqb (word w.now (6 * i + 1)) 1) at g }
 {
-    let starts = get32(w, 6 * i + 1) == 1;
-    match (look(w, row_of(w, q, i)), starts) {
+    match (look(w, row_of(w, q, i)), starts(w, i)) {
         (None, false) => Partial {
             stray: note(g.stray, 1, at),
             ..g
@@ -54,14 +53,12 @@ fn follow_packet(file: &[u8], w: &mut [u8], at: usize, s: Pass) -> Pass
     ensures { Turned file.now w.old (length file.now / 4) at s w.new result }
 {
     let i = s.count;
-    let tables = s.tables;
-    let signs = s.signs;
-    let g = show(w, file.len() / 4, i, at, signs);
-    let t = run(file, w, tables, i, i + 1);
+    let signs = show(w, file.len() / 4, i, at, s.signs);
+    let tables = run(file, w, s.tables, i, i + 1);
     Pass {
         count: i + 1,
-        tables: t,
-        signs: g,
+        tables,
+        signs,
     }
 }
 
@@ -81,16 +78,8 @@ fn first_pass(q: usize, rows: usize) -> Pass
     requires { q ≤ 1048576 }
     ensures { result ≡ first_pass q rows }
 {
-    let tables = Tables {
-        live: rows,
-        made: 0,
-        top: 4 * q,
-    };
-    let none = Gap { many: 0, first: 0 };
-    let signs = Partial {
-        stray: none,
-        given_up: none,
-    };
+    let tables = Tables::begun(q, rows);
+    let signs = Partial::default();
     Pass {
         count: 0,
         tables,

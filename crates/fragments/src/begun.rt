@@ -41,7 +41,7 @@ impl<'a> Begun<'a> {
     }
 
     // The next packet with the key of packet i that has bytes; the count of packets if there is none.
-    // Stays: a number for none, since joining ends at a packet that comes no later than the count, and so tests for both at once.
+    // Stays: a number for none. The two walks below end at `upto`, which is at most that number, and so by one test; with an Option each had two.
     fn later(self, i: usize) -> usize
         requires { i < self.upto }
         ensures { word self.entry.links.now (2 * i) ≡ result + 1 }
@@ -50,7 +50,8 @@ impl<'a> Begun<'a> {
     }
 
     // The byte number at; 0 if it is not there.
-    // Stays: 0 and no Option, since the definition reads a number past the end as of zeros.
+    // Stays: 0 and no Option, since the definition reads a number past the end as of zeros. And i is moved on by hand, here and in gather: what is left
+    // is no slice to cut from, as `channels::Commands` has, but a place in two tables, of which an iterator would tell its list anew in ghost members.
     fn byte(self, at: usize) -> u8
         ensures { result ≡ get_or (bytes_of self.entry) at 0 }
     {

@@ -2,7 +2,7 @@
 // and the row of its key is noted: so the pass that puts PDUs together seeks no key, and walks the fragments of one alone.
 #![tactic(auto)]
 
-ghost use Rattle.std.specs.Prelude.{◌≡◌, ◌+◌, ◌*◌, ◌≤◌, ◌<◌, length};
+ghost use Rattle.std.specs.Prelude.{◌≡◌, ◌+◌, ◌*◌, ◌≤◌, ◌<◌, length, eqb};
 ghost use Rattle.words.specs.Words.{word};
 ghost use Rattle.tree.specs.Seats.{Seated};
 ghost use Rattle.fragments.specs.Links.{index_of, open_in, blank_row, head_of, head_with, Head, noted, Note, SeatKey, LinkStep, LinkedStep, LinkRoom, LinkBegun, LinkedTo};
@@ -27,6 +27,7 @@ fn index_of(q: usize) -> Tree
 }
 
 // The row of a key among the open PDUs, a new one with nothing open if there is none.
+// Stays: w and q side by side, here and below: w is written, and q, which says where each table lies, is asked with the rows in one clause.
 fn seat_key(w: &mut [u8], q: usize, rows: usize, key: u32, near: usize) -> Seating
     requires { SeatKey w.old q rows }
     ensures { Seated w.old (open_in q rows) (blank_row key) w.new result }
@@ -41,6 +42,7 @@ fn seat_key(w: &mut [u8], q: usize, rows: usize, key: u32, near: usize) -> Seati
 }
 
 // The packet that comes next under the key of row at, plus one. There were so many rows: if it is new, none comes.
+// Stays: the count of packets plus one for none, and no Option: it is the word that work has for none, and is stored as it is.
 fn head_of(w: &[u8], q: usize, rows: usize, at: usize, none: u32) -> u32
     requires { Head w.now q at }
     ensures { result ≡ head_of w.now q rows at none }
@@ -52,7 +54,7 @@ fn head_of(w: &[u8], q: usize, rows: usize, at: usize, none: u32) -> u32
 }
 
 // The same with packet i before it: i itself, if it has bytes.
-fn head_with(n: u32, i: usize, next: u32) -> u32
+fn head_with(n: usize, i: usize, next: u32) -> u32
     requires { i < 4294967295 }
     ensures { result ≡ head_with n i next }
 {
@@ -79,7 +81,7 @@ fn link_row(w: &mut [u8], q: usize, s: Seating, i: usize, none: u32) -> Seating
 {
     let rows = s.rows;
     let key = get32(w, 6 * i);
-    let n = get32(w, 6 * i + 3);
+    let n = len_of(w, i);
     let t = seat_key(w, q, rows, key, s.at);
     let at = t.at;
     let next = head_of(w, q, rows, at, none);
@@ -110,6 +112,14 @@ pub fn link_packets(w: &mut [u8], q: usize, count: usize) -> usize
 }
 
 // ---- a packet's row
+
+// Whether packet i starts a PDU.
+pub fn starts(w: &[u8], i: usize) -> bool
+    requires { 24 * i + 24 ≤ length w.now }
+    ensures { result ≡ eqb (word w.now (6 * i + 1)) 1 }
+{
+    get32(w, 6 * i + 1) == 1
+}
 
 // The number of bytes of packet i.
 pub fn len_of(w: &[u8], i: usize) -> usize

@@ -2,7 +2,7 @@
 use Prim.Native.Nat.{ℕ}
 use mathlib.Core.Path.{◌≡◌, refl, ◌∙◌}
 use mathlib.Core.List.{List}
-use native.Mathlib.Omega.{arith}
+use Rattle.laws.proofs.Choice.{no_way}
 use Rattle.laws.specs.Answers.{Answer, accepted, refused, refuses}
 use Rattle.trace.specs.Formats.{container_of, format_of}
 use Rattle.trace.specs.declared.Container.{Container}
@@ -12,12 +12,9 @@ use Rattle.opening.proofs.AsImport.{or_given, import_opened}
 use Rattle.signs.specs.Gaps.{gaps}
 use Rattle.gaps.specs.Calls.{or_values, gaps_of}
 
-never : {G : Type 0} → ◌≡◌ {A = ℕ} 0 1 → G
-never z = absurd (omega arith)
-
 was_refused : (a : Answer) (ws : List ℕ) (n : ℕ) (vs : List ℕ) → or_values a ws ≡ refused n vs → a ≡ refused n vs
 unfolding or_values
-was_refused (accepted us) ws n vs e = never cc
+was_refused (accepted us) ws n vs e = no_way refl cc
 was_refused (refused m us) ws n vs e = e
 
 module _ (b : Container) (f : List ℕ) (work : ℕ) (o : Options) where
@@ -30,4 +27,4 @@ module _ (b : Container) (f : List ℕ) (work : ℕ) (o : Options) where
   read_as_import vs e = import_opened (container_of b) f work o ∙ go (opened (container_of b) f work o.tail) e where
     go : (a : Answer) → or_values a (gaps (format_of b f) f) ≡ accepted vs → or_given a (given (read (container_of b) f o)) ≡ given (read (container_of b) f o)
     go (accepted us) q = refl
-    go (refused m us) q = never cc
+    go (refused m us) q = no_way refl cc

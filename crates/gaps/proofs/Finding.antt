@@ -1,4 +1,4 @@
--- From the walks to the call: the signs found, each refusal, and what is told.
+-- From the walks to the call: the signs found, and each refusal.
 use Rattle.std.specs.Prelude.{Result, Ok, Err}
 use Prim.Native.Nat.{ℕ}
 use mathlib.Core.Path.{◌≡◌, refl, sym, ◌∙◌}
@@ -25,18 +25,14 @@ use Rattle.signs.specs.Following.{Followed}
 use Rattle.signs.proofs.Counting.{counted_gap}
 use Rattle.signs.proofs.PlaceOrder.{places_many}
 use Rattle.signs.specs.declared.Gap.{Gap}
-use Rattle.recorded.specs.Looking.{recorded_of, Readable}
+use Rattle.recorded.specs.Looking.{recorded_of}
 use Rattle.recorded.specs.declared.Recorded.{Recorded}
 use Rattle.following.specs.Passing.{FollowedTo}
 use Rattle.following.specs.declared.Partial.{Partial}
-use Rattle.telling.specs.Telling.{Told}
-use Rattle.gaps.specs.Calls.{or_values, gaps_of, signs_of, told_gaps, Finds, GapsCalls}
+use Rattle.gaps.specs.Calls.{or_values, gaps_of, signs_of, Finds}
 use Rattle.gaps.specs.declared.Signs.{Signs}
 
 -- ---- the walks
-
-pub find_readable : (g : Format) (f w : List ℕ) (count : ℕ) → Read g f w count → Readable f
-find_readable g f w count r = record { small = r.tabled.small }
 
 pub find_followed : (g : Format) (f : List ℕ) (count : ℕ) (u : List ℕ) (p : Partial) → FollowedTo g f count u p → Followed g f u (length (packets_at g f))
 find_followed g f count u p t = rw (places_many g f u count t.followed.list) t.followed
@@ -84,18 +80,3 @@ module _ (b : Container) (f w : List ℕ) (tail : Tail) (x : Result Opened Refus
       answers = rw (reads, es, (op.read t e).says, (op.read t e).file);
       spared = λ h. no_way (opened_sized (container_of b) f (length w) tail [] reads) h;
     }
-
--- ---- what is told
-
-pub tells_gaps :
-    (b : Container) (f w : List ℕ) (tail : Tail) (g : Result Signs Refusal) (w' : List ℕ) → Finds b f w tail g w' → (v : List ℕ) (r : ℕ) (v' : List ℕ) →
-    Told (told_gaps g) v r v' → GapsCalls b f w tail v r w' v'
-tells_gaps b f w tail g w' fi v r v' t = record { tells = rw fi.answers at t; spared = fi.spared }
-
--- by what the caller chose
-module _ (b : Container) (f w : List ℕ) (t : Tail) (v : List ℕ) (r : ℕ) (w' v' : List ℕ) (c : GapsCalls b f w t v r w' v') where
-  pub calls_tail : (tail : Tail) → t ≡ tail → GapsCalls b f w tail v r w' v'
-  calls_tail tail te = rw (← te) c
-
-  pub calls_chosen : (d : Container) → b ≡ d → (tail : Tail) → t ≡ tail → GapsCalls d f w tail v r w' v'
-  calls_chosen d e tail te = rw (← e, ← te) c

@@ -42,6 +42,7 @@ fn find_signs(trace: Trace, work: &mut [u8], count: usize) -> Signs
 }
 
 // The signs of a trace.
+// Stays: container and tail side by side, here and in `opening`, as C gives them; capture's Options hold them with what only import asks.
 pub fn find_gaps(
     file: &[u8],
     work: &mut [u8],

@@ -1,6 +1,6 @@
 -- Laws of specs/CountTable.
 use Rattle.std.specs.Prelude.{Option, Some, None}
-use Prim.Native.Nat.{ℕ, suc, ◌+◌, ◌*◌, ◌/◌, ◌<◌, ◌≤◌}
+use Prim.Native.Nat.{ℕ, suc, ◌+◌, ◌*◌, ◌<◌, ◌≤◌}
 use mathlib.Core.Path.{◌≡◌, refl, sym, ap, ◌∙◌}
 use mathlib.Core.Bool.{cond}
 use mathlib.Core.List.{List, [], ◌∷◌}
@@ -21,7 +21,7 @@ use Rattle.tree.specs.declared.Table.{Table}
 use Rattle.tree.specs.declared.Seating.{Seating}
 use Rattle.tree.proofs.Seats.{seated_value, seat_first}
 use Rattle.rfcomm.specs.Pieces.{Counts, Kind, counted, no_counts}
-use Rattle.gathering.specs.CountTable.{value_of, count_index, UpPre, CountedUp, Counted}
+use Rattle.gathering.specs.CountTable.{value_of, UpPre, CountedUp, Counted}
 
 pub count_found : (w : List ℕ) (b k n i : ℕ) (f : Option ℕ) (v : ℕ) → f ≡ find_in w b k n → f ≡ Some i → v ≡ word w (b + 4 * i + 2) → v ≡ value_of (lookup w b n k)
 unfolding value_of
@@ -30,10 +30,6 @@ count_found w b k n i f v p q e = e ∙ sym (ap value_of (lookup_found w b k n i
 pub count_none : (w : List ℕ) (b k n : ℕ) (f : Option ℕ) → f ≡ find_in w b k n → f ≡ None → 0 ≡ value_of (lookup w b n k)
 unfolding value_of
 count_none w b k n f p q = sym (ap value_of (lookup_nothing w b k n (sym p ∙ q)))
-
-pub index_is : (b : ℕ) → record { rows = b; links = b + 4 * (b / 42); roots = b / 1536 + 1 } ≡ count_index b
-unfolding count_index
-index_is b = refl
 
 module _ (w : List ℕ) (t : Table) (k : ℕ) where
   module _ (p : UpPre w t k) (u : List ℕ) (r : Seating) (s : Seated w t (record { key = k; a = 0; b = 0 }) u r) where

@@ -39,7 +39,7 @@ use Rattle.gathering.specs.CountTable.{value_of, count_index, UpPre, CountedUp, 
 use Rattle.gathering.proofs.CountTable.{counted_start, counted_agree, counted_none, counted_session, counted_link}
 use Rattle.rfcomm.specs.PieceRows.{row_of, PutPre, part_piece}
 use Rattle.rfcomm.proofs.PieceRows.{row_len, row_piece, row_within, row_long, within_front, pieces_front, infos_front, pieces_snoc}
-use Rattle.rfcomm.specs.Judging.{kind_shown, Carried, JudgePre, VerdictIs}
+use Rattle.rfcomm.specs.Judging.{kind_shown, Carried, VerdictIs}
 use Rattle.rfcomm.proofs.Judging.{carries_held}
 use Rattle.rfcomm.specs.declared.Part.{Part}
 use Rattle.rfcomm.specs.declared.Info.{Info}
@@ -50,18 +50,9 @@ use Rattle.gathering.specs.declared.Gathered.{Gathered}
 use Rattle.rfcomm.specs.declared.Verdict.TheVariants.{Asks, Opens, Carries, Wrong, Passed}
 use Rattle.gathering.specs.Gathering.{part_of, TakePre, Ready, TakenIn, PiecesPre, PiecesBegun, ReadPieces, Gathering}
 
-pub part_is : (w : List ℕ) (row : ℕ) (t : Table) (i : Info) (side k₁ k₂ s l cid start len : ℕ) → side ≡ word w row → k₁ ≡ 64 * (side / 2) + 0 → s ≡ value_of (lookup w t.at.rows t.count k₁) →
-    k₂ ≡ 64 * (side / 2) + i.dlci → l ≡ value_of (lookup w t.at.rows t.count k₂) → cid ≡ word w (row + 1) → start ≡ i.start → len ≡ i.len →
-    record { dlci = i.dlci; way = side; cid = cid; sessions = s; links = l; start = start; len = len; joined = i.joined } ≡ part_of w row t i
-unfolding part_of
-part_is w row t i side k₁ k₂ s l cid start len e e₁ es e₂ el ec et en = rw (es, e₁, el, e₂, ec, et, en, e)
-
-pub take_put : (w : List ℕ) (row : ℕ) (t : Table) (i : Info) (at : ℕ) (p : Part) → TakePre w row t i at → p ≡ part_of w row t i → PutPre w at p
+take_put : (w : List ℕ) (row : ℕ) (t : Table) (i : Info) (at : ℕ) (p : Part) → TakePre w row t i at → p ≡ part_of w row t i → PutPre w at p
 unfolding part_of
 take_put w row t i at p h e = rw e (record { room = h.room; sessions = h.few (64 * (word w row / 2) + 0); links = h.few (64 * (word w row / 2) + i.dlci); len = h.piece.len })
-
-pub judge_pre : (f w : List ℕ) (q rows : ℕ) (t : Taken) (j : ℕ) (a : List ℕ) → Ready f w q rows t j a → JudgePre f w (2 * q + 7 * j) q rows
-judge_pre f w q rows t j a r = record { lent = r.lent; tries = r.tries }
 
 link_is : (f w : List ℕ) (at : ℕ) → (pdu_at f w at).link ≡ word w at / 2
 unfolding pdu_at
@@ -301,7 +292,7 @@ module _ (f w : List ℕ) (q rows : ℕ) (t : Taken) (j : ℕ) (a : List ℕ) (r
         (near : Near) → TakenIn fcs f w q rows t j a u (record { counts = t.counts; pieces = t.pieces + 1; near = near }) a
     taken_piece i e x ex u eu near = taken_row i e u (rw ex at eu) near
 
-pub gather_start : (fcs : Bool) (f w : List ℕ) (made rows : ℕ) (near : Near) → PiecesBegun f w made rows →
+gather_start : (fcs : Bool) (f w : List ℕ) (made rows : ℕ) (near : Near) → PiecesBegun f w made rows →
     Gathering fcs f (pdus_from f w (2 * (length f / 4)) 0 made) w w made rows (record { counts = 0; pieces = 0; near = near }) 0 (replicate {0} {A = ℕ} 64 0)
 unfolding pieces_from infos_of pays_of pieces
 gather_start fcs f w made rows near p =
@@ -323,9 +314,16 @@ gather_start fcs f w made rows near p =
       size = refl;
     }
 
+taken_is : (t : Taken) (a b : ℕ) → t.counts ≡ a → t.pieces ≡ b → t ≡ record { counts = a; pieces = b; near = t.near }
+taken_is t a b e g = rw (← e, ← g)
+
+pub gather_begun : (fcs : Bool) (f w : List ℕ) (made rows : ℕ) (t : Taken) → t.counts ≡ 0 → t.pieces ≡ 0 → PiecesBegun f w made rows →
+    Gathering fcs f (pdus_from f w (2 * (length f / 4)) 0 made) w w made rows t 0 (replicate {0} {A = ℕ} 64 0)
+gather_begun fcs f w made rows t e g p = rw (← taken_is t 0 0 e g) at (gather_start fcs f w made rows t.near p)
+
 module _ (fcs : Bool) (f : List ℕ) (ps : List Pdu) (w₀ w : List ℕ) (made rows : ℕ) (t : Taken) (j : ℕ) (v : List ℕ) (g : Gathering fcs f ps w₀ w made rows t j v) where
-  pub gather_ready : j < made → (q : ℕ) → q ≡ length f / 4 → Ready f w q rows t j v
-  gather_ready h q e = rw e (record {
+  pub gather_ready : j < made → Ready f w (length f / 4) rows t j v
+  gather_ready h = record {
     quarter = refl;
     lent = reassembled_lent f w made ps g.signalled.pdus j h;
     inside = g.signalled.pdus.placed j h;
@@ -341,12 +339,9 @@ module _ (fcs : Bool) (f : List ℕ) (ps : List Pdu) (w₀ w : List ℕ) (made r
     indexed = g.indexed;
     within = g.within;
     wrongs = g.rare;
-  })
+  }
 
-  module _ (h : j < made) (q : ℕ) (e : q ≡ length f / 4) (u : List ℕ) (r : Taken) (v' : List ℕ) (k : TakenIn fcs f w q rows t j v u r v') where
-    taken : TakenIn fcs f w (length f / 4) rows t j v u r v'
-    taken = rw e at k
-
+  module _ (h : j < made) (u : List ℕ) (r : Taken) (v' : List ℕ) (taken : TakenIn fcs f w (length f / 4) rows t j v u r v') where
     rows_kept : Agree (2 * (length f / 4)) (2 * (length f / 4) + 7 * made) u w
     rows_kept n lo hi = front_word (20 * (length f / 4)) u w n (omega (arith, g.signalled.pdus.few)) taken.front
 

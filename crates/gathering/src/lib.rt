@@ -1,7 +1,7 @@
 // Sessions and links counted, the pieces of information that UIH frames carry gathered, and how many of these frames have a wrong FCS.
 #![tactic(auto)]
 
-ghost use Rattle.std.specs.Prelude.{◌≡◌, ◌+◌, ◌*◌, ◌≤◌, ◌<◌, get_or, set};
+ghost use Rattle.std.specs.Prelude.{◌≡◌, ◌+◌, ◌*◌, ◌/◌, ◌≤◌, ◌<◌, length, get_or, set};
 ghost use Rattle.gathering.specs.CountTable.{value_of, count_index, UpPre, CountedUp};
 ghost use Rattle.rfcomm.specs.PieceRows.{row_of};
 ghost use Rattle.table.specs.Table.{lookup};
@@ -16,6 +16,7 @@ use words::{get32, get64, put32};
 
 // Where the counts from word base on have their links: base is 6 areas, and rows and links share the seventh, but for the last
 // seventh of it, where the index of the channels begins.
+#[tactic(auto, unfolding(crate::specs::CountTable::count_index))]
 fn index_of(base: usize) -> Tree
     requires { base ≤ 8388608 }
     ensures { result ≡ count_index base }
@@ -63,14 +64,14 @@ fn count_up(w: &mut [u8], counts: Table, key: u64, near: usize) -> Seating
 }
 
 // The rows of counts that were found last: of a link's sessions, and of its links on a DLCI. Pieces come in runs.
-#[derive(Clone, Copy)]
+#[derive(Clone, Copy, Default)]
 pub struct Near {
     pub sessions: usize,
     pub links: usize,
 }
 
 // Rows of counts, and pieces.
-#[derive(Clone, Copy)]
+#[derive(Clone, Copy, Default)]
 pub struct Taken {
     pub counts: usize,
     pub pieces: usize,
@@ -93,6 +94,7 @@ struct Placed {
 }
 
 // The piece that a PDU's information makes, with the counts that stand.
+#[tactic(auto, unfolding(crate::specs::Gathering::part_of))]
 fn piece_of(counts: Forest, row: usize, i: Info, near: Near) -> Placed
     requires { PiecePre counts.w.now row i }
     ensures { result.part ≡ part_of counts.entry.w.now row counts.entry.table i }
@@ -120,6 +122,7 @@ fn piece_of(counts: Forest, row: usize, i: Info, near: Near) -> Placed
 }
 
 // Takes in the piece of a PDU's information as the row at word at, and returns the rows of its counts.
+#[tactic(auto, unfolding(crate::specs::Gathering::part_of))]
 fn take_piece(w: &mut [u8], row: usize, counts: Table, i: Info, near: Near, at: usize) -> Near
     requires { TakePre w.old row counts i at }
     ensures { w.new ≡ put_words w.old at (row_of (part_of w.old row counts i) (long w.old (row + 5))) }
@@ -132,6 +135,7 @@ fn take_piece(w: &mut [u8], row: usize, counts: Table, i: Info, near: Near, at: 
 }
 
 // Counts one more frame with a wrong FCS on a DLCI.
+// Stays: by its index; with get_mut, tried, it is not proved of a None that the counts are as they were.
 fn note_wrong(wrong: &mut [u32], dlci: u32)
     requires { get_or wrong.old dlci 0 < 4294967295 }
     ensures { wrong.new ≡ set wrong.old dlci (get_or wrong.old dlci 0 + 1) }
@@ -146,22 +150,21 @@ fn note_wrong(wrong: &mut [u32], dlci: u32)
 fn take_pdu(
     file: &[u8],
     w: &mut [u8],
-    q: usize,
     rows: usize,
     fcs: bool,
     wrong: &mut [u32],
     t: Taken,
     j: usize,
 ) -> Taken
-    requires { Ready file.now w.old q rows t j wrong.old }
-    ensures { TakenIn fcs file.now w.old q rows t j wrong.old w.new result wrong.new }
+    requires { Ready file.now w.old (length file.now / 4) rows t j wrong.old }
+    ensures { TakenIn fcs file.now w.old (length file.now / 4) rows t j wrong.old w.new result wrong.new }
 {
+    let q = file.len() / 4;
     let row = 2 * q + 7 * j;
     let counts = Table {
         at: index_of(6 * q),
         count: t.counts,
     };
-    let pieces = t.pieces;
     let near = t.near;
     let v = judge(file, w, row, q, rows, fcs);
     let link = get32(w, row) / 2;
@@ -170,30 +173,30 @@ fn take_pdu(
             let s = count_up(w, counts, count_key(link, 0), near.sessions);
             Taken {
                 counts: s.rows,
-                pieces,
                 near: Near {
                     sessions: s.at,
-                    links: near.links,
+                    ..near
                 },
+                ..t
             }
         }
         Verdict::Opens(d) => {
             let s = count_up(w, counts, count_key(link, d), near.links);
             Taken {
                 counts: s.rows,
-                pieces,
                 near: Near {
-                    sessions: near.sessions,
                     links: s.at,
+                    ..near
                 },
+                ..t
             }
         }
         Verdict::Carries(i) => {
-            let found = take_piece(w, row, counts, i, near, 5 * q + 8 * pieces);
+            let found = take_piece(w, row, counts, i, near, 5 * q + 8 * t.pieces);
             Taken {
-                counts: t.counts,
-                pieces: pieces + 1,
+                pieces: t.pieces + 1,
                 near: found,
+                ..t
             }
         }
         Verdict::Wrong(d) => {
@@ -216,18 +219,10 @@ fn take_pdus(file: &[u8], w: &mut [u8], made: usize, rows: usize, fcs: bool) -> 
     requires { PiecesBegun file.now w.old made rows }
     ensures { ReadPieces fcs file.now w.old made w.new result }
 {
-    let q = file.len() / 4;
     let mut wrong = [0u32; 64];
-    let mut t = Taken {
-        counts: 0,
-        pieces: 0,
-        near: Near {
-            sessions: 0,
-            links: 0,
-        },
-    };
+    let mut t = Taken::default();
     for j in 0..made {
-        t = take_pdu(file, w, q, rows, fcs, &mut wrong, t, j);
+        t = take_pdu(file, w, rows, fcs, &mut wrong, t, j);
     }
     Gathered {
         pieces: t.pieces,
@@ -240,7 +235,6 @@ pub fn read_pieces(file: &[u8], w: &mut [u8], made: usize, rows: usize, fcs: boo
     requires { PiecesPre file.now w.old made rows }
     ensures { ReadPieces fcs file.now w.old made w.new result }
 {
-    let q = file.len() / 4;
-    clear(w, index_of(6 * q));
+    clear(w, index_of(6 * (file.len() / 4)));
     take_pdus(file, w, made, rows, fcs)
 }

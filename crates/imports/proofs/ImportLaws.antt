@@ -38,6 +38,8 @@ import_calls l o a f w out i w' out' m v r v' t =
 
 -- by two numbers
 pub import_two :
-    (channel tolerant : ℕ) (f w out v : List ℕ) (r : ℕ) (w' out' v' : List ℕ) → ImportCalls (container_in (channel ∷ tolerant ∷ [])) f w out (options_in (channel ∷ tolerant ∷ [])) v r w' out' v' →
+    (channel tolerant : ℕ) (l : List ℕ) → l ≡ channel ∷ tolerant ∷ [] → (f w out v : List ℕ) (r : ℕ) (w' out' v' : List ℕ) → ImportCalls (container_in l) f w out (options_in l) v r w' out' v' →
     ImportCalls Btsnoop f w out (options_number channel tolerant) v r w' out' v'
-import_two channel tolerant f w out v r w' out' v' m = subst (λ (b : Container). ImportCalls b f w out (options_number channel tolerant) v r w' out' v') (container_two channel tolerant) m
+import_two channel tolerant l e f w out v r w' out' v' m =
+    subst (λ (b : Container). ImportCalls b f w out (options_number channel tolerant) v r w' out' v') (container_two channel tolerant)
+    (subst (λ (k : List ℕ). ImportCalls (container_in k) f w out (options_in k) v r w' out' v') e m)

@@ -1,7 +1,7 @@
 // Import as the calls ask for it: by options in a list of numbers, or by two; and its answer as a number and values.
 #![tactic(auto)]
 
-ghost use Rattle.std.specs.Prelude.{◌≡◌};
+ghost use Rattle.std.specs.Prelude.{◌≡◌, [], ◌∷◌};
 ghost use Rattle.trace.specs.declared.Container.TheVariants.{Btsnoop};
 ghost use Rattle.options.specs.Numbers.{container_in};
 ghost use Rattle.streams.specs.Streams.{channel_of};
@@ -25,6 +25,7 @@ fn channel_of(channel: u64) -> Option<u8>
 pub fn options_in(options: &[u64]) -> Options
     ensures { AsOptions options.now result }
 {
+    // Stays: 256 stands for any channel, as every number over 255 does in the list that C gives; an Option of option_at would be any too.
     let channel = option_at(options, 0, 256);
     Options {
         container: container_in(options),
@@ -32,6 +33,13 @@ pub fn options_in(options: &[u64]) -> Options
         tail: tail_in(options),
         fcs: fcs_in(options),
     }
+}
+
+// The list of two options, a channel and the tail rule, as calls of C give them.
+pub fn two_options(channel: u32, tolerant: u32) -> [u64; 2]
+    ensures { result ≡ channel ∷ tolerant ∷ [] }
+{
+    [channel as u64, tolerant as u64]
 }
 
 // ---- the calls
@@ -60,6 +68,5 @@ pub fn import_by(
 ) -> u32
     ensures { ImportCalls Btsnoop file.now work.old out.old (options_number channel tolerant) values.old result work.new out.new values.new }
 {
-    let options = [channel as u64, tolerant as u64];
-    import_told(file, work, out, &options, values)
+    import_told(file, work, out, &two_options(channel, tolerant), values)
 }

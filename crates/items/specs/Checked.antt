@@ -1,8 +1,9 @@
 -- What the checked lists give: spans and names, one after another.
 use Rattle.std.specs.Prelude.{Option, Result, Ok, Err, ℕ, ◌+◌, ◌≡◌, ◌≤◌, MatchOption, List, [], ◌∷◌, length}
 use Rattle.std.specs.Borrow.{Bor}
-use Rattle.items.specs.Items.{Span, span, rx_of, well_formed, ill_formed, names_in}
+use Rattle.items.specs.Items.{Span, well_formed, ill_formed, names_in}
 use Rattle.items.specs.Walks.{spans_from, names_from}
+use Rattle.items.specs.Entries.{span_of_part}
 use Rattle.items.specs.declared.SpanPart.{SpanPart}
 use Rattle.items.specs.declared.lists.Spans.{Spans}
 use Rattle.items.specs.declared.lists.Names.{Names}
@@ -12,10 +13,6 @@ use Rattle.items.specs.declared.lists.Names.{Names}
 -- the spans that are left
 abbrev pub spans_left : Spans → List Span
 spans_left l = spans_from l.list.now l.at
-
--- a span as it is read
-abbrev pub span_of_part : SpanPart → Span
-span_of_part s = span (rx_of s.direction) s.ms s.wire.now
 
 -- the first span was given, and what is left begins after it
 pub record GaveSpan (l : Spans) (s : SpanPart) (m : Spans) : Type 0 where

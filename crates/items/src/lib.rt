@@ -5,12 +5,13 @@ ghost use Rattle.std.specs.Prelude.{◌≡◌, ◌+◌, ◌-◌, ◌%◌, ◌<�
 ghost use Rattle.laws.specs.Stores.{Writes};
 ghost use Rattle.items.specs.Items.{item, item_head, span_item, span, rx_of, read_items};
 ghost use Rattle.items.specs.Reading.{read_from};
-ghost use Rattle.items.specs.Walks.{test_of, step_at, pass_at, check_of, direction_of, SpanTo, NextIs};
+ghost use Rattle.items.specs.Walks.{test_of, check_of, direction_of};
 
 mod lists;
+mod walking;
 
 pub use lists::{Names, Spans};
-use words::{get_le16, get_le32, get_le64};
+pub use walking::{Entry, Walk};
 
 // Which way a span went: from the headset (Rx) or to it (Tx).
 #[derive(Clone, Copy)]
@@ -33,10 +34,11 @@ impl Direction {
         }
     }
 
-    // The direction that a span's kind says.
-    // Stays: not `From<u16>`, since a kind may be another; and `TryFrom` would have an error that no caller can meet.
+    // The direction that a span's kind says, or C's number of a way: 1 is Rx, any other Tx.
+    // Stays: not `From<u16>`, since a kind may be another; and not `TryFrom`: a span's kind is tested before, and another way of C's is Tx,
+    // so that each caller would drop the error.
     #[tactic(auto, unfolding(crate::specs::Walks::direction_of))]
-    fn of_kind(kind: u16) -> Direction
+    pub fn of_kind(kind: u16) -> Direction
         ensures { result ≡ direction_of kind }
     {
         if kind == 1 {
@@ -58,53 +60,33 @@ impl Direction {
     }
 }
 
-// Which list it is: it says the kinds and bodies that the list may have.
-// Stays: an enum beside the types of checked lists. A trait of these with one type for both would give `pass` and `check` a type in
-// the place of a value, and `allowed` would be two functions of a line each.
-#[derive(Clone, Copy)]
-pub enum Listing {
-    Spans,
-    Names,
-}
+// The kinds of a fixture's two items: its name, and its wire.
+pub const NAME: u16 = 3;
 
-// What stands at a place of a list: an item, with its kind and the start and the end of its body; one that passes the
-// end; or the list's end.
-#[derive(Clone, Copy)]
-pub enum Step {
-    Whole(u16, usize, usize),
-    Passes,
-    End,
-}
+pub const WIRE: u16 = 4;
 
-// A span in a list, and the place after it.
+// How many bytes a list has at most.
+pub const MOST: usize = 16777216;
+
+// A span in a list.
 #[derive(Clone, Copy)]
 pub struct SpanPart<'a> {
     pub direction: Direction,
     pub ms: u64,
     pub wire: &'a [u8],
-    pub end: usize,
+}
+
+// Which list it is: it says the kinds and bodies that the list may have; Any is a list of items of any kind.
+// Stays: an enum beside the types of checked lists. A trait of these would give `Walk` and `check` a type in the place of a value, and
+// `allowed` would be three functions of a line each.
+#[derive(Clone, Copy)]
+pub enum Listing {
+    Spans,
+    Names,
+    Any,
 }
 
 // ---- reading
-
-// What stands at a place of a list.
-pub fn item_at(list: &[u8], at: usize) -> Step
-    ensures { result ≡ step_at list.now at }
-{
-    if list.len() <= at {
-        return Step::End;
-    }
-    let left = list.len() - at;
-    if left < 6 {
-        return Step::Passes;
-    }
-    let size = get_le32(list, at) as usize;
-    if left - 6 < size {
-        return Step::Passes;
-    }
-    let start = at + 6;
-    Step::Whole(get_le16(list, at + 4), start, start + size)
-}
 
 // Whether an item may stand in a list.
 #[tactic(auto, unfolding(crate::specs::Items::span_test, crate::specs::Items::name_test))]
@@ -113,18 +95,8 @@ fn allowed(which: Listing, kind: u16, body: &[u8]) -> bool
 {
     match which {
         Listing::Spans => 8 <= body.len() && matches!(kind, 1 | 2),
-        Listing::Names => kind == 3,
-    }
-}
-
-// The place after the item at a place, where the list may have that item.
-pub fn pass(list: &[u8], which: Listing, at: usize) -> Option<usize>
-    requires { at < length list.now }
-    ensures { result ≡ pass_at (test_of which) list.now at }
-{
-    match item_at(list, at) {
-        Step::Whole(kind, start, end) => allowed(which, kind, &list[start..end]).then_some(end),
-        Step::Passes | Step::End => None,
+        Listing::Names => kind == NAME,
+        Listing::Any => true,
     }
 }
 
@@ -132,13 +104,9 @@ pub fn pass(list: &[u8], which: Listing, at: usize) -> Option<usize>
 fn walk(list: &[u8], which: Listing) -> Result<usize, usize>
     ensures { result ≡ check_of (read_from (test_of which) list.now 0) }
 {
-    let mut at: usize = 0;
     let mut n: usize = 0;
-    while at < list.len() {
-        let Some(end) = pass(list, which, at) else {
-            return Err(at);
-        };
-        at = end;
+    for entry in (Walk { list, which, at: 0 }) {
+        entry?;
         n += 1;
     }
     Ok(n)
@@ -146,40 +114,19 @@ fn walk(list: &[u8], which: Listing) -> Result<usize, usize>
 
 // Checks a list: the number of its items, or as the error the offset at which it is ill-formed. A list over 16,777,216
 // bytes is ill-formed at 0.
+// Stays: the error is the offset itself. Each caller puts it into an error of its own, which says of which list it is.
 pub fn check(list: &[u8], which: Listing) -> Result<usize, usize>
     ensures { result ≡ check_of (read_items (test_of which) list.now) }
 {
-    if 16777216 < list.len() {
+    if MOST < list.len() {
         return Err(0);
     }
     walk(list, which)
 }
 
-// The span of which the item stands at a place and ends at another.
-pub(crate) fn span_to(list: &[u8], at: usize, end: usize) -> SpanPart<'_>
-    requires long { at + 14 ≤ end }
-    requires end_in_bounds { end ≤ length list.now }
-    ensures { SpanTo list.now at end result }
-{
-    SpanPart {
-        direction: Direction::of_kind(get_le16(list, at + 4)),
-        ms: get_le64(list, at + 6),
-        wire: &list[at + 14..end],
-        end,
-    }
-}
-
-// The span at a place of a list that is not checked: none where the list is ill-formed there.
-pub fn next_span(list: &[u8], at: usize) -> Option<SpanPart<'_>>
-    requires { at < length list.now }
-    ensures { NextIs list.now at result }
-{
-    let end = pass(list, Listing::Spans, at)?;
-    Some(span_to(list, at, end))
-}
-
 // ---- writing: each returns the place after what it wrote
 
+// Stays: output and place side by side, as in every function that writes here; a struct of them would hold the output as &mut.
 // What stands before the body of an item.
 pub fn put_head(out: &mut [u8], at: usize, kind: u16, size: usize) -> usize
     requires { at + 6 ≤ length out.old }

@@ -1,6 +1,6 @@
 -- A PDU is complete: its bytes joined, if they have to be, and its row.
 use mathlib.Core.Path.{◌≡◌, refl, sym, ap, ◌∙◌}
-use mathlib.Core.Bool.{true, false, cond}
+use mathlib.Core.Bool.{Bool, true, false, cond}
 use mathlib.Core.List.{List, [], ◌∷◌, ◌++◌, append_assoc}
 use mathlib.Core.Logic.{inl, inr}
 use Prim.Native.Nat.{ℕ, suc, ◌+◌, ◌-◌, ◌*◌, ◌/◌, ◌%◌, ◌<◌, ◌≤◌}
@@ -172,12 +172,12 @@ module _ (f w : List ℕ) (q : ℕ) (t : Tables) (i first need : ℕ) (pre : Fin
       (length-take-le (word w (6 * i + 3)) (drop (word w (6 * i + 2)) f) (simp length-drop (omega (arith, pre.walk.tabled.fits.fits i (omega arith)))))
 
   module _ (key c time : ℕ) (ke : key ≡ word w (6 * i)) (ce : c ≡ le16 (begun f w first (i + 1)) 2) (cs : c < 65536) (te : time ≡ long w (6 * i + 4)) where
-    pub finish_file :
+    row_file :
         (s : ℕ) → first ≡ i → s ≡ word w (6 * i + 2) → (u : List ℕ) →
         u ≡ put_pdu w (2 * q + 7 * t.made) (record { key = key; cid = c; joined = false; start = s + 4; len = need - 4; time = time }) →
         Finished f w q t i first need u t.top
     unfolding packet_at pdu_of
-    finish_file s fe se u e =
+    row_file s fe se u e =
         let B : List ℕ = begun f w first (i + 1) in
         let p : Row = record { key = key; cid = c; joined = false; start = s + 4; len = need - 4; time = time } in
         let l3 : length B ≡ word w (6 * i + 3) = single_length fe in
@@ -201,14 +201,20 @@ module _ (f w : List ℕ) (q : ℕ) (t : Tables) (i first need : ℕ) (pre : Fin
           size = rw e (row_length w (2 * q + 7 * t.made) p);
         }
 
+    pub finish_file :
+        (s : ℕ) → first ≡ i → s ≡ word w (6 * i + 2) → (x : Bool × ℕ × ℕ) → x ≡ (false, s, t.top) → (v u : List ℕ) → v ≡ w →
+        u ≡ put_pdu v (2 * q + 7 * t.made) (record { key = key; cid = c; joined = x.0; start = x.1 + 4; len = need - 4; time = time }) →
+        Finished f w q t i first need u x.2
+    finish_file s fe se x xe v u ve e = rw xe (row_file s fe se u (rw (xe, ve) at e))
+
     -- ---- several: the bytes are joined at the end of those joined, with their header
 
-    pub finish_work :
+    row_work :
         (r : ℕ) (v : List ℕ) → Writes w t.top (take need (begun f w first (i + 1))) r v → (u : List ℕ) →
         u ≡ put_pdu v (2 * q + 7 * t.made) (record { key = key; cid = c; joined = true; start = t.top + 4; len = need - 4; time = time }) →
         Finished f w q t i first need u r
     unfolding packet_at pdu_of
-    finish_work r v g u e =
+    row_work r v g u e =
         let B : List ℕ = begun f w first (i + 1) in
         let p : Row = record { key = key; cid = c; joined = true; start = t.top + 4; len = need - 4; time = time } in
         let at : ℕ = 2 * q + 7 * t.made in
@@ -237,3 +243,9 @@ module _ (f w : List ℕ) (q : ℕ) (t : Tables) (i first need : ℕ) (pre : Fin
           most = omega arith;
           size = (rw e (row_length v at p)) ∙ lv;
         }
+
+    pub finish_work :
+        (r : ℕ) (x : Bool × ℕ × ℕ) → x ≡ (true, t.top, r) → (v m u : List ℕ) → v ≡ m → Writes w t.top (take need (begun f w first (i + 1))) r m →
+        u ≡ put_pdu v (2 * q + 7 * t.made) (record { key = key; cid = c; joined = x.0; start = x.1 + 4; len = need - 4; time = time }) →
+        Finished f w q t i first need u x.2
+    finish_work r x xe v m u ve g e = rw xe (row_work r m g u (rw (xe, ve) at e))

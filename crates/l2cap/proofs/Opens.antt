@@ -1,5 +1,5 @@
 -- What is open: the row of a key, and what a fragment makes of it.
-use Rattle.std.specs.Prelude.{Option, Some, None}
+use Rattle.std.specs.Prelude.{Option, Some, None, SomeIff}
 use mathlib.Core.Path.{◌≡◌, refl, sym, ap, ◌∙◌}
 use mathlib.Core.Bool.{Bool, true, false, cond}
 use Prim.Native.Nat.{ℕ, zero, suc, ◌+◌, ◌-◌, ◌*◌, ◌<◌, ◌≤◌}
@@ -7,7 +7,7 @@ use mathlib.Core.List.{List}
 use native.Mathlib.Omega.{arith}
 use lib.ListN.{length}
 use lib.Dec.{eqb}
-use borrow.Author.Tests.{eq-eqb, ne_eqb}
+use Rattle.laws.proofs.Choice.{split≡}
 use Rattle.words.specs.Words.{word, long, put_word}
 use Rattle.words.proofs.Words.{length_put, word_put_same, word_put_other}
 use Rattle.words.specs.Front.{Front}
@@ -16,7 +16,7 @@ use Rattle.table.specs.Table.{Slot, none as no_row, some as row, find_in, lookup
 use Rattle.table.proofs.Table.{lookup_found, find_below, long_agree, store_old}
 use Rattle.tree.proofs.Index.{find_agree}
 use Rattle.fragments.specs.Links.{first_of}
-use Rattle.l2cap.specs.Steps.{open_from, as_open, open_at, open_in, longer, grown, next_at, next_by, Arrive, put_open}
+use Rattle.l2cap.specs.Steps.{open_from, as_open, open_at, open_in, longer, grown, next_at, next_by, Arrive, first_word, got_word, SetOpen, put_open}
 use Rattle.l2cap.specs.declared.Open.{Open}
 
 pub never : {G : Type 0} {a g : ℕ} → None ≡ open_from a g → G
@@ -57,34 +57,52 @@ as_blank no_row e = refl
 as_blank (row zero g) e = refl
 as_blank (row (suc a) g) e = absurd (omega (arith, e))
 
-module _ (w : List ℕ) (at a z : ℕ) (ae : a ≡ word w (at + 2)) (ze : z ≡ a) where
-  pub look_zero : z ≡ 0 → None ≡ open_in w at
+module _ (w : List ℕ) (at a : ℕ) (ae : a ≡ word w (at + 2)) where
+  pub look_none : (r : Option ℕ) → SomeIff r (1 ≤ a) (a - 1) → r ≡ None → None ≡ open_in w at
   unfolding open_in
-  look_zero o = sym (as_zero (word w (at + 2)) (word w (at + 3)) (sym ae ∙ sym ze ∙ o))
+  look_none None h e = sym (as_zero (word w (at + 2)) (word w (at + 3)) (sym ae ∙ split≡ a 0 (λ z. z) (λ z. absurd (h (omega arith)))))
+  look_none (Some j) h e = let z : ◌≡◌ {A = ℕ} 0 1 = cc in absurd (omega arith)
 
-  pub look_from : (z ≡ 0 → ⊥) → (g h : ℕ) → g ≡ word w (at + 3) → h ≡ g → open_from (z - 1) h ≡ open_in w at
+  pub look_some : (r : Option ℕ) → SomeIff r (1 ≤ a) (a - 1) → (j : ℕ) → r ≡ Some j → (g : ℕ) → g ≡ word w (at + 3) → open_from j g ≡ open_in w at
   unfolding open_in
-  look_from o g h ge he = sym (as_pos (word w (at + 2)) (word w (at + 3)) (λ t. o (ze ∙ ae ∙ t)) ∙ rw (ze, ae, he, ge))
+  look_some None h j e g ge = let z : ◌≡◌ {A = ℕ} 0 1 = cc in absurd (omega arith)
+  look_some (Some k) h j e g ge =
+      let kj : k ≡ j = cc in
+      let z : word w (at + 2) - 1 ≡ j = omega (arith, h.1, ae, kj) in
+      sym (as_pos (word w (at + 2)) (word w (at + 3)) (λ t. omega (arith, h.0, ae, t)) ∙ rw (z, ge))
 
-pub open_is : (w : List ℕ) (at y z : ℕ) (v u : List ℕ) → v ≡ put_word w (at + 2) y → u ≡ put_word v (at + 3) z → u ≡ put_open w at y z
+pub open_is : (w : List ℕ) (at y z a b : ℕ) → (y ≡ a) × (z ≡ b) → (v u : List ℕ) → v ≡ put_word w (at + 2) y → u ≡ put_word v (at + 3) z → u ≡ put_open w at a b
 unfolding put_open
-open_is w at y z v u ev eu = rw (eu, ev)
+open_is w at y z a b e v u ev eu = rw (eu, ev, e.0, e.1)
+
+-- the words that a row gets for what is open
+pub words_some : (o : Option Open) (p : Open) → o ≡ Some p → (x : ℕ × ℕ) → x ≡ (p.first + 1, p.got) → (x.0 ≡ first_word o) × (x.1 ≡ got_word o)
+unfolding first_word got_word
+words_some o p e x h = rw (e, h) (refl, refl)
+
+pub words_none : (o : Option Open) → o ≡ None → (x : ℕ × ℕ) → x ≡ (0, 0) → (x.0 ≡ first_word o) × (x.1 ≡ got_word o)
+unfolding first_word got_word
+words_none o e x h = rw (e, h) (refl, refl)
+
+pub opens_first : (w : List ℕ) (at : ℕ) (o : Option Open) → SetOpen w at o → (p : Open) → o ≡ Some p → p.first + 1 < 4294967296
+unfolding first_word
+opens_first w at o s p e = rw e at s.first
 
 -- ---- a fragment
 
-module _ (w : List ℕ) (at i start n : ℕ) (se : start ≡ word w (6 * i + 1)) (ne : n ≡ word w (6 * i + 3)) where
-  pub arrive_start : start ≡ 1 → open_from i n ≡ next_by w at i
+module _ (w : List ℕ) (at i n : ℕ) (start : Bool) (se : start ≡ eqb (word w (6 * i + 1)) 1) (ne : n ≡ word w (6 * i + 3)) where
+  pub arrive_start : start ≡ true → open_from i n ≡ next_by w at i
   unfolding next_by grown
-  arrive_start h = rw (← se, eq-eqb start 1 h, ne)
+  arrive_start h = rw (← se, h, ne)
 
-  module _ (h : start ≡ 1 → ⊥) (o : Option Open) (oe : o ≡ open_in w at) where
+  module _ (h : start ≡ false) (o : Option Open) (oe : o ≡ open_in w at) where
     pub arrive_closed : o ≡ None → None ≡ next_by w at i
     unfolding next_by grown longer
-    arrive_closed e = rw (← se, ne_eqb start 1 h, ← oe, e)
+    arrive_closed e = rw (← se, h, ← oe, e)
 
     pub arrive_more : (a g : ℕ) → o ≡ open_from a g → open_from a (g + n) ≡ next_by w at i
     unfolding next_by grown longer
-    arrive_more a g e = rw (← se, ne_eqb start 1 h, ← oe, e, ne)
+    arrive_more a g e = rw (← se, h, ← oe, e, ne)
 
     pub arrive_small : Arrive w at i → (a g : ℕ) → o ≡ open_from a g → g + n < 18446744073709551616
     unfolding open_in second

@@ -28,7 +28,7 @@ use Rattle.l2cap.specs.PduTable.{pdus_from, pays_of}
 use Rattle.l2cap.specs.PduFrames.{Placed}
 use Rattle.l2cap.proofs.PduFrames.{placed_agree, pdus_agree, pays_agree}
 use Rattle.l2cap.specs.Rekeyed.{put_by}
-use Rattle.l2cap.specs.Steps.{open_from, Need, row_at, RowPre, as_open, open_at, open_in, longer, grown, next_at, next_by, Arrive, put_open, Finish, Finished, held_of, map_of, Sound, Step, after, Stepped}
+use Rattle.l2cap.specs.Steps.{open_from, Need, row_at, RowPre, as_open, open_at, open_in, longer, grown, next_at, next_by, Arrive, first_word, got_word, SetOpen, put_open, Finish, Finished, held_of, map_of, Sound, Step, after, Stepped}
 use Rattle.l2cap.specs.declared.Open.{Open}
 use Rattle.l2cap.specs.declared.Tables.{Tables}
 use Rattle.l2cap.proofs.Opens.{never, same_open, as_zero, as_pos, open_row, set_other, set_stored, set_finds, arrive_got, arrive_none}
@@ -227,8 +227,9 @@ module _ (f w : List ℕ) (q : ℕ) (t : Tables) (i : ℕ) (p : Step f w q t i) 
     pub at_room : 4 * at + 16 ≤ length w
     at_room = seat_room f w q t.live (i + 1) p.tabled p.ready.quarter p.ready.live p.seats i (omega arith) at ae
 
-    pub full_room : (first need : ℕ) (v : List ℕ) (top : ℕ) → Finished f w q t i first need v top → 4 * at + 16 ≤ length v
-    full_room first need v top fin = rw fin.size at_room
+    pub full_opens : (first need : ℕ) (v : List ℕ) (top : ℕ) → Finished f w q t i first need v top → SetOpen v at None
+    unfolding first_word got_word
+    full_opens first need v top fin = record { room = rw fin.size at_room; first = omega arith; got = omega arith }
 
     -- the bytes so far
     at_got : second (lookup w (3 * q) t.live (word w (6 * i))) ≡ word w (at + 3)
@@ -362,14 +363,13 @@ module _ (f w : List ℕ) (q : ℕ) (t : Tables) (i : ℕ) (p : Step f w q t i) 
         step_small : got + 4 * t.made + pays_of w (2 * q) t.made ≤ data_of w (i + 1)
         step_small = omega (arith, step_got, second_le w (3 * q) t.live (word w (6 * i)))
 
-        pub narrow_first : first + 1 < 4294967296
-        narrow_first = omega (arith, step_first.0, p.tabled.total, p.tabled.small)
-
-        pub first_fits : first + 1 < 18446744073709551616
-        first_fits = omega (arith, narrow_first)
-
-        pub narrow_got : got < 4294967296
-        narrow_got = omega (arith, step_small, p.tabled.total, p.tabled.small)
+        pub hold_opens : SetOpen w at (open_from first got)
+        unfolding first_word got_word
+        hold_opens = record {
+          room = at_room;
+          first = omega (arith, step_first.0, p.tabled.total, p.tabled.small);
+          got = omega (arith, step_small, p.tabled.total, p.tabled.small);
+        }
 
         pub step_finish : (need : ℕ) → Need (begun f w first (i + 1)) got need → need ≤ got → Finish f w q t i first need
         step_finish need ni le = record {
@@ -386,15 +386,15 @@ module _ (f w : List ℕ) (q : ℕ) (t : Tables) (i : ℕ) (p : Step f w q t i) 
         -- the PDU is not complete
         pub step_hold :
             (need : ℕ) → Need (begun f w first (i + 1)) got need → got < need →
-            (x y : ℕ) → x ≡ first + 1 → y ≡ got → (u : List ℕ) → u ≡ put_open w at x y → Stepped f w q t i u t
-        unfolding held_of still_open completed is_complete
-        step_hold need ni lt x y xe ye u eu =
+            (u : List ℕ) → u ≡ put_open w at (first_word (open_from first got)) (got_word (open_from first got)) → Stepped f w q t i u t
+        unfolding held_of still_open completed is_complete first_word got_word
+        step_hold need ni lt u eu =
             let s = step_first in
             let B : List ℕ = since f w (word w (6 * i)) first (i + 1) in
             let g : got < 4 + le16 B 0 = (rw step_begun at (ni.short lt)) in
             let cmp : leb (4 + le16 B 0) (length B) ≡ false = lt-leb (4 + le16 B 0) (length B) (omega (arith, s.1)) in
-            let va : as_open (row x y) ≡ open_from first got = as_pos x y (λ z. omega arith) ∙ (let z : x - 1 ≡ first = omega arith in rw (z, ye)) in
-            step_set w t.made t.top (open_from first got) x y (record {
+            let va : as_open (row (first + 1) got) ≡ open_from first got = as_pos (first + 1) got (λ z. omega arith) ∙ (let z : first + 1 - 1 ≡ first = omega arith in rw z) in
+            step_set w t.made t.top (open_from first got) (first + 1) got (record {
               front = front_refl (4 * q) w;
               rows = λ j lo hi. refl;
               size = refl;
@@ -415,8 +415,8 @@ module _ (f w : List ℕ) (q : ℕ) (t : Tables) (i : ℕ) (p : Step f w q t i) 
         pub step_full :
             (need : ℕ) → Need (begun f w first (i + 1)) got need → need ≤ got →
             (v : List ℕ) (top : ℕ) → Finished f w q t i first need v top →
-            (u : List ℕ) → u ≡ put_open v at 0 0 → Stepped f w q t i u (record { live = t.live; made = t.made + 1; top = top })
-        unfolding held_of still_open completed is_complete
+            (u : List ℕ) → u ≡ put_open v at (first_word None) (got_word None) → Stepped f w q t i u (record { live = t.live; made = t.made + 1; top = top })
+        unfolding held_of still_open completed is_complete first_word got_word
         step_full need ni le v top fin u eu =
             let s = step_first in
             let B : List ℕ = since f w (word w (6 * i)) first (i + 1) in

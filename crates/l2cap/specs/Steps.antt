@@ -70,6 +70,20 @@ pub record Arrive (w : List ℕ) (at i : ℕ) : Type 0 where
   pub room : 4 * at + 16 ≤ length w
   pub sums : word w (at + 3) + word w (6 * i + 3) ≤ 67108864
 
+-- the two words that a row has for what is open
+unfoldable pub first_word : Maybe Open → ℕ
+first_word None = 0
+first_word (Some pdu) = pdu.first + 1
+
+unfoldable pub got_word : Maybe Open → ℕ
+got_word None = 0
+got_word (Some pdu) = pdu.got
+
+pub record SetOpen (w : List ℕ) (at : ℕ) (o : Maybe Open) : Type 0 where
+  pub room : 4 * at + 16 ≤ length w
+  pub first : first_word o < 4294967296
+  pub got : got_word o < 4294967296
+
 unfoldable pub put_open : List ℕ → ℕ → ℕ → ℕ → List ℕ
 put_open w at y z = put_word (put_word w (at + 2) y) (at + 3) z
 
@@ -116,6 +130,10 @@ pub record Finished (f w : List ℕ) (q : ℕ) (t : Tables) (i first need : ℕ)
   pub size : length u ≡ length w
 
 -- ---- a step
+
+-- before the first: n rows of open PDUs, none made
+abbrev pub begun_tables : ℕ → ℕ → Tables
+begun_tables q n = record { live = n; made = 0; top = 4 * q }
 
 -- the state of a key's machine, with the packets before upto read
 unfoldable pub held_of : List ℕ → List ℕ → ℕ → ℕ → Maybe Open → Option (List ℕ)

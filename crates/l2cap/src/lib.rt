@@ -10,9 +10,9 @@ ghost use Rattle.l2cap.specs.Pdus.{pdus};
 ghost use Rattle.l2cap.specs.PduTable.{pdu_at, Reassembled};
 ghost use Rattle.l2cap.specs.PduFrames.{Lent};
 ghost use Rattle.l2cap.specs.Reading.{PduIs};
-ghost use Rattle.l2cap.specs.Steps.{Need, row_at, RowPre, open_in, next_by, Arrive, put_open, put_pdu, PutPdu, Join, Finish, Finished, Step, Stepped, Run, Ran};
+ghost use Rattle.l2cap.specs.Steps.{Need, row_at, RowPre, open_in, next_by, Arrive, first_word, got_word, SetOpen, put_open, put_pdu, PutPdu, Join, Finish, Finished, begun_tables, Step, Stepped, Run, Ran};
 
-use fragments::{Begun, len_of, link_packets, place_of};
+use fragments::{Begun, len_of, link_packets, place_of, starts};
 use words::{get32, get64, part, put32, put64};
 
 // A PDU that is open under a key: the packet that began it, and its bytes so far.
@@ -23,6 +23,7 @@ pub struct Open {
 }
 
 // The rows of open PDUs, the PDUs made, and the end of the joined payloads.
+// Stays: live, though no code reads it: it is the number of rows of which each contract speaks, and a ghost field holds a fact, not a number.
 #[derive(Clone, Copy)]
 pub struct Tables {
     pub live: usize,
@@ -30,7 +31,23 @@ pub struct Tables {
     pub top: usize,
 }
 
+impl Tables {
+    // Before the first packet, with q a quarter of the file's length: joined payloads will stand from word q of work.
+    pub fn begun(q: usize, rows: usize) -> Tables
+        requires { q ≤ 1048576 }
+        ensures { result ≡ begun_tables q rows }
+    {
+        Tables {
+            live: rows,
+            made: 0,
+            top: 4 * q,
+        }
+    }
+}
+
 // A PDU's row: 2 * link + direction, its CID, and where its payload starts, in the file or in work where it is joined.
+// Stays: `joined` beside `start`, here and in `Pdu`. Work has them in two words, and an enum of the two places would be matched only to be made
+// the same two again, in `put_pdu` and where a piece is placed.
 #[derive(Clone, Copy)]
 struct Row {
     key: u32,
@@ -60,28 +77,28 @@ pub fn row_of(w: &[u8], q: usize, i: usize) -> usize
 }
 
 // What is open, if anything is, by the row at word at.
+// Stays: that the row is all there is asked here, by `arrive` and by `set_open`. A view of work with the row's place would hold it for two of them;
+// `set_open` writes work, and would ask it all the same.
 pub fn look(w: &[u8], at: usize) -> Option<Open>
     requires { 4 * at + 16 ≤ length w.now }
     ensures { result ≡ open_in w.now at }
 {
-    let next = get32(w, at + 2) as usize;
+    let first = (get32(w, at + 2) as usize).checked_sub(1)?;
     let got = get32(w, at + 3) as usize;
-    if next == 0 {
-        return None;
-    }
-    Some(Open {
-        first: next - 1,
-        got,
-    })
+    Some(Open { first, got })
 }
 
-// Sets what is open.
-fn set_open(w: &mut [u8], at: usize, a: u32, b: u32)
-    requires { 4 * at + 16 ≤ length w.old }
-    ensures { w.new ≡ put_open w.old at a b }
+// Sets what is open, by the row at word at.
+fn set_open(w: &mut [u8], at: usize, pdu: Option<Open>)
+    requires { SetOpen w.old at pdu }
+    ensures { w.new ≡ put_open w.old at (first_word pdu) (got_word pdu) }
 {
-    put32(w, at + 2, a);
-    put32(w, at + 3, b);
+    let (first, got) = match pdu {
+        Some(p) => (p.first + 1, p.got),
+        None => (0, 0),
+    };
+    put32(w, at + 2, first as u32);
+    put32(w, at + 3, got as u32);
 }
 
 // What is open under packet i's key once it is read, by the row at word at.
@@ -89,9 +106,8 @@ fn arrive(w: &[u8], at: usize, i: usize) -> Option<Open>
     requires { Arrive w.now at i }
     ensures { result ≡ next_by w.now at i }
 {
-    let start = get32(w, 6 * i + 1);
     let n = len_of(w, i);
-    if start == 1 {
+    if starts(w, i) {
         return Some(Open { first: i, got: n });
     }
     let Open { first, got } = look(w, at)?;
@@ -116,7 +132,8 @@ fn put_pdu(w: &mut [u8], at: usize, p: Row)
 
 // Joins need bytes of what packet first has begun, with the packets before upto, at the start of rest: what of work is behind the
 // packets' rows and the payloads joined so far. The packets' links end it.
-// Stays: work in two parts, since of work that one function splits twice no more than the length is known at its end.
+// Stays: rows and rest apart, and no Begun from the caller: the area in rest is written while the links behind it are read, so rest is
+// split here; with both splits in finish (tried) only the length of work is known behind them.
 fn join(file: &[u8], rows: &[u8], rest: &mut [u8], first: usize, upto: usize, need: usize) -> usize
     requires { Join file.now rows.now rest.old (length file.now / 4) first upto need }
     ensures { Writes rest.old 0 (take need (begun file.now rows.now first upto)) result rest.new }
@@ -144,31 +161,23 @@ fn finish(file: &[u8], w: &mut [u8], t: Tables, i: usize, first: usize, need: us
     let key = get32(w, 6 * i);
     let cid = u32::from(Begun::in_work(file, w, first, i + 1).half(2));
     let time = get64(w, 6 * i + 4);
-    if first == i {
-        let s = place_of(w, i);
-        let p = Row {
-            key,
-            cid,
-            joined: false,
-            start: s + 4,
-            len: need - 4,
-            time,
-        };
-        put_pdu(w, at, p);
-        return t.top;
-    }
-    let (rows, rest) = w.split_at_mut(t.top);
-    let n = join(file, rows, rest, first, i + 1, need);
+    let (joined, start, end) = if first == i {
+        (false, place_of(w, i), t.top)
+    } else {
+        let (rows, rest) = w.split_at_mut(t.top);
+        let n = join(file, rows, rest, first, i + 1, need);
+        (true, t.top, t.top + n)
+    };
     let p = Row {
         key,
         cid,
-        joined: true,
-        start: t.top + 4,
+        joined,
+        start: start + 4,
         len: need - 4,
         time,
     };
     put_pdu(w, at, p);
-    t.top + n
+    end
 }
 
 // One packet: with q a quarter of the file's length, PDUs stand from word 2 * q of work, open PDUs from word 3 * q.
@@ -177,20 +186,20 @@ fn step(file: &[u8], w: &mut [u8], t: Tables, i: usize) -> Tables
     ensures { Stepped file.now w.old (length file.now / 4) t i w.new result }
 {
     let at = row_of(w, file.len() / 4, i);
-    let Some(Open { first, got }) = arrive(w, at, i) else {
+    let Some(pdu) = arrive(w, at, i) else {
         return t;
     };
-    let need = needed(Begun::in_work(file, w, first, i + 1), got);
-    if need <= got {
-        let end = finish(file, w, t, i, first, need);
-        set_open(w, at, 0, 0);
+    let need = needed(Begun::in_work(file, w, pdu.first, i + 1), pdu.got);
+    if need <= pdu.got {
+        let end = finish(file, w, t, i, pdu.first, need);
+        set_open(w, at, None);
         return Tables {
-            live: t.live,
             made: t.made + 1,
             top: end,
+            ..t
         };
     }
-    set_open(w, at, (first + 1) as u32, got as u32);
+    set_open(w, at, Some(pdu));
     t
 }
 
@@ -213,12 +222,7 @@ pub fn reassemble(file: &[u8], w: &mut [u8], count: usize) -> Tables
 {
     let q = file.len() / 4;
     let rows = link_packets(w, q, count);
-    let t = Tables {
-        live: rows,
-        made: 0,
-        top: 4 * q,
-    };
-    run(file, w, t, 0, count)
+    run(file, w, Tables::begun(q, rows), 0, count)
 }
 
 // A PDU as its row has it: 2 * link + direction, its CID, and its payload, which starts at a place in the file, or in work where it is joined.
@@ -232,7 +236,7 @@ pub struct Pdu<'a> {
 }
 
 // The payload of the PDU whose row is at word at: a part of the file, or of work if it was joined.
-fn payload<'a>(file: &'a [u8], w: &'a [u8], at: usize) -> &'a [u8]
+pub fn payload<'a>(file: &'a [u8], w: &'a [u8], at: usize) -> &'a [u8]
     requires { Lent file.now w.now at }
     ensures { result.now ≡ (pdu_at file.now w.now at).payload }
 {

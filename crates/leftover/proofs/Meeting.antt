@@ -2,12 +2,11 @@
 use Rattle.std.specs.Prelude.{Option as Maybe, Some, None}
 use Prim.Native.Nat.{ℕ, ◌+◌, ◌/◌, ◌<◌, ◌≤◌}
 use mathlib.Core.Path.{◌≡◌, refl, sym, ap, ◌∙◌}
-use mathlib.Core.Bool.{Bool, true, false, cond}
+use mathlib.Core.Bool.{Bool, false, cond}
 use mathlib.Core.List.{List, [], ◌∷◌, ◌++◌, map, append_assoc, append-nil, map-append}
 use mathlib.Core.Option.{Option, none, some}
 use native.Mathlib.Omega.{arith}
 use lib.ListN.{length, length-append}
-use lib.Dec.{eqb}
 use Rattle.laws.proofs.Choice.{split_b, no_way}
 use Rattle.laws.specs.Keyed.{keep}
 use Rattle.laws.proofs.Keyed.{keep_append}
@@ -29,49 +28,13 @@ use Rattle.signs.specs.Recorded.{is_none}
 use Rattle.signs.specs.Counting.{Counted, noted}
 use Rattle.signs.specs.Following.{Followed, begun_place, open_place, place_at}
 use Rattle.signs.specs.declared.Gap.{Gap}
-use Rattle.signs.proofs.Counting.{counted_none, counted_one}
+use Rattle.signs.proofs.Counting.{no_sign, default_none, counted_none, counted_one}
 use Rattle.signs.proofs.Places.{rest_at, rest_turn, packets_start, rest_none}
 use Rattle.signs.proofs.PlaceOrder.{place_here, places_many, table_has, places_tell}
 use Rattle.leftover.specs.Meeting.{began_by, counted_at, met_at, CountPre, MeetPre}
 use Rattle.leftover.specs.declared.Met.{Met}
 
--- ---- what the code returns
-
-module _ (w : List ℕ) (q i row : ℕ) (h : row ≡ row_at w q i) (o : Maybe Open) (e : o ≡ open_in w row) where
-  pub began_none : o ≡ None → false ≡ began_by (open_in w (row_at w q i)) i
-  unfolding began_by
-  began_none t = rw (← h, ← e, t)
-
-  pub began_from : (pdu : Open) → o ≡ Some pdu → eqb pdu.first i ≡ began_by (open_in w (row_at w q i)) i
-  unfolding began_by
-  began_from pdu t = rw (← h, ← e, t)
-
-pub counts_one : (w : List ℕ) (q i : ℕ) (g : Gap) (at : ℕ) (b : Bool) → b ≡ began_by (open_in w (row_at w q i)) i → b ≡ true → (r : Gap) → r ≡ noted g 1 at → r ≡ counted_at w q i g at
-unfolding counted_at
-counts_one w q i g at b e t r n = rw (← e, t) n
-
-pub counts_none : (w : List ℕ) (q i : ℕ) (g : Gap) (at : ℕ) (b : Bool) → b ≡ began_by (open_in w (row_at w q i)) i → b ≡ false → g ≡ counted_at w q i g at
-unfolding counted_at
-counts_none w q i g at b e t = rw (← e, t)
-
-module _ (r : Record) (w : List ℕ) (q : ℕ) (m : Met) (b : Bool) (e : b ≡ is_none (packet_by r.trace.format (bytes_of r))) where
-  pub meets_none : b ≡ true → record { packets = m.packets; left = m.left } ≡ met_at w q r.at m (is_none (packet_by r.trace.format (bytes_of r)))
-  unfolding met_at
-  meets_none t = rw (← e, t)
-
-  pub meets_one :
-      b ≡ false → (l : Gap) → l ≡ counted_at w q m.packets m.left r.at →
-      record { packets = m.packets + 1; left = l } ≡ met_at w q r.at m (is_none (packet_by r.trace.format (bytes_of r)))
-  unfolding met_at
-  meets_one t l n = rw (← e, t, n)
-
-  pub meets_count : MeetPre r w q m → b ≡ false → CountPre w q m.packets m.left
-  meets_count p t = p.count (sym e ∙ t)
-
 -- ---- a packet is told by the row of its key
-
-not_some : {G : Type 0} {n : ℕ} → ◌≡◌ {A = Option ℕ} none (some n) → G
-not_some e = let z : ◌≡◌ {A = ℕ} 0 1 = cc in absurd (omega arith)
 
 module _ (g : Format) (f w : List ℕ) (count : ℕ) (d : Followed g f w count) (before : List (Placed Packet)) (a : Placed Packet) (rest : List (Placed Packet)) (e : before ++ (a ∷ rest) ≡ packets_at g f) where
   number_less : length before < count
@@ -90,8 +53,8 @@ module _ (g : Format) (f w : List ℕ) (count : ℕ) (d : Followed g f w count) 
             (o : Maybe Open) (b : Begun) → ((x n : ℕ) → o ≡ open_from x n → x < count) →
             open_place (packets_at g f) o ≡ begun_place b → began_by o (length before) ≡ began_at b a.at
         go None none k q = refl
-        go None (some b) k q = not_some q
-        go (Some pdu) none k q = not_some (sym q)
+        go None (some b) k q = no_way refl cc
+        go (Some pdu) none k q = no_way refl cc
         go (Some pdu) (some b) k q =
             let many : length (packets_at g f) ≡ count = places_many g f w count d.list in
             let p : place_at (packets_at g f) pdu.first ≡ b.at = cc in
@@ -112,9 +75,12 @@ pub record Leaving (t : Trace) (q : Reader) (m : Met) : Type 0 where
   pub few : m.left.many ≤ m.packets
   pub counted : Counted (left_of (packets_at t.format t.file.now) before) m.left
 
-pub leaving_start : (t : Trace) (q : Reader) → Starts t q → Leaving t q (record { packets = 0; left = record { many = 0; first = 0 } })
+leaving_from : (t : Trace) (q : Reader) → Starts t q → (n : ℕ) (g : Gap) → n ≡ 0 → g ≡ no_sign → Leaving t q (record { packets = n; left = g })
 unfolding left_of keep
-leaving_start t q h = record { trace = h.trace; before = []; all = rw h.at (packets_start t.format t.file.now); number = refl; few = omega arith; counted = counted_none }
+leaving_from t q h n g en eg = rw (en, eg) (record { trace = h.trace; before = []; all = rw h.at (packets_start t.format t.file.now); number = refl; few = omega arith; counted = counted_none })
+
+pub leaving_start : (t : Trace) (q : Reader) → Starts t q → (m : Met) → m.packets ≡ 0 → (m.left.many ≡ 0) × (m.left.first ≡ 0) → Leaving t q m
+leaving_start t q h m en eg = leaving_from t q h m.packets m.left en (default_none m.left eg)
 
 -- ---- one packet more
 

@@ -17,24 +17,24 @@ use signs::{Gap, lacks_packet, note};
 use trace::{Record, Trace};
 
 // The packets met so far, and those of them that began what is open at the end.
-#[derive(Clone, Copy)]
+#[derive(Clone, Copy, Default)]
 struct Met {
     packets: usize,
     left: Gap,
 }
 
 // Whether packet i began what is open under its key at the end.
+// Stays: w and q side by side, here and below. They go together to `row_of`, and a struct of both would be made once to be taken apart here.
+#[tactic(auto, unfolding(crate::specs::Meeting::began_by))]
 fn began(w: &[u8], q: usize, i: usize) -> bool
     requires { BeganPre w.now q i }
     ensures { result ≡ began_by (open_in w.now (row_at w.now q i)) i }
 {
-    match look(w, row_of(w, q, i)) {
-        Some(open) => open.first == i,
-        None => false,
-    }
+    matches!(look(w, row_of(w, q, i)), Some(open) if open.first == i)
 }
 
 // Packet i, in the record at a place: it counts if it began what is open at the end.
+#[tactic(auto, unfolding(crate::specs::Meeting::counted_at))]
 fn count_packet(w: &[u8], q: usize, i: usize, g: Gap, at: usize) -> Gap
     requires { CountPre w.now q i g }
     ensures { result ≡ counted_at w.now q i g at }
@@ -46,6 +46,7 @@ fn count_packet(w: &[u8], q: usize, i: usize, g: Gap, at: usize) -> Gap
 }
 
 // A record. Only a packet takes the next number.
+#[tactic(auto, unfolding(crate::specs::Meeting::met_at))]
 fn meet(r: Record, w: &[u8], q: usize, m: Met) -> Met
     requires { MeetPre r w.now q m }
     ensures { result ≡ met_at w.now q r.entry.at m (is_none (packet_by r.entry.trace.format (bytes_of r.entry))) }
@@ -65,10 +66,7 @@ pub fn left_open(trace: Trace, w: &[u8]) -> Gap
     ensures { Counted (left_open (packets_at trace.entry.format trace.entry.file.now)) result }
 {
     let q = trace.file.len() / 4;
-    let mut m = Met {
-        packets: 0,
-        left: Gap { many: 0, first: 0 },
-    };
+    let mut m = Met::default();
     for r in trace.records() {
         m = meet(r, w, q, m);
     }

@@ -2,7 +2,7 @@
 use Rattle.std.specs.Prelude.{Some, None}
 use denote.Bor.{Bor}
 use mathlib.Core.Path.{◌≡◌, refl, sym, ap, ◌∙◌}
-use mathlib.Core.Bool.{Bool, true, false, cond}
+use mathlib.Core.Bool.{Bool, true, false, cond, ◌||◌}
 use mathlib.Core.List.{List, [], ◌∷◌, ◌++◌}
 use Prim.Native.Nat.{ℕ, zero, suc, ◌+◌, ◌*◌, ◌/◌, ◌%◌, ◌<◌, ◌≤◌}
 use native.Mathlib.Omega.{arith}
@@ -10,7 +10,7 @@ use native.Mathlib.Numerals.{add-one}
 use lib.Dec.{eqb}
 use lib.ListN.{length, get_or, take, drop, get_or-append, drop_of_length-le}
 use lib.Seq.{drop-cons, get_or-take, length-take-le, drop-append_seam}
-use borrow.Author.Tests.{eq-eqb, ne_eqb, eqb-true}
+use borrow.Author.Tests.{eq-eqb, eqb-true}
 use Rattle.laws.proofs.Choice.{split_b, split≡, no_way}
 use Rattle.laws.proofs.Keys.{eq_k_true, eq_eq_k, ne_eq_k}
 use Rattle.laws.specs.Keys.{eq_k}
@@ -154,37 +154,36 @@ pub pairing_start : (w : ℕ) → Pairing w false 0
 unfolding is_pair
 pairing_start w = record { within = omega arith; same = refl }
 
-pub pair_reach : (ws : List ℕ) (i : ℕ) → ws ≡ all_pairs → i < 229 → i < length ws
-pair_reach ws i t h = rw t (omega (arith, pairs_count))
+pub pairs_there : (ps : List ℕ) → ps ≡ all_pairs → 229 ≡ length (take 229 ps)
+pairs_there ps t = rw t (sym commands_long)
 
-module _ (w : ℕ) (found : Bool) (i : ℕ) (p : Pairing w found i) (h : i < 229) (ws : List ℕ) (t : ws ≡ all_pairs) where
-  from_here : drop i (take 229 all_pairs) ≡ get_or ws i 0 ∷ drop (i + 1) (take 229 all_pairs)
-  from_here = rw (t, add-one i, drop-cons (take 229 all_pairs) i 0 (omega (arith, commands_long)), get_or-take 229 all_pairs i 0 h)
+module _ (w : ℕ) (found : Bool) (i : ℕ) (p : Pairing w found i) (ps ws : List ℕ) (t : ps ≡ all_pairs) (v : ws ≡ take 229 ps) where
+  same_pairs : ws ≡ take 229 all_pairs
+  same_pairs = rw t at v
 
-  pub pairing_found : get_or ws i 0 ≡ w → Pairing w true (i + 1)
+  pub pairing_turn : i < length ws → Pairing w (found || eqb (get_or ws i 0) w) (i + 1)
   unfolding is_in
-  pairing_found e = record {
-    within = omega arith;
-    same = sym (always found) ∙ rw (from_here, eq-eqb (get_or ws i 0) w e) at p.same;
-  }
+  pairing_turn h =
+      let g : i < length (take 229 all_pairs) = rw same_pairs at h in
+      let here : drop i (take 229 all_pairs) ≡ get_or ws i 0 ∷ drop (i + 1) (take 229 all_pairs) = rw (same_pairs, add-one i, drop-cons (take 229 all_pairs) i 0 g) in
+      record {
+        within = omega (arith, commands_long);
+        same = met found (eqb (get_or ws i 0) w) (is_in w (drop (i + 1) (take 229 all_pairs))) ∙ rw here at p.same;
+      }
     where
-      always : (f : Bool) → cond f true true ≡ true
-      always true = refl
-      always false = refl
+      met : (f b r : Bool) → cond (f || b) true r ≡ cond f true (cond b true r)
+      met true b r = refl
+      met false b r = refl
 
-  pub pairing_other : (get_or ws i 0 ≡ w → ⊥) → Pairing w found (i + 1)
+  pub pairing_end : length ws ≤ i → found ≡ is_pair w
   unfolding is_in
-  pairing_other e = record { within = omega arith; same = rw (from_here, ne_eqb (get_or ws i 0) w e) at p.same }
-
-pub pairing_end : (w : ℕ) (found : Bool) (i : ℕ) → Pairing w found i → 229 ≤ i → found ≡ is_pair w
-unfolding is_in
-pairing_end w found i p h =
-    sym (last found)
-    ∙ rw (drop_of_length-le (take 229 all_pairs) (let g : length (take 229 all_pairs) ≤ i = omega (arith, commands_long) in g)) at p.same
-  where
-    last : (f : Bool) → cond f true false ≡ f
-    last true = refl
-    last false = refl
+  pairing_end h =
+      sym (last found)
+      ∙ rw (drop_of_length-le (take 229 all_pairs) (let g : length (take 229 all_pairs) ≤ i = rw same_pairs at h in g)) at p.same
+    where
+      last : (f : Bool) → cond f true false ≡ f
+      last true = refl
+      last false = refl
 
 -- ---- a stem at a time
 

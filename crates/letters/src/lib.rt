@@ -10,13 +10,13 @@ ghost use Rattle.commands.specs.Run.{name_at};
 ghost use Rattle.letters.specs.Run.{NameLong, all_letters, all_starts, all_lens, all_pairs, PartIs, HalvesAre};
 ghost use Rattle.letters.specs.Search.{RestIs, EndingIs, is_pair, named_from};
 
-use commands::command_name;
+use commands::{Name, command_name};
 use mdr::Frame;
 use words::{copy_to, same};
 
 // ---- a name is a stem and an ending; stems and endings are parts of one run of letters, none of which stands twice
 
-// The endings, then the stems. _MDR, COMMON_, PLAY_ and DATA lie within others.
+// The endings, then the stems. _MDR, PLAY_ and DATA lie within other parts; COMMON_ runs from _COMMON into _MDR_NO2.
 static LETTERS: [u8; 596] = *b"\
     PROTOCOL_INFOCAPABILITY_INFODEVICE_INFOSUPPORT_FUNCTIONGET_CAPABILITYRET_CAPABILITYGET_STATUSRET_STATUS\
     SET_STATUSNTFY_STATUSGET_PARAMRET_PARAMSET_PARAMNTFY_PARAMNTNY_PARAMGET_EXT_PARAMRET_EXT_PARAMSET_EXT_PARAM\
@@ -34,8 +34,9 @@ static STARTS: [u16; 63] = [
 ];
 
 // How long each is.
-// Stays: parts share letters (PLAY_ lies in SAR_AUTO_PLAY_), so that the next start does not end one; apart, starts and lengths take 189
-// bytes, where an array of structs takes 252.
+// Stays: names in little fixed memory are what this crate is for: starts and lengths apart take 189 bytes, an array of structs 252. One number
+// for each part would take 126; docs/notes/05-less-memory-for-names.md keeps two lists, as the form is named there. Parts share letters (PLAY_
+// lies in SAR_AUTO_PLAY_), so that the next start does not end one.
 static LENS: [u8; 63] = *b"\
     \x0D\x0F\x0B\x10\x00\x0E\x0E\x0A\x0A\x0A\x0B\x09\x09\x09\x0A\x0A\x0D\x0D\x0D\x0E\x12\x12\x12\x13\
     \x0C\x0C\x11\x11\x0D\x0C\x07\x04\x03\x07\x08\x04\x0C\x0C\x08\x07\x06\x05\x04\x06\x06\x06\x04\x06\
@@ -67,8 +68,8 @@ static PAIRS: [u16; 246] = [
     0x3D20, 0x3D23, 0x3D21, 0x3D22, 0x3604, 0x3E04,
 ];
 
-// Stays: each of these gives a table the name that definitions have; read in place (tried in commands::name_of), a static stands in
-// each goal with all its numbers.
+// Stays: each of these gives a table the name that definitions have. Read in place (tried in commands::name_of), a static stands in the goals
+// with all its numbers: three bounds closed only with eight definitions opened, and those of the second start and of the answer did not close.
 fn all_letters() -> &'static [u8]
     ensures { result.now ≡ all_letters }
 {
@@ -111,34 +112,31 @@ struct Halves {
     ending: usize,
 }
 
-// The stem and the ending of the name with a number.
-fn halves_of(i: usize) -> Halves
-    requires { i < 246 }
-    ensures { HalvesAre i result }
+// The stem and the ending of a name.
+fn halves_of(n: Name) -> Halves
+    ensures { HalvesAre n.number result }
 {
-    let pair = all_pairs()[i] as usize;
+    let pair = all_pairs()[n.number] as usize;
     Halves {
         stem: pair / 256,
         ending: pair % 256,
     }
 }
 
-// How long the name with a number is.
-pub fn name_len(i: usize) -> usize
-    requires { i < 246 }
-    ensures { NameLong i result }
+// How long a name is.
+pub fn name_len(n: Name) -> usize
+    ensures { NameLong n.number result }
 {
-    let h = halves_of(i);
+    let h = halves_of(n);
     part(h.stem).len() + part(h.ending).len()
 }
 
-// Writes the name with a number at a place, its stem and then its ending, and returns the place after it.
-pub fn put_name(out: &mut [u8], at: usize, i: usize) -> usize
-    requires i_bound { i < 246 }
-    requires i_in_bounds { at + length (name_at i) ≤ length out.old }
-    ensures { Writes out.old at (name_at i) result out.new }
+// Writes a name at a place, its stem and then its ending, and returns the place after it.
+pub fn put_name(out: &mut [u8], at: usize, n: Name) -> usize
+    requires { at + length (name_at n.number) ≤ length out.old }
+    ensures { Writes out.old at (name_at n.number) result out.new }
 {
-    let h = halves_of(i);
+    let h = halves_of(n);
     let then = copy_to(part(h.stem), out, at);
     copy_to(part(h.ending), out, then)
 }
@@ -151,12 +149,13 @@ fn rest_after(p: usize, name: &[u8]) -> Option<&[u8]>
     name.strip_prefix(part(p))
 }
 
-// Whether the name with a number is this one.
-fn is_name(i: usize, name: &[u8]) -> bool
-    requires { i < 246 }
-    ensures { result ≡ eq_k (name_at i) name.now }
+// Whether a name is this one.
+// Stays: `is_some_and` (tried) is not proved: what its closure says of the rest would need a clause. `== Some(..)` compares by std's ==, which
+// is slower than `same` (words).
+fn is_name(n: Name, name: &[u8]) -> bool
+    ensures { result ≡ eq_k (name_at n.number) name.now }
 {
-    let h = halves_of(i);
+    let h = halves_of(n);
     match rest_after(h.stem, name) {
         Some(rest) => same(part(h.ending), rest),
         None => false,
@@ -164,7 +163,9 @@ fn is_name(i: usize, name: &[u8]) -> bool
 }
 
 // Whether the command of a frame has this name.
-// Stays: commands answers this and is_command_name too, from more bytes; one of the two crates serves the calls at a time.
+// Stays: the twin of commands' is_command. This crate is the table of names in less memory that is asked for beside commands, and nothing
+// calls it yet: the figures of its note (docs/notes/05-less-memory-for-names.md) are not taken, and the first name takes is_command_name 68
+// instructions in commands and 221 here, the last 2,146 and 924.
 pub fn is_command(f: Frame, name: &[u8]) -> bool
     ensures { result ≡ eq_k (command_name f) name.now }
 {
@@ -174,6 +175,7 @@ pub fn is_command(f: Frame, name: &[u8]) -> bool
 // ---- whether a table has a name
 
 // The number of the ending that these letters are.
+// Stays: `(0..36).find(..)` would want a closure with the clauses of `part` and `same`, which are as long as the loop; so in is_command_name.
 fn find_ending(rest: &[u8]) -> Option<usize>
     ensures { EndingIs rest.now result }
 {
@@ -191,17 +193,15 @@ fn is_pair(stem: usize, ending: usize) -> bool
     ensures { result ≡ is_pair (256 * stem + ending) }
 {
     let pair = (256 * stem + ending) as u16;
-    let pairs = all_pairs();
     let mut found = false;
-    for i in 0..229 {
-        if pairs[i] == pair {
-            found = true;
-        }
+    for &p in &all_pairs()[..229] {
+        found |= p == pair;
     }
     found
 }
 
 // Whether a command with this stem has this name.
+// Stays: with `rest_after(..).and_then(find_ending)` (tried) no search closed the proof of the two returns.
 fn is_named_from(stem: usize, name: &[u8]) -> bool
     requires { stem < 63 }
     ensures { result ≡ named_from stem name.now }

@@ -17,7 +17,8 @@ fn long_le(a: &[u8], b: &[u8]) -> bool
 
 // Whether a comes before b by bytes, or equals it. Most strings differ in their first 32 bytes, so these are compared first, by
 // eights: as numbers with the highest byte first.
-// Stays: by std's order alone, 10,000 comparisons of names without counters take 151 us, and so they take 79.
+// Stays: by std's order alone, 10,000 comparisons of names without counters take 151 us, and so they take 79. An order of 1,000 such names makes
+// some 9,000 in 283 us (PERFORMANCE): with 65 us more its row, at 0.78, would miss the 0.82 of the beginning.
 pub fn bytes_le(a: &[u8], b: &[u8]) -> bool
     ensures { result ≡ le_bytes a.now b.now }
 {

@@ -19,8 +19,8 @@ ghost use Rattle.told.specs.Numbers.{bit, way_of};
 ghost use Rattle.told.specs.RecordCalls.{RecordsCalls};
 
 use gaps::{gaps_told, gaps_with};
-use imports::{import_by, import_told};
-use places::{places_by, places_told};
+use imports::{import_by, import_told, two_options};
+use places::places_told;
 use told::{
     command_told, name_told, order_told, pack_told, plan_told, records_told, records_with,
     unpack_told,
@@ -170,10 +170,8 @@ pub fn lumbryth_import_stretches(
 ) -> u32
     ensures { StretchCalls Btsnoop file.now work.old stretches.old out.old (options_number channel tolerant) values.old result work.new stretches.new out.new values.new }
 {
-    let places = stretches.len();
-    let t = places_by(file, work, out, channel, tolerant, values, places);
-    stretches::fill(work, stretches, t.listed);
-    t.number
+    let options = two_options(channel, tolerant);
+    lumbryth_import_stretches_with(file, work, stretches, out, &options, values)
 }
 
 // The same by a list of options.

@@ -105,7 +105,8 @@ pub enum UnpackError {
 
 // What a look at a frame tells: its type byte, its sequence number, its payload's length, and the payload's first byte,
 // 0 if it has none.
-// Stays: 0 and no Option, since a name prints 00 there; size says whether there is a byte.
+// Stays: 0 and no Option. A look promises the payload's length beside its first byte (told_frame), so that size stays and says whether there
+// is a byte; an Option would say it once more, and a name prints 00 there. The type is its byte, which a name prints and by which its table is sought.
 #[derive(Clone, Copy, PartialEq, Eq, Debug)]
 pub struct Frame {
     pub kind: u8,

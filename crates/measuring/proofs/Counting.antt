@@ -1,7 +1,7 @@
 -- The walk that counts.
 use Prim.Native.Nat.{ℕ, ◌+◌, ◌-◌, ◌*◌, ◌<◌, ◌≤◌}
 use mathlib.Core.Path.{◌≡◌, refl, sym, ap, ◌∙◌, fun_ext}
-use mathlib.Core.Bool.{Bool, true, false, ◌||◌}
+use mathlib.Core.Bool.{Bool, true, ◌||◌}
 use mathlib.Core.List.{List, [], ◌∷◌, ◌++◌, append-nil, append_assoc, map}
 use native.Mathlib.Omega.{arith}
 use native.Mathlib.Numerals.{add-one}
@@ -271,9 +271,9 @@ pub record CountingTo (f w₀ : List ℕ) (p : Plan) (w : List ℕ) (i : ℕ) (s
   pub keys : keys_to w p i ++ map (λ x. x.key) (ahead f w p i) ≡ map (λ x. x.key) (all f w₀ p)
   pub told : AllTold f w p i
 
-pub counting_start : (f w : List ℕ) (p : Plan) → Laid f w p → CountingTo f w p w 0 (record { tally = record { count = 0; bytes = 0; frames = 0 }; unfinished = 0; taken = 0; cleared = 0; left = 0 })
+start_from_nothing : (f w : List ℕ) (p : Plan) → Laid f w p → CountingTo f w p w 0 (record { tally = record { count = 0; bytes = 0; frames = 0 }; unfinished = 0; taken = 0; cleared = 0; left = 0 })
 unfolding nothing spans held_to keys_to nub total held_in cleared
-counting_start f w p l =
+start_from_nothing f w p l =
     let z : p.n - 0 ≡ p.n = omega arith in
     record {
       within = omega arith;
@@ -290,6 +290,11 @@ counting_start f w p l =
       keys = rw z;
       told = record { at = λ i h. absurd (omega arith) };
     }
+
+pub counting_start :
+    (f w : List ℕ) (p : Plan) → Laid f w p → (c b m o t d l : ℕ) → c ≡ 0 → b ≡ 0 → m ≡ 0 → o ≡ 0 → t ≡ 0 → d ≡ 0 → l ≡ 0 →
+    CountingTo f w p w 0 (record { tally = record { count = c; bytes = b; frames = m }; unfinished = o; taken = t; cleared = d; left = l })
+counting_start f w p y c b m o t d l ec eb em eo et ed el = rw (ec, eb, em, eo, et, ed, el) (start_from_nothing f w p y)
 
 module _ (f w₀ : List ℕ) (p : Plan) (w : List ℕ) (i : ℕ) (s : Sums) (v : CountingTo f w₀ p w i s) where
   here : Lying f w p

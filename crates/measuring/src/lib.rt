@@ -8,8 +8,8 @@ ghost use Rattle.split.specs.Walks.{Row};
 ghost use Rattle.measuring.specs.Counting.{sign, Noted, OpenPre, AddPre, added, Known, CountPre, CountHeld, JoinHeld, Behind, Stepped, CountIs};
 
 use spans::{Scanned, Tally, count_part, first_end, scan};
-use split::{Pieces, Plan, join};
-use words::{get32, put32};
+use split::{Pieces, Plan, Table, join};
+use words::put32;
 
 // What is held of a rest of n bytes: over 65,536 it is cleared.
 fn capped(n: usize) -> u32
@@ -29,7 +29,7 @@ fn note(w: &mut [u8], p: Plan, i: usize, r: u32, e: u32)
 
 // What is counted: the spans, how many buffers are not empty, the bytes of the pieces taken in, those cleared over the limit, and
 // those left in buffers.
-#[derive(Clone, Copy)]
+#[derive(Clone, Copy, Default)]
 pub struct Sums {
     pub tally: Tally,
     pub unfinished: usize,
@@ -56,7 +56,8 @@ fn is_known(h: usize, t: Tally) -> bool
 }
 
 // Counts the spans that piece i brings behind the h bytes held, which are put before it if a 3C closes them.
-// Stays: file, w and p side by side. With w as a &mut in a struct (tried for note), a method promises too that the borrow and the plan are the same.
+// Stays: file, w and p side by side, here and below. With w as a &mut in a struct (tried for note), each method has to promise too that the borrow
+// and the plan stay: no plainer.
 fn count_joined(file: &[u8], w: &mut [u8], p: Plan, i: usize, h: usize, t: Tally) -> Scanned
     requires { JoinHeld file.now w.old p i h t }
     ensures { Behind file.now w.old p i h t w.new result }
@@ -75,9 +76,8 @@ fn count_joined(file: &[u8], w: &mut [u8], p: Plan, i: usize, h: usize, t: Tally
     let area = p.area;
     let end = area + n;
     let c = count_part(&w[area..end], t);
-    let sum = c.tally;
     Scanned {
-        tally: sum,
+        tally: c.tally,
         end: e,
         rest: c.rest,
     }
@@ -105,10 +105,8 @@ fn add_piece(s: Sums, t: Tally, m: usize, h: usize, n: usize, r: u32) -> Sums
     if h + n == 0 {
         return Sums {
             tally: t,
-            unfinished: s.unfinished,
             taken,
-            cleared: s.cleared,
-            left: s.left,
+            ..s
         };
     }
     let held = r as usize;
@@ -129,12 +127,10 @@ fn count_piece(file: &[u8], w: &mut [u8], p: Plan, i: usize, s: Sums) -> Sums
     let pieces = Pieces { file, w, plan: p };
     let h = pieces.held_before(i);
     let m = pieces.length_of(i);
-    let t = s.tally;
-    let c = count_behind(file, w, p, i, h, t);
+    let c = count_behind(file, w, p, i, h, s.tally);
     let r = capped(c.rest);
     note(w, p, i, r, c.end as u32);
-    let sum = c.tally;
-    add_piece(s, sum, m, h, c.rest, r)
+    add_piece(s, c.tally, m, h, c.rest, r)
 }
 
 // Counts the spans of the DLCI, its buffers that are not empty at the end, and its bytes.
@@ -143,22 +139,10 @@ pub fn count_spans(file: &[u8], w: &mut [u8], p: Plan) -> Sums
     ensures { CountIs file.now w.old p w.new result }
 {
     let n = p.n;
-    let rows = p.rows;
-    let dlci = p.dlci;
-    let none = Tally {
-        count: 0,
-        bytes: 0,
-        frames: 0,
-    };
-    let mut s = Sums {
-        tally: none,
-        unfinished: 0,
-        taken: 0,
-        cleared: 0,
-        left: 0,
-    };
+    let mut s = Sums::default();
     for i in 0..n {
-        if get32(w, rows + 8 * i) == dlci {
+        let table = Table { w, plan: p };
+        if table.dlci_of(i) == p.dlci {
             s = count_piece(file, w, p, i, s);
         }
     }

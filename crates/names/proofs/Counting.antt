@@ -1,47 +1,72 @@
 -- Digits counted and written one by one.
-use mathlib.Core.Path.{◌≡◌, refl, sym, ◌∙◌}
+use mathlib.Core.Path.{◌≡◌, refl, sym, ap, ◌∙◌}
 use mathlib.Core.List.{List, [], ◌∷◌, ◌++◌}
-use Prim.Native.Nat.{ℕ, zero, suc, ◌+◌, ◌-◌, ◌/◌, ◌%◌, ◌<◌, ◌≤◌}
+use Prim.Native.Nat.{ℕ, zero, suc, ◌+◌, ◌-◌, ◌*◌, ◌/◌, ◌%◌, ◌^◌, ◌<◌, ◌≤◌}
+use native.Mathlib.Nat.{pow-suc}
 use native.Mathlib.Omega.{arith}
 use native.Mathlib.Numerals.{add-one}
-use lib.ListN.{length, set, take, length-set, replicate, length-replicate}
+use Rattle.std.specs.Prelude.{max}
+use lib.ListN.{length, length-append, set, take, length-set, replicate, length-replicate}
 use lib.Seq.{sets, set_comm}
+use Rattle.laws.proofs.Choice.{split≤}
 use Rattle.laws.specs.Stores.{Writes}
 use Rattle.laws.proofs.Stores.{writes_then, sets_append}
 use Rattle.names.specs.Digits.{hex_digit, hex2, decimal, decimal6, DigitCount}
-use Rattle.names.proofs.Digits.{decimal_small, decimal_more, length_small, length_more, decimal_some, decimal_few}
+use Rattle.names.proofs.Digits.{decimal_small, decimal_more, length_small, length_more, decimal_some}
 
 pub hex_written : (d : List ℕ) (at b x y : ℕ) → x ≡ hex_digit (b / 16) → y ≡ hex_digit (b % 16) → Writes d at (hex2 b) (at + 2) (set (set d at x) (at + 1) y)
 unfolding hex2
 hex_written d at b x y p q = record { next = refl; writes = rw (p, q, add-one) }
 
--- ---- counting: so many digits are counted, and those of the rest less one are left
+-- ---- counting: by the greatest power of ten that is not above the number
 
-pub record Counting (n k rest : ℕ) : Type 0 where
-  pub small : n < 18446744073709551616
-  pub sum : k + length (decimal rest) ≡ length (decimal n) + 1
+power_some : (k : ℕ) → 1 ≤ 10 ^ k
+power_some zero = omega arith
+power_some (suc k) = omega (arith, pow-suc 10 k, power_some k)
 
-pub counting_start : (n : ℕ) → n < 18446744073709551616 → Counting n 1 n
-counting_start n h = record { small = h; sum = omega arith }
+powers : (k n : ℕ) → 10 ^ k ≤ n → n < 10 * 10 ^ k → length (decimal n) ≡ k + 1
+powers zero n h g = length_small n (omega arith)
+powers (suc k) n h g =
+    let r : length (decimal (n / 10)) ≡ k + 1 = powers k (n / 10) (omega (arith, pow-suc 10 k)) (omega (arith, pow-suc 10 k)) in
+    omega (arith, r, length_more n (omega (arith, pow-suc 10 k, power_some k)))
 
-pub counting_few : (n k rest : ℕ) → Counting n k rest → k ≤ 20
-counting_few n k rest c = omega (arith, c.sum, decimal_some rest, decimal_few 19 n (omega (arith, c.small)))
-
-pub counting_turn : (n k rest : ℕ) → Counting n k rest → 10 ≤ rest → Counting n (k + 1) (rest / 10)
-counting_turn n k rest c h = record { small = c.small; sum = omega (arith, c.sum, length_more rest h) }
-
-pub counting_end : (n k rest : ℕ) → Counting n k rest → rest < 10 → DigitCount n k
-counting_end n k rest c h =
-    let e : k ≡ length (decimal n) = omega (arith, c.sum, length_small rest h) in
-    record { is = e; some = omega (arith, decimal_some n); few = counting_few n k rest c }
+-- 0 has a digit as 1 has
+pub counted : (n m k : ℕ) → m ≡ max n 1 → 10 ^ k ≤ m → m < 10 * 10 ^ k → k < 20 → DigitCount n (k + 1)
+counted n m k e h g few =
+    let r : length (decimal m) ≡ k + 1 = powers k m h g in
+    record {
+      is = split≤ 1 n (λ l. let z : m ≡ n = omega arith in sym (rw z at r)) (λ l. omega (arith, r, length_small m (omega arith), length_small n (omega arith)));
+      some = omega arith;
+      few = omega arith;
+    }
 
 -- ---- writing from the back: what is left completes to the whole
 
+-- the last so many digits of a number, zeros before it
+abbrev pub last_digits : ℕ → ℕ → List ℕ
+last_digits zero n = []
+last_digits (suc k) n = last_digits k (n / 10) ++ ((48 + n % 10) ∷ [])
+
+length_last : (k n : ℕ) → length (last_digits k n) ≡ k
+length_last zero n = refl
+length_last (suc k) n = omega (arith, length-append (last_digits k (n / 10)) ((48 + n % 10) ∷ []), length_last k (n / 10))
+
+all_digits : (k n : ℕ) → k ≡ length (decimal n) → last_digits k n ≡ decimal n
+all_digits zero n h = absurd (omega (arith, decimal_some n))
+all_digits (suc zero) n h =
+    split≤ 10 n
+    (λ g. absurd (omega (arith, length_more n g, decimal_some (n / 10))))
+    (λ g. ap (λ (m : ℕ). (48 + m) ∷ []) (let e : n % 10 ≡ n = omega arith in e) ∙ sym (decimal_small n g))
+all_digits (suc (suc k)) n h =
+    split≤ 10 n
+    (λ g. rw (decimal_more n g, all_digits (suc k) (n / 10) (omega (arith, length_more n g))))
+    (λ g. absurd (omega (arith, length_small n g)))
+
 pub record Backward (n : ℕ) (out₀ : List ℕ) (at : ℕ) (out : List ℕ) (to rest : ℕ) : Type 0 where
-  pub place : to ≡ at + length (decimal rest)
+  pub past : at ≤ to
   pub long : length out ≡ length out₀
   pub room : to ≤ length out
-  pub done : sets out at (decimal rest) ≡ sets out₀ at (decimal n)
+  pub done : sets out at (last_digits (to - at) rest) ≡ sets out₀ at (decimal n)
 
 -- a store behind a run may come before it
 sets_late : (xs d : List ℕ) (at k x : ℕ) → at + length xs ≤ k → sets (set d k x) at xs ≡ set (sets d at xs) k x
@@ -52,24 +77,31 @@ sets_last : (xs d : List ℕ) (at x : ℕ) → sets (set d (at + length xs) x) a
 sets_last xs d at x = sets_late xs d at (at + length xs) x (omega arith) ∙ sym (sets_append d at xs (x ∷ []))
 
 pub backward_start : (n : ℕ) (out : List ℕ) (at k : ℕ) → at + length (decimal n) ≤ length out → DigitCount n k → Backward n out at out (at + k) n
-backward_start n out at k h c = record { place = rw c.is; long = refl; room = omega (arith, c.is); done = refl }
+backward_start n out at k h c = record {
+  past = omega arith;
+  long = refl;
+  room = omega (arith, c.is);
+  done = let e : (at + k) - at ≡ k = omega arith in rw (e, all_digits k n c.is);
+}
 
-module _ (n : ℕ) (out₀ : List ℕ) (at : ℕ) (out : List ℕ) (to rest : ℕ) (c : Backward n out₀ at out to rest) where
-  pub backward_past : at < to
-  backward_past = omega (arith, c.place, decimal_some rest)
+pub backward_turn : (n : ℕ) (out₀ : List ℕ) (at : ℕ) (out : List ℕ) (to rest : ℕ) → Backward n out₀ at out to rest → at < to → Backward n out₀ at (set out (to - 1) (48 + rest % 10)) (to - 1) (rest / 10)
+backward_turn n out₀ at out to rest c h =
+    let x = 48 + rest % 10 in
+    let k = to - 1 - at in
+    let e : to - at ≡ suc k = omega arith in
+    let p : to - 1 ≡ at + length (last_digits k (rest / 10)) = omega (arith, length_last k (rest / 10)) in
+    record {
+      past = omega arith;
+      long = length-set out (to - 1) x ∙ c.long;
+      room = omega (arith, c.room, length-set out (to - 1) x);
+      done = ap (λ (j : ℕ). sets (set out j x) at (last_digits k (rest / 10))) p ∙ sets_last (last_digits k (rest / 10)) out at x ∙ (rw e at c.done);
+    }
 
-  pub backward_turn : 10 ≤ rest → Backward n out₀ at (set out (to - 1) (48 + rest % 10)) (to - 1) (rest / 10)
-  backward_turn h =
-      let e : to - 1 ≡ at + length (decimal (rest / 10)) = omega (arith, c.place, length_more rest h) in
-      record {
-        place = e;
-        long = length-set out (to - 1) (48 + rest % 10) ∙ c.long;
-        room = omega (arith, c.room, length-set out (to - 1) (48 + rest % 10));
-        done = rw e (sets_last (decimal (rest / 10)) out at (48 + rest % 10) ∙ rw (← decimal_more rest h) c.done);
-      }
-
-  pub backward_end : (k : ℕ) → rest < 10 → DigitCount n k → Writes out₀ at (decimal n) (at + k) (set out at (48 + rest))
-  backward_end k h e = record { next = rw e.is; writes = rw (decimal_small rest h) at c.done }
+pub backward_end : (n : ℕ) (out₀ : List ℕ) (at : ℕ) (out : List ℕ) (to rest k : ℕ) → Backward n out₀ at out to rest → to ≤ at → DigitCount n k → Writes out₀ at (decimal n) (at + k) out
+backward_end n out₀ at out to rest k c h d = record {
+  next = rw d.is;
+  writes = let e : to - at ≡ 0 = omega arith in rw e at c.done;
+}
 
 -- ---- zeros before it
 

@@ -1,8 +1,7 @@
 -- Laws of specs/Digits.
 use mathlib.Core.Path.{◌≡◌, refl}
 use mathlib.Core.List.{[], ◌∷◌, ◌++◌}
-use Prim.Native.Nat.{ℕ, zero, suc, ◌+◌, ◌-◌, ◌/◌, ◌%◌, ◌^◌, ◌<◌, ◌≤◌}
-use native.Mathlib.Nat.{pow-suc}
+use Prim.Native.Nat.{ℕ, zero, suc, ◌+◌, ◌-◌, ◌/◌, ◌%◌, ◌<◌, ◌≤◌}
 use native.Mathlib.Omega.{arith}
 use lib.ListN.{length, length-append, replicate, length-replicate}
 use borrow.Author.Tests.{lt-ltb, le-ltb}
@@ -38,13 +37,6 @@ length_more n h = rw (decimal_more n h) (length-append (decimal (n / 10)) ((48 +
 
 pub decimal_some : (n : ℕ) → 1 ≤ length (decimal n)
 decimal_some n = split≤ 10 n (λ h. omega (arith, length_more n h)) (λ h. omega (arith, length_small n h))
-
-pub decimal_few : (k n : ℕ) → n < 10 ^ suc k → length (decimal n) ≤ suc k
-decimal_few zero n h = omega (arith, length_small n h)
-decimal_few (suc k) n h =
-    split≤ 10 n
-    (λ g. let r : length (decimal (n / 10)) ≤ suc k = decimal_few k (n / 10) (omega (arith, pow-suc 10 (suc k))) in omega (arith, length_more n g))
-    (λ g. omega (arith, length_small n g))
 
 pub length_six : (n : ℕ) → length (decimal6 n) ≡ (6 - length (decimal n)) + length (decimal n)
 unfolding decimal6

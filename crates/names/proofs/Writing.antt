@@ -1,7 +1,8 @@
 -- A name written part by part.
 use mathlib.Core.Path.{◌≡◌}
 use mathlib.Core.List.{List}
-use Prim.Native.Nat.{ℕ, ◌+◌, ◌-◌, ◌≤◌}
+use Rattle.std.proofs.Common.{max}
+use Prim.Native.Nat.{ℕ, ◌+◌, ◌≤◌}
 use native.Mathlib.Omega.{arith}
 use lib.ListN.{length}
 use Rattle.laws.specs.Stores.{Writes}
@@ -59,7 +60,7 @@ command_long f i s = rw (← s.is)
 
 -- ---- its length
 
-pub name_length : (ms counter : ℕ) (f : Frame) (t : DataType) (i j k m z x y : ℕ) → t ≡ type_of f.kind → Spot i (type_name t) → Spot j (command_name f) → DigitCount counter k → DigitCount ms m → z ≡ 6 - k → (x ≡ length (name_at i)) × (x ≤ 4406) → (y ≡ length (name_at j)) × (y ≤ 4406) → NameLen ms counter f (43 + m + z + k + x + y)
+pub name_length : (ms counter : ℕ) (f : Frame) (t : DataType) (i j k m z x y : ℕ) → t ≡ type_of f.kind → Spot i (type_name t) → Spot j (command_name f) → DigitCount counter k → DigitCount ms m → z ≡ max k 6 → (x ≡ length (name_at i)) × (x ≤ 4406) → (y ≡ length (name_at j)) × (y ≤ 4406) → NameLen ms counter f (43 + m + z + x + y)
 unfolding name_len
 name_length ms counter f t i j k m z x y p s u c d q v w = record {
   is = omega (arith, type_long f.kind i t p s, command_long f j u, length_six counter);

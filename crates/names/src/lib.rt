@@ -12,12 +12,15 @@ ghost use Rattle.names.specs.Stamps.{name_with};
 ghost use Rattle.names.specs.Parts.{head_of, head_len, part_of, part_len, type_part, type_len, seq_part, command_part, command_len, NameLen};
 ghost use Rattle.names.specs.Digits.{hex_digit, hex2, decimal, decimal6, DigitCount};
 
-use commands::{command_name, data_type_name, name_len, put_name};
+use commands::{Name, command_name, data_type_name, name_len, put_name};
 use items::Direction;
 use mdr::{DataType, Frame, UnpackError};
 
+// Stays: output and place side by side, here and below; a struct of them would hold the output as &mut, and speak of its old and new bytes too.
 // ---- digits: each function returns the place after what it wrote
 
+// Stays: char::from_digit gives an Option of a char, to be unwrapped and made a byte; in a table of the sixteen digits the promise would be
+// shown digit by digit.
 fn hex_digit(n: u8) -> u8
     requires { n < 16 }
     ensures { result ≡ hex_digit n }
@@ -29,6 +32,8 @@ fn hex_digit(n: u8) -> u8
 }
 
 // A byte in two hexadecimal digits.
+// Stays: digits are put by hand, here and below. write! says what it writes only of a writer that has contents, and neither a slice nor a Cursor
+// over one has: what Cursor's own write promises of its bytes (`written`) does not reach write!. fmt::Write has no impl for either.
 fn put_hex(out: &mut [u8], at: usize, b: u8) -> usize
     requires { at + 2 ≤ length out.old }
     ensures { Writes out.old at (hex2 b) result out.new }
@@ -42,13 +47,7 @@ fn put_hex(out: &mut [u8], at: usize, b: u8) -> usize
 fn decimal_len(n: u64) -> usize
     ensures { DigitCount n result }
 {
-    let mut k = 1;
-    let mut rest = n;
-    while 10 <= rest {
-        rest = rest / 10;
-        k += 1;
-    }
-    k
+    n.max(1).ilog10() as usize + 1
 }
 
 // A number in decimal, its last digit first.
@@ -57,14 +56,11 @@ fn put_decimal(out: &mut [u8], at: usize, n: u64) -> usize
     ensures { Writes out.old at (decimal n) result out.new }
 {
     let end = at + decimal_len(n);
-    let mut to = end;
     let mut rest = n;
-    while 10 <= rest {
-        to -= 1;
+    for to in (at..end).rev() {
         out[to] = 48 + (rest % 10) as u8;
-        rest = rest / 10;
+        rest /= 10;
     }
-    out[at] = 48 + rest as u8;
     end
 }
 
@@ -90,7 +86,7 @@ fn put_counter(out: &mut [u8], at: usize, n: u32) -> usize
 
 // ---- the name of a frame
 
-// What a name says of a frame beside its bytes: when it crossed the link, as which, and which way.
+// What a name says of a frame beside its bytes: when it crossed the link, its number among the frames (the counter), and which way it went.
 #[derive(Clone, Copy)]
 pub struct Stamp {
     pub ms: u64,
@@ -120,14 +116,13 @@ fn put_head(out: &mut [u8], at: usize, stamp: Stamp) -> usize
     put_way(out, e, stamp.direction)
 }
 
-// A label, the name with a number, and a byte.
-fn put_part(out: &mut [u8], at: usize, label: &[u8], i: usize, b: u8) -> usize
-    requires i_bound { i < 246 }
-    requires i_in_bounds { at + part_len label.now (name_at i) ≤ length out.old }
-    ensures { Writes out.old at (part_of label.now (name_at i) b) result out.new }
+// A label, a name, and a byte.
+fn put_part(out: &mut [u8], at: usize, label: &[u8], n: Name, b: u8) -> usize
+    requires { at + part_len label.now (name_at n.number) ≤ length out.old }
+    ensures { Writes out.old at (part_of label.now (name_at n.number) b) result out.new }
 {
     let p = words::copy_to(label, out, at);
-    let q = put_name(out, p, i);
+    let q = put_name(out, p, n);
     let r = words::copy_to(b"-", out, q);
     put_hex(out, r, b)
 }
@@ -136,8 +131,8 @@ fn put_type(out: &mut [u8], at: usize, kind: u8) -> usize
     requires { at + type_len kind ≤ length out.old }
     ensures { Writes out.old at (type_part kind) result out.new }
 {
-    let i = data_type_name(DataType::from(kind));
-    put_part(out, at, b".type-", i, kind)
+    let n = data_type_name(DataType::from(kind));
+    put_part(out, at, b".type-", n, kind)
 }
 
 fn put_seq(out: &mut [u8], at: usize, seq: u8) -> usize
@@ -152,8 +147,8 @@ fn put_command(out: &mut [u8], at: usize, f: Frame) -> usize
     requires { at + command_len f ≤ length out.old }
     ensures { Writes out.old at (command_part f) result out.new }
 {
-    let i = command_name(f);
-    put_part(out, at, b".cmd-", i, f.first)
+    let n = command_name(f);
+    put_part(out, at, b".cmd-", n, f.first)
 }
 
 // Writes a frame's name at a place, and returns the place after it.
@@ -172,10 +167,10 @@ pub fn put_frame_name(out: &mut [u8], at: usize, stamp: Stamp, f: Frame) -> usiz
 pub fn frame_name_len(stamp: Stamp, f: Frame) -> usize
     ensures { NameLen stamp.ms stamp.counter f result }
 {
-    let i = data_type_name(DataType::from(f.kind));
-    let j = command_name(f);
+    let kind = data_type_name(DataType::from(f.kind));
+    let command = command_name(f);
     let k = decimal_len(stamp.counter as u64);
-    43 + decimal_len(stamp.ms) + 6usize.saturating_sub(k) + k + name_len(i) + name_len(j)
+    43 + decimal_len(stamp.ms) + k.max(6) + name_len(kind) + name_len(command)
 }
 
 // ---- naming

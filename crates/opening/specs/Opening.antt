@@ -1,5 +1,5 @@
 -- Whether a trace is read: refusals 1 to 5, which are the same for every call that reads one.
-use Rattle.std.specs.Prelude.{ℕ, Result, Ok, Err, ◌*◌, ◌≤◌, ◌≡◌, Bool, false, cond, not, ◌&&◌, List, [], ◌∷◌, length, eqb}
+use Rattle.std.specs.Prelude.{ℕ, ⊤, Result, Ok, Err, ◌*◌, ◌<◌, ◌≤◌, ◌≡◌, ◌⊎◌, Bool, false, cond, not, ◌&&◌, List, [], ◌∷◌, length, eqb}
 use Rattle.laws.specs.Answers.{Answer, accepted, refused}
 use Rattle.container.specs.Container as container
 use Rattle.trace.specs.Formats.{container_of, format_of, tail_by}
@@ -14,6 +14,7 @@ use Rattle.opening.specs.declared.Tail.{Tail}
 use Rattle.opening.specs.declared.Tail.TheVariants.{Strict, Tolerant}
 use Rattle.opening.specs.declared.Opened.{Opened}
 use Rattle.trace.specs.declared.Refusal.{Refusal}
+use Rattle.trace.specs.declared.Refusal.TheVariants.{FileLong, WorkShort}
 
 -- 1, 2, 3 (pcap: 21), 4 (22), 5, in this order; else it is read
 module _ (C : container.Container) where
@@ -37,6 +38,22 @@ abbrev pub told_opened : Result Opened Refusal → Answer
 told_opened (Ok t) = accepted []
 told_opened (Err x) = told_refusal x
 
+-- ---- the sizes
+
+pub record Sized (f w : List ℕ) : Type 0 where
+  pub small : length f ≤ 1048576
+  pub room : 8 * length f ≤ length w
+
+-- 1, else 2
+abbrev pub Unsized : List ℕ → List ℕ → Refusal → Type 0
+Unsized f w x = ((1048576 < length f) × (x ≡ FileLong)) ⊎ ((length f ≤ 1048576) × (length w < 8 * length f) × (x ≡ WorkShort))
+
+abbrev pub SizesChecked : List ℕ → List ℕ → Result ⊤ Refusal → Type 0
+SizesChecked f w (Ok u) = Sized f w
+SizesChecked f w (Err x) = Unsized f w x
+
+-- ---- the call
+
 -- what a trace that is read is, and leaves in work, by what its header says
 pub record Reads (b : Container) (f w : List ℕ) (t : Opened) : Type 0 where
   pub file : t.trace.file.now ≡ f
@@ -50,10 +67,6 @@ pub record Opens (b : Container) (f w : List ℕ) (tail : import.Tail) (r : Resu
   pub spared : (fits f && work_suffices f (length w)) ≡ false → w' ≡ w
 
 -- ---- from the header on, from the records on
-
-pub record Sized (f w : List ℕ) : Type 0 where
-  pub small : length f ≤ 1048576
-  pub room : 8 * length f ≤ length w
 
 pub record HeaderOpens (b : Container) (f : List ℕ) (tail : import.Tail) (r : Result Opened Refusal) (w' : List ℕ) : Type 0 where
   pub answers : told_opened r ≡ heads (container_of b) f tail

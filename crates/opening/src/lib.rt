@@ -3,7 +3,7 @@
 
 ghost use Rattle.std.specs.Prelude.{◌≡◌};
 ghost use Rattle.packets.specs.Adding.{ReadPre};
-ghost use Rattle.opening.specs.Opening.{tail_of, Opens, Sized, HeaderOpens, RecordsOpen, truncates};
+ghost use Rattle.opening.specs.Opening.{tail_of, SizesChecked, Opens, RecordsOpen, truncates};
 
 use packets::{Packets, read_packets};
 use trace::{Container, Refusal, Trace, read_header};
@@ -23,6 +23,7 @@ pub struct Opened<'a> {
 }
 
 // Whether a record passes the end and that is refused.
+#[tactic(auto, unfolding(crate::specs::Opening::truncates))]
 fn is_truncated(tail: Tail, at: usize, end: usize) -> bool
     ensures { result ≡ truncates tail at end }
 {
@@ -33,6 +34,7 @@ fn is_truncated(tail: Tail, at: usize, end: usize) -> bool
 }
 
 // Reads the packets of a trace whose header is read.
+#[tactic(auto, unfolding(crate::specs::Opening::truncates))]
 fn open_records<'a>(trace: Trace<'a>, work: &mut [u8], tail: Tail) -> Result<Opened<'a>, Refusal>
     requires { ReadPre trace.format trace.file.now work.old }
     ensures { RecordsOpen trace.entry (tail_of tail) result work.new }
@@ -45,18 +47,18 @@ fn open_records<'a>(trace: Trace<'a>, work: &mut [u8], tail: Tail) -> Result<Ope
     Ok(Opened { trace, packets })
 }
 
-// Opens a file of a size that is taken, with work enough.
-fn open_header<'a>(
-    file: &'a [u8],
-    work: &mut [u8],
-    container: Container,
-    tail: Tail,
-) -> Result<Opened<'a>, Refusal>
-    requires { Sized file.now work.old }
-    ensures { HeaderOpens container file.now (tail_of tail) result work.new }
+// Refuses a file that is too long, and work that is too short for it.
+pub fn check_sizes(file: &[u8], work: &[u8]) -> Result<(), Refusal>
+    ensures { SizesChecked file.now work.now result }
 {
-    let format = read_header(file, container)?;
-    open_records(Trace { file, format }, work, tail)
+    let n = file.len();
+    if 1048576 < n {
+        return Err(Refusal::FileLong);
+    }
+    if work.len() < 8 * n {
+        return Err(Refusal::WorkShort);
+    }
+    Ok(())
 }
 
 // Opens a trace. A file that is too long, and work that is too short, are refused first.
@@ -68,12 +70,7 @@ pub fn open_trace<'a>(
 ) -> Result<Opened<'a>, Refusal>
     ensures { Opens container file.now work.old (tail_of tail) result work.new }
 {
-    let n = file.len();
-    if 1048576 < n {
-        return Err(Refusal::FileLong);
-    }
-    if work.len() < 8 * n {
-        return Err(Refusal::WorkShort);
-    }
-    open_header(file, work, container, tail)
+    check_sizes(file, work)?;
+    let format = read_header(file, container)?;
+    open_records(Trace { file, format }, work, tail)
 }

@@ -17,7 +17,8 @@ pub fn option_at(options: &[u64], at: usize, default: u64) -> u64
 }
 
 // The tail rule by number: 0 is strict, any other tolerant.
-// Stays: as the two functions below, since each makes another type of its number; a trait for them would be longer than the three.
+// Stays: as the two functions below, since each makes another type of its number; a trait for them would be longer than the three. And no From<u64>,
+// since Tail and Container lie in crates below, which know nothing of a caller's numbers.
 pub fn tail_of(tolerant: u64) -> Tail
     ensures { tail_of result ≡ tail_number tolerant }
 {

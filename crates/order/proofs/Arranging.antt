@@ -150,21 +150,21 @@ module _ (l : List ℕ) (n : ℕ) (w₀ w : List ℕ) (i to : ℕ) (c : Writing 
     pub writing_left : to ≡ length (front l (i - 1) w) + 6 + length name
     writing_left = omega (arith, c.place, ap length split, length-append (front l (i - 1) w) (name_item name), length_name name)
 
-    pub writing_turn : (to' r : ℕ) (w' : List ℕ) → to' ≡ to - 6 - length name → Writes w to' (item 3 name) r w' → Writing l n w₀ w' (i - 1) to'
+    pub writing_turn : (to' : ℕ) (w' : List ℕ) → Writes w to' (name_item name) to w' → Writing l n w₀ w' (i - 1) to'
     unfolding name_item
-    writing_turn to' r w' q v =
-        let p : to' ≡ length (front l (i - 1) w) = omega (arith, writing_left) in
+    writing_turn to' w' v =
         let long = length_item 3 name in
+        let p : to' ≡ length (front l (i - 1) w) = omega (arith, writing_left, v.next, long) in
         let kept : words w' 0 (i - 1) ≡ words w 0 (i - 1) =
         words_same w w' 0 (i - 1)
         (λ j a b. rw v.writes (front_word to' (sets w to' (item 3 name)) w j (omega (arith, front_long l (i - 1) w)) (front_sets to' (item 3 name) w to' (omega arith)))) in
         let same : front l (i - 1) w' ≡ front l (i - 1) w = front_kept l (i - 1) w w' kept in
-        let next : to' + length (item 3 name) ≡ to = omega (arith, writing_left) in
-        let rest : drop to' w' ≡ item 3 name ++ drop to w = put_drop w to' (item 3 name) r w' to v next c.room in
+        let next : to' + length (item 3 name) ≡ to = omega (arith, v.next) in
+        let rest : drop to' w' ≡ item 3 name ++ drop to w = put_drop w to' (item 3 name) to w' to v next c.room in
         record {
           place = rw same p;
-          room = omega (arith, writes_long w to' (item 3 name) r w' v);
-          long = writes_long w to' (item 3 name) r w' v ∙ c.long;
+          room = omega (arith, writes_long w to' (item 3 name) to w' v);
+          long = writes_long w to' (item 3 name) to w' v ∙ c.long;
           done = rw (same, rest, ← append_assoc (front l (i - 1) w) (item 3 name) (drop to w)) (rw split at c.done);
         }
 

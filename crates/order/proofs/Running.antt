@@ -1,19 +1,23 @@
 -- Laws of lists that run one way: how they are found, and what is written of them.
-use Rattle.std.specs.Prelude.{Option, Some}
+use Rattle.std.specs.Prelude.{Some, Result, Ok}
+use Rattle.std.specs.Borrow.{Bor}
 use mathlib.Core.Path.{◌≡◌, refl, sym, ap, ◌∙◌}
 use mathlib.Core.Bool.{Bool, true, false, not, beq}
-use mathlib.Core.List.{List, [], ◌∷◌}
+use mathlib.Core.List.{List, [], ◌∷◌, map}
 use Prim.Native.Nat.{ℕ, ◌<◌, ◌≤◌}
 use native.Mathlib.Omega.{arith}
-use lib.Dec.{eqb}
 use lib.ListN.{length}
-use borrow.Author.Tests.{le-leb, eq-eqb, eqb-true}
-use Rattle.laws.proofs.Choice.{split≡, no_way}
-use Rattle.items.specs.Items.{item_at, end_at, Test, is_item, well_formed, name_test, read_items}
+use borrow.Author.Tests.{le-leb}
+use Rattle.laws.proofs.Choice.{no_way}
+use Rattle.items.specs.Items.{Item, item_at, end_at, Test, name_test, read_items}
 use Rattle.items.specs.Reading.{read_from}
-use Rattle.items.proofs.Reading.{read_good, read_end}
-use Rattle.items.specs.Walks.{pass_at, held, items_from, names_from, Walks, Good}
-use Rattle.items.proofs.Walks.{good_fits, end_past, some_is, some_end}
+use Rattle.items.proofs.Reading.{read_end}
+use Rattle.items.specs.Walks.{items_from, names_from, Walks, Good}
+use Rattle.items.specs.Entries.{Stands, GaveEntry, GivesEntry, Over}
+use Rattle.items.proofs.Entries.{stands_low, stands_fits, stands_well, stands_more, over_stands, over_at, over_on, over_end, gave_entry}
+use Rattle.items.specs.declared.Listing.TheVariants as listing
+use Rattle.items.specs.declared.walking.Entry.{Entry}
+use Rattle.items.specs.declared.walking.Walk.{Walk}
 use Rattle.sorting.specs.Names.{le_name}
 use Rattle.sorting.specs.Chains.{chain_nil, chain_one, chain_more}
 use Rattle.sorting.specs.Steps.{name_at, HeadOf, first_of, le_at}
@@ -23,36 +27,11 @@ use Rattle.sorting.proofs.Comparing.{head_self, first_is}
 
 -- ---- the name at a place
 
--- an item may stand there, and end is its end
-record Passed (ok : Test) (l : List ℕ) (at end : ℕ) : Type 0 where
-  item : is_item ok l at ≡ true
-  next : end ≡ end_at l at
-
-passed : (ok : Test) (l : List ℕ) (at : ℕ) (r : Option ℕ) (end : ℕ) → r ≡ pass_at ok l at → r ≡ Some end → Passed ok l at end
-passed ok l at r end e n = record { item = some_is ok l at end (sym e ∙ n); next = some_end ok l at end (sym e ∙ n) }
-
-module _ (ok : Test) (l : List ℕ) (at end : ℕ) (h : at < length l) (p : Passed ok l at end) where
-  passed_low : at < end
-  passed_low = omega (arith, p.next, end_past l at)
-
-  passed_within : end ≤ length l
-  passed_within = omega (arith, p.next, good_fits ok l at p.item)
-
-  -- what is well-formed from the end on is so from the item on
-  module _ (w : Walks ok l end) where
-    reads : read_from ok l at ≡ well_formed (item_at l at ∷ items_from ok l end)
-    reads = let e = p.next in read_good ok l at h p.item ∙ rw (← e, w.well)
-
-    items_more : items_from ok l at ≡ item_at l at ∷ items_from ok l end
-    unfolding items_from
-    items_more = ap held reads
-
-    walks_more : Walks ok l at
-    walks_more = record { within = omega arith; well = reads ∙ ap well_formed (sym items_more) }
-
-names_more : (l : List ℕ) (at end : ℕ) → at < length l → Passed name_test l at end → Walks name_test l end → names_from l at ≡ name_at l at ∷ names_from l end
+names_more : (l : List ℕ) (at : ℕ) (e : Entry) → Stands name_test l at e → Walks name_test l (end_at l at) → names_from l at ≡ name_at l at ∷ names_from l (end_at l at)
 unfolding names_from name_at item_at
-names_more l at end h p w = rw (items_more name_test l at end h p w)
+names_more l at e s w =
+    let q : items_from name_test l at ≡ item_at l at ∷ items_from name_test l (end_at l at) = rw s.read.item at (stands_more name_test l at e s w) in
+    ap (map (λ (x : Item). x.body)) q
 
 walks_none : (ok : Test) (l : List ℕ) (at : ℕ) → length l ≡ at → Walks ok l at
 unfolding items_from
@@ -70,13 +49,6 @@ same_bools true false e = no_way refl e
 same_bools false true e = no_way refl e
 same_bools false false e = refl
 
-module _ (n : ℕ) (r : Bool) (e : r ≡ eqb n 0) where
-  pub empty : r ≡ true → n ≡ 0
-  empty t = eqb-true n 0 (sym e ∙ t)
-
-  pub filled : r ≡ false → 0 < n
-  filled f = split≡ n 0 (λ z. no_way (e ∙ eq-eqb n 0 z) f) (λ z. omega arith)
-
 -- ---- the walk: what is still to come, if it runs on, makes a run of the whole
 
 pub record Running (l : List ℕ) (start at : ℕ) (first a : Head) (up : Bool) : Type 0 where
@@ -85,37 +57,45 @@ pub record Running (l : List ℕ) (start at : ℕ) (first a : Head) (up : Bool) 
   pub head : HeadOf l a.place a
   pub rest : RunFrom l at a up → RunFrom l start first up
 
-pub running_start : (l : List ℕ) (start : ℕ) (first : Head) (up : Bool) → RunPre l start first → Running l start start first first up
-running_start l start first up p = record { within = p.within; small = p.small; head = p.head; rest = λ r. r }
+pub running_start : (w : Walk) (first : Head) (up : Bool) → RunPre w first → Running w.list.now w.at w.at first first up
+running_start w first up p = record { within = p.within; small = p.small; head = p.head; rest = λ r. r }
 
 pub runs_not : (l : List ℕ) (start : ℕ) (a : Head) (up : Bool) → RunsOn l start a up false
 runs_not l start a up = record { told = λ e. no_way e refl }
 
-module _ (l : List ℕ) (start at : ℕ) (first a : Head) (up : Bool) (v : Running l start at first a up) where
-  pub running_end : length l ≤ at → RunsOn l start first up true
+module _ (l : List ℕ) (start : ℕ) (w : Walk) (first a : Head) (up : Bool) (o : Over l listing.Names w) (v : Running l start w.at first a up) where
+  pub running_end : length w.list.now ≤ w.at → RunsOn l start first up true
   running_end h =
-      let e : length l ≡ at = omega (arith, v.within) in
-      record { told = λ t. v.rest (record { walks = walks_none name_test l at e; chain = rw (names_none l at e) chain_one }) }
+      let e : length l ≡ w.at = omega (arith, v.within, over_end l listing.Names w o h) in
+      record { told = λ t. v.rest (record { walks = walks_none name_test l w.at e; chain = rw (names_none l w.at e) chain_one }) }
 
-  module _ (o : Option ℕ) (end : ℕ) (e : o ≡ pass_at name_test l at) (n : o ≡ Some end) (h : at < length l) where
-    pub running_less : at < end
-    running_less = passed_low name_test l at end h (passed name_test l at o end e n)
+  module _ (m : Walk) (x : Result Entry ℕ) (g : GivesEntry w (Some x) m) (e : Entry) (n : x ≡ Ok e) where
+    s : Stands name_test l w.at e
+    s = over_stands l listing.Names w m o e (gave_entry w m x g e n)
 
-    pub running_turn : (b : Head) (t : Bool) → HeadOf l at b → t ≡ first_of l a b → t ≡ up → Running l start end first b up
+    next : m.at ≡ end_at l w.at
+    next = over_at l listing.Names w m o e (gave_entry w m x g e n)
+
+    pub running_on : Over l listing.Names m
+    running_on = over_on l listing.Names w m o e (gave_entry w m x g e n)
+
+    pub running_place : e.at < length l
+    running_place = rw s.read.place (stands_low name_test l w.at e s)
+
+    pub running_turn : (b : Head) (t : Bool) → HeadOf l e.at b → t ≡ first_of l a b → t ≡ up → Running l start m.at first b up
     unfolding le_at
     running_turn b t hb f g =
-        let p = passed name_test l at o end e n in
-        let q : b.place ≡ at = hb.place in
-        let z : le_name (name_at l a.place) (name_at l at) ≡ up = sym (first_is l a.place at a b v.head hb) ∙ sym f ∙ g in
-        record {
-          within = passed_within name_test l at end h p;
+        let q : b.place ≡ w.at = hb.place ∙ s.read.place in
+        let z : le_name (name_at l a.place) (name_at l w.at) ≡ up = rw s.read.place at (sym (first_is l a.place e.at a b v.head hb) ∙ sym f ∙ g) in
+        rw next (record {
+          within = stands_fits name_test l w.at e s;
           small = v.small;
-          head = head_self l at b hb;
+          head = head_self l e.at b hb;
           rest = λ r. v.rest (record {
-            walks = walks_more name_test l at end h p r.walks;
-            chain = rw (names_more l at end h p r.walks) (chain_more z (rw q at r.chain));
+            walks = stands_well name_test l w.at e s r.walks;
+            chain = rw (names_more l w.at e s r.walks) (chain_more z (rw q at r.chain));
           });
-        }
+        })
 
 -- ---- the whole list
 
@@ -130,18 +110,25 @@ pub whole_none : (l : List ℕ) (up : Bool) → length l ≤ 16777216 → length
 whole_none l up h e =
     record { told = λ t. record { good = good_whole l h (walks_none name_test l 0 e); chain = rw (names_none l 0 e) chain_nil } }
 
-module _ (l : List ℕ) (o : Option ℕ) (end : ℕ) (a : Head) (e : o ≡ pass_at name_test l 0) (n : o ≡ Some end) (h : 0 < length l) (s : length l ≤ 16777216) (p : HeadOf l 0 a) where
-  pub whole_pre : RunPre l end a
-  whole_pre = record { within = passed_within name_test l 0 end h (passed name_test l 0 o end e n); small = s; head = head_self l 0 a p }
+module _ (b : Bor (List ℕ)) (m : Walk) (e : Entry) (g : GaveEntry (record { list = b; which = listing.Names; at = 0 }) e m) (h : length b.now ≤ 16777216) (a : Head) (f : HeadOf b.now e.at a) where
+  p : HeadOf b.now 0 a
+  p = rw g.stands.read.place at f
 
-  pub whole_runs : (up r : Bool) → RunsOn l end a up r → Runs l up r
+  pub whole_pre : RunPre m a
+  whole_pre = rw g.goes (record {
+    over = record { list = refl; kind = refl };
+    within = stands_fits name_test b.now 0 e g.stands;
+    small = h;
+    head = head_self b.now 0 a p;
+  })
+
+  pub whole_runs : (up r : Bool) → RunsOn m.list.now m.at a up r → Runs b.now up r
   whole_runs up r v = record {
     told = λ t.
-        let f = v.told t in
+        let s = (rw g.goes at v).told t in
         let q : a.place ≡ 0 = p.place in
-        let d = passed name_test l 0 o end e n in
         record {
-          good = good_whole l s (walks_more name_test l 0 end h d f.walks);
-          chain = rw (names_more l 0 end h d f.walks) (rw q at f.chain);
+          good = good_whole b.now h (stands_well name_test b.now 0 e g.stands s.walks);
+          chain = rw (names_more b.now 0 e g.stands s.walks) (rw q at s.chain);
         };
   }

@@ -16,6 +16,11 @@ use Rattle.sorting.specs.Chains.{back}
 use Rattle.order.specs.Steps.{Lent}
 use Rattle.order.proofs.Arranging.{put_drop, list_append, left_long}
 
+-- the item of a name, which ends at a place
+pub put_ends : (w : List ℕ) (to : ℕ) (name : List ℕ) (r : ℕ) (u : List ℕ) → 6 + length name ≤ to → Writes w (to - 6 - length name) (item 3 name) r u → Writes w (to - 6 - length name) (name_item name) to u
+unfolding name_item
+put_ends w to name r u h v = record { next = omega (arith, length_item 3 name); writes = v.writes }
+
 -- some names are left, and what is written begins at to
 pub record Backing (all left : Names) (w₀ w : List ℕ) (to : ℕ) : Type 0 where
   pub list : left.list ≡ all.list
@@ -50,13 +55,14 @@ module _ (all left : Names) (w₀ w : List ℕ) (to : ℕ) (c : Backing all left
         (list_append (back (names_left m)) (x.now ∷ [])
         ∙ ap (λ (r : List ℕ). name_list (back (names_left m)) ++ r) (append-nil (item 3 x.now)))
 
-    pub backing_turn : (to' r : ℕ) (w' : List ℕ) → to' ≡ to - 6 - length x.now → Writes w to' (item 3 x.now) r w' → Backing all m w₀ w' to'
-    backing_turn to' r w' q v =
-        let next : to' + length (item 3 x.now) ≡ to = omega (arith, length_item 3 x.now, backing_room) in
-        let rest : drop to' w' ≡ item 3 x.now ++ drop to w = put_drop w to' (item 3 x.now) r w' to v next (omega (arith, c.place, c.fits)) in
+    pub backing_turn : (to' : ℕ) (w' : List ℕ) → Writes w to' (name_item x.now) to w' → Backing all m w₀ w' to'
+    unfolding name_item
+    backing_turn to' w' v =
+        let next : to' + length (item 3 x.now) ≡ to = omega (arith, v.next) in
+        let rest : drop to' w' ≡ item 3 x.now ++ drop to w = put_drop w to' (item 3 x.now) to w' to v next (omega (arith, c.place, c.fits)) in
         record {
           list = g.list ∙ c.list;
-          place = omega (arith, c.place, g.next, backing_room);
-          fits = writes_long w to' (item 3 x.now) r w' v ∙ c.fits;
+          place = omega (arith, c.place, g.next, v.next, length_item 3 x.now);
+          fits = writes_long w to' (item 3 x.now) to w' v ∙ c.fits;
           done = rw (rest, ← append_assoc (name_list (back (names_left m))) (item 3 x.now) (drop to w), ← front_back) c.done;
         }

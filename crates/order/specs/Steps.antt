@@ -4,7 +4,10 @@ use Rattle.std.specs.Borrow.{Bor}
 use Rattle.items.specs.Items.{name_test, name_list, ill_formed, names_in}
 use Rattle.items.specs.Walks.{items_from, names_from, Walks, Good}
 use Rattle.items.specs.Checked.{names_left, CheckedWell}
+use Rattle.items.specs.Entries.{Over}
+use Rattle.items.specs.declared.Listing.TheVariants as listing
 use Rattle.items.specs.declared.lists.Names.{Names}
+use Rattle.items.specs.declared.walking.Walk.{Walk}
 use Rattle.sorting.specs.Names.{le_name}
 use Rattle.sorting.specs.Chains.{Chain, back}
 use Rattle.sorting.specs.Sort.{isort}
@@ -36,11 +39,12 @@ pub record Fills (l : List ℕ) (n : ℕ) (w : List ℕ) : Type 0 where
 
 -- ---- lists that run one way
 
--- a name, and a place behind it
-pub record RunPre (l : List ℕ) (start : ℕ) (a : Head) : Type 0 where
-  pub within : start ≤ length l
-  pub small : length l ≤ 16777216
-  pub head : HeadOf l a.place a
+-- a walk over names, and one of the list
+pub record RunPre (w : Walk) (a : Head) : Type 0 where
+  pub over : Over w.list.now listing.Names w
+  pub within : w.at ≤ length w.list.now
+  pub small : length w.list.now ≤ 16777216
+  pub head : HeadOf w.list.now a.place a
 
 -- well-formed from a place on, and the names from a on are a chain
 pub record RunFrom (l : List ℕ) (start : ℕ) (a : Head) (up : Bool) : Type 0 where

@@ -1,8 +1,9 @@
 // Fixture names in the order in which their frames crossed the link.
 #![tactic(auto)]
 
-ghost use Rattle.std.specs.Prelude.{◌≡◌, ◌<◌, length};
-ghost use Rattle.items.specs.Items.{name_list};
+ghost use Rattle.std.specs.Prelude.{◌≡◌, ◌+◌, ◌<◌, ◌≤◌, length};
+ghost use Rattle.items.specs.Items.{name_item, name_list};
+ghost use Rattle.laws.specs.Stores.{Writes};
 ghost use Rattle.items.specs.Checked.{names_left};
 ghost use Rattle.laws.specs.Answers.{Meets};
 ghost use Rattle.sorting.specs.Names.{le_name};
@@ -11,7 +12,7 @@ ghost use Rattle.sorting.specs.Chains.{back};
 ghost use Rattle.order.specs.Order.{capture_order, told_ordered};
 ghost use Rattle.order.specs.Steps.{Lent, names_at, Placed, Fills, RunPre, RunsOn, Runs, names_of, ReadIs, WayPre};
 
-use items::{Listing, Names, pass, put_item};
+use items::{Listing, MOST, NAME, Names, Walk, put_item};
 use sorting::{Head, head_of, is_first, name_of, sort};
 use words::{copy_to, get32, put32};
 
@@ -25,7 +26,9 @@ pub enum OrderError {
 // ---- the list written
 
 // Puts the places of the names of a list into the first words, and returns how many they are.
-// Stays: Lent is asked here and below: it says how long the output is that is written, and the list has its own type.
+// Stays: three functions take the names and their output. What is known of both (`Lent`) speaks of the output's length too, and a struct of the
+// two would hold it as &mut: each function would promise besides that the struct still holds that output.
+// Stays: at goes along by hand: `for` keeps the list's own place, names.at, to itself, and a name does not say where it stands.
 fn place_names(names: Names, out: &mut [u8]) -> usize
     requires { Lent names out.old }
     ensures { Placed names.entry result out.new }
@@ -40,9 +43,21 @@ fn place_names(names: Names, out: &mut [u8]) -> usize
     n
 }
 
+// Writes a name as the item that ends at a place, and returns where the item begins.
+fn put_before(out: &mut [u8], to: usize, name: &[u8]) -> usize
+    requires long { 6 + length name.now ≤ to }
+    requires end_in_bounds { to ≤ length out.old }
+    ensures { Writes out.old result (name_item name.now) to out.new }
+{
+    let at = to - 6 - name.len();
+    put_item(out, at, NAME, name);
+    at
+}
+
 // Writes the names at the places in the first n words as items, the last first. They fill the output, and an item is longer
 // than a word, so that no place is written over before it is read.
-// Stays: three parameters. `sort` takes the same ones apart, so that a struct of them would be made for this call alone.
+// Stays: names, out and n side by side. `sort` takes them too, but with lo and top: a struct of the three would serve this call alone, and hold
+// the output as &mut.
 fn write_names(names: &[u8], out: &mut [u8], n: usize)
     requires { Fills names.now n out.old }
     ensures { out.new ≡ name_list (names_at names.now n out.old) }
@@ -51,8 +66,7 @@ fn write_names(names: &[u8], out: &mut [u8], n: usize)
     for i in (0..n).rev() {
         let place = get32(out, i);
         let name = name_of(names, place);
-        to = to - 6 - name.len();
-        put_item(out, to, 3, name);
+        to = put_before(out, to, name);
     }
 }
 
@@ -68,37 +82,36 @@ fn arrange(names: Names, out: &mut [u8])
 }
 
 // Writes the names of a checked list, the last first, to an output of its length.
+// Stays: not one function with write_names, whose places stand in the output that it writes, so that no iterator can lend them.
 fn write_back(names: Names, out: &mut [u8])
     requires { Lent names out.old }
     ensures { out.new ≡ name_list (back (names_left names.entry)) }
 {
     let mut to = out.len();
     for name in names {
-        to = to - 6 - name.len();
-        put_item(out, to, 3, name);
+        to = put_before(out, to, name);
     }
 }
 
 // ---- lists that run one way
 
-// Whether a list is well-formed from a place on, where each name from the given one on comes before the next or equals it
-// (up), or each comes after the next.
-fn runs_on(names: &[u8], start: usize, first: Head, up: bool) -> bool
-    requires { RunPre names.now start first }
-    ensures { RunsOn names.now start first up result }
+// Whether the rest of a list is well-formed, where each name from the given one on comes before the next or equals it (up), or
+// each comes after the next.
+fn runs_on(rest: Walk, first: Head, up: bool) -> bool
+    requires { RunPre rest first }
+    ensures { RunsOn rest.entry.list.now rest.entry.at first up result }
 {
-    let mut at = start;
+    let names = rest.list;
     let mut a = first;
-    while at < names.len() {
-        let Some(end) = pass(names, Listing::Names, at) else {
+    for name in rest {
+        let Ok(name) = name else {
             return false;
         };
-        let b = head_of(names, at as u32);
+        let b = head_of(names, name.at as u32);
         if is_first(names, a, b) != up {
             return false;
         }
         a = b;
-        at = end;
     }
     true
 }
@@ -107,21 +120,25 @@ fn runs_on(names: &[u8], start: usize, first: Head, up: bool) -> bool
 fn runs(names: &[u8], up: bool) -> bool
     ensures { Runs names.now up result }
 {
-    if 16777216 < names.len() {
+    if MOST < names.len() {
         return false;
     }
-    if names.is_empty() {
-        return true;
-    }
-    let Some(end) = pass(names, Listing::Names, 0) else {
-        return false;
+    let mut rest = Walk {
+        list: names,
+        which: Listing::Names,
+        at: 0,
     };
-    runs_on(names, end, head_of(names, 0), up)
+    match rest.next() {
+        None => true,
+        Some(Err(_)) => false,
+        Some(Ok(name)) => runs_on(rest, head_of(names, name.at as u32), up),
+    }
 }
 
 // ---- the call
 
 // A checked list by how its names stand: in order, wholly the other way round, or neither.
+// Stays: the names in each case, since what is known of them differs by the case.
 #[derive(Clone, Copy)]
 enum Way<'a> {
     Up(Names<'a>),
@@ -139,10 +156,8 @@ fn read_names(list: &[u8]) -> Result<Way<'_>, OrderError>
     if runs(list, false) {
         return Ok(Way::Down(Names { list, at: 0 }));
     }
-    match Names::check(list) {
-        Ok(names) => Ok(Way::Mixed(names)),
-        Err(at) => Err(OrderError::IllFormed(at)),
-    }
+    let names = Names::check(list).map_err(OrderError::IllFormed)?;
+    Ok(Way::Mixed(names))
 }
 
 // Writes the names of a list in order to an output of its length.

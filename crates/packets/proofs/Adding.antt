@@ -53,9 +53,6 @@ module _ (r : Record) where
   bytes_end : r.at + length (bytes_of r) ≡ r.end
   bytes_end = omega (arith, bytes_length r, r.whole.least)
 
-  pub bytes_within : (b : List ℕ) → b ≡ bytes_of r → r.at + length b ≤ 1048576
-  bytes_within b e = rw e (omega (arith, bytes_end, r.whole.most, r.whole.small))
-
   module _ (x : Excerpt) (e : bytes_in x ≡ bytes_of r) (p : x.place ≡ r.at) where
     stands : StandsIn r.trace.file.now x
     stands = record { same = rw (e, p, bytes_length r) }
@@ -218,9 +215,6 @@ module _ (g : Format) (f : List ℕ) (at : ℕ) (h : at ≤ length f) (head : �
   empty_is n m s = rw (← m, ← e) (split_b (eqb n head)
       (λ q. let z : n ≡ head = eqb-true n head q in rw (q, le-leb n (length (drop at f)) (simp length-drop (omega arith))))
       (λ q. rw q))
-
-pub pass_start : (g : Format) (f : List ℕ) (at : ℕ) → at ≤ length f → Passed g f at at
-pass_start g f at h = record { least = omega arith; most = h; list = refl; tail = refl }
 
 -- a record of the head alone
 pass_one : (g : Format) (f : List ℕ) (at e : ℕ) → RecordAt g f at e → e ≡ at + record_head g → Passed g f at e

@@ -88,7 +88,8 @@ fn pass_empty(trace: Trace, at: usize) -> usize
 {
     let head = record_head(trace.format);
     let mut i = at;
-    // Stays: moved by hand; each is as long as the first, so the next place does not wait for a length that is read, as that of a reader does.
+    // Stays: moved by hand; each is as long as the first, so the next place waits for no length that is read, as that of a reader does (docs/DECISIONS.md).
+    // A `for` over `step_by(head)` would return from within, before an answer that is never given; a count by `take_while` would be made a place again.
     while is_empty(trace, i) {
         i += head;
     }

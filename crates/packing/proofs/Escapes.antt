@@ -1,7 +1,8 @@
 -- Storing escaped bytes, and a frame's parts one after another.
-use Rattle.std.proofs.Common.{◌≡◌, ℕ, ◌+◌, ◌-◌, ◌*◌, ◌/◌, ◌%◌, ◌<◌, ◌≤◌, Bool, true, false, cond, eqb, List, [], ◌∷◌, ◌++◌, length, get_or, take, drop, set, sym, refl, ap, ◌∙◌, append_assoc, add-one, arith, length-append, length-drop, take-append-drop, length-take-le, take-add, eqb-true, le-leb}
+use Rattle.std.proofs.Common.{◌≡◌, ℕ, ◌+◌, ◌-◌, ◌/◌, ◌%◌, ◌<◌, ◌≤◌, Bool, true, false, cond, eqb, List, [], ◌∷◌, ◌++◌, length, get_or, take, drop, set, sym, refl, ap, ◌∙◌, append_assoc, add-one, arith, length-append, length-drop, take-append-drop, take-add, eqb-true, le-leb}
 use borrow.Author.Tests.{lt-leb}
 use Rattle.std.proofs.lemmas.List.{take_rest}
+use lib.Seq.{drop-drop, take-append_seam, drop-append_seam}
 use Rattle.laws.proofs.Choice.{split_b}
 use Rattle.laws.proofs.Lists.{drop_step, drop_end}
 use Rattle.laws.specs.Stores.{Writes, Emitting}
@@ -63,12 +64,6 @@ module _ (out₀ : List ℕ) (at₀ : ℕ) (part out : List ℕ) (at i : ℕ) (s
 
   pub escape_end : length part ≤ i → Writes out₀ at₀ (escape part) at out
   escape_end h = emit_end out₀ at₀ (escape part) out at (escape (drop i part)) s.emits (ap escape (drop_end part i h))
-
--- a block of a run
-pub block_is : (l : List ℕ) (i k : ℕ) → k ≤ length l - i → length (take (i + k - i) (drop i l)) ≡ k
-block_is l i k h =
-    let e : i + k - i ≡ k = omega arith in
-    rw e (length-take-le k (drop i l) (omega (arith, length-drop i l)))
 
 -- ---- a part without a byte to escape
 
@@ -132,16 +127,39 @@ module _ (part out₀ : List ℕ) (at₀ : ℕ) (out : List ℕ) (at i : ℕ) (s
     done = rw (escape_cut part i k) (writes_then out₀ at₀ (escape (take i part)) at out (escape (take (i + k - i) (drop i part))) r out' s.done w);
   }
 
-  pub run_blocks : (k : ℕ) → i ≡ 16 * k → k < length part / 16 → (r : ℕ) (out' : List ℕ) → Writes out at (escape (take (i + 16 - i) (drop i part))) r out' → Running part out₀ at₀ out' r (16 * (k + 1))
-  run_blocks k e h r out' w =
-      let q : i + 16 ≡ 16 * (k + 1) = omega arith in
-      rw q at (run_turn 16 (omega arith) r out' w)
-
   pub run_end : (r : Ran) → r.used ≡ i → r.at ≡ at → RanIs part out₀ at₀ r out
   run_end r p q = record { few = omega (arith, s.few); writes = rw (p, q) s.done }
 
-pub run_all : (part out₀ : List ℕ) (at₀ : ℕ) (out : List ℕ) (at k : ℕ) → Running part out₀ at₀ out at (16 * k) → k ≡ length part / 16 → (r : Ran) → r.used ≡ 16 * (length part / 16) → r.at ≡ at → RanIs part out₀ at₀ r out
-run_all part out₀ at₀ out at k s e r p q = run_end part out₀ at₀ out at (16 * k) s r (p ∙ rw e) q
+-- chunk by chunk
+pub record Chunking (part out₀ : List ℕ) (at₀ : ℕ) (out : List ℕ) (at used : ℕ) (rest : List ℕ) : Type 0 where
+  pub run : Running part out₀ at₀ out at used
+  pub left : drop used part ≡ rest
+
+pub chunk_start : (part out : List ℕ) (at : ℕ) → Chunking part out at out at 0 part
+chunk_start part out at = record { run = run_start part out at; left = refl }
+
+module _ (part out₀ : List ℕ) (at₀ : ℕ) (out : List ℕ) (at used : ℕ) (rest : List ℕ) (s : Chunking part out₀ at₀ out at used rest) where
+  module _ (x rest' : List ℕ) (e : rest ≡ x ++ rest') (n : length x ≡ 16) where
+    chunk_long : 16 ≤ length part - used
+    chunk_long = omega (arith, n, length-drop used part, ap length (s.left ∙ e), length-append x rest')
+
+    chunk_front : take (used + 16 - used) (drop used part) ≡ x
+    chunk_front = let k : used + 16 - used ≡ 16 = omega arith in rw (k, s.left, e, ← n) (take-append_seam x rest')
+
+    chunk_rest : drop (used + 16) part ≡ rest'
+    chunk_rest = sym (drop-drop 16 used part) ∙ rw (s.left, e, ← n) (drop-append_seam x rest')
+
+    pub chunk_room : at₀ + length (escape part) ≤ length out₀ → at + length (escape x) ≤ length out
+    chunk_room l = rw chunk_front at (run_room part out₀ at₀ out at used s.run 16 chunk_long l)
+
+    pub chunk_turn : (r : ℕ) (out' : List ℕ) → Writes out at (escape x) r out' → Chunking part out₀ at₀ out' r (used + 16) rest'
+    chunk_turn r out' w = record {
+      run = run_turn part out₀ at₀ out at used s.run 16 chunk_long r out' (rw chunk_front w);
+      left = chunk_rest;
+    }
+
+  pub chunk_end : (r : Ran) → r.used ≡ used → r.at ≡ at → RanIs part out₀ at₀ r out
+  chunk_end r p q = run_end part out₀ at₀ out at used s.run r p q
 
 -- the first block, and what goes on
 module _ (l d : List ℕ) (at : ℕ) where

@@ -8,10 +8,9 @@ ghost use Rattle.mdr.specs.Escaping.{count_in};
 ghost use Rattle.mdr.specs.Escape.{escape_byte, escape};
 ghost use Rattle.mdr.specs.Frame.{head_of, pack_of};
 ghost use Rattle.mdr.specs.Told.{told_packed};
-ghost use Rattle.blocks.specs.Blocks.{Bare};
 ghost use Rattle.packing.specs.Escapes.{twins, parted, RanIs, MixedIs, framed};
 
-use blocks::{copy_block, is_bare, is_full, is_within, tally, tally_few};
+use blocks::{Part, copy_block, is_bare, is_full, is_within, tally, tally_few};
 use mdr::PackError;
 use words::copy_to;
 
@@ -55,6 +54,7 @@ fn pairs_of(part: &[u8]) -> [u16; 16]
     pairs
 }
 
+// Stays: two stores and no copy of two bytes, which would be a call.
 fn put_pairs(pairs: &[u16], out: &mut [u8], from: usize) -> usize
     requires { from + 2 * length pairs.now ≤ length out.old }
     ensures { Writes out.old from (parted pairs.now) result out.new }
@@ -88,25 +88,22 @@ struct Ran {
 }
 
 // Blocks of sixteen in which every byte is escaped, as long as there are such.
-// Stays: source, output and place side by side, as in every function that writes here; a struct of them would be made for each call.
+// Stays: source, output and place side by side, as in every function that writes here. A struct of them would hold the output as &mut, would
+// be made anew for each part, and its contracts would still speak of the output's old and new bytes.
 fn escape_run(src: &[u8], out: &mut [u8], from: usize) -> Ran
     requires { from + length (escape src.now) ≤ length out.old }
     ensures { RanIs src.now out.old from result out.new }
 {
-    let blocks = src.len() / 16;
+    let mut used = 0;
     let mut at = from;
-    for k in 0..blocks {
-        let i = 16 * k;
-        let part = &src[i..i + 16];
+    for part in src.chunks_exact(16) {
         if !is_full::<0x3C, 0x3E>(part) {
-            return Ran { used: i, at };
+            return Ran { used, at };
         }
         at = pair_block(part, out, at);
+        used += 16;
     }
-    Ran {
-        used: 16 * blocks,
-        at,
-    }
+    Ran { used, at }
 }
 
 // The first sixteen bytes, and, if every one of them was escaped, a run after them.
@@ -150,12 +147,7 @@ fn escape_at(src: &[u8], out: &mut [u8], from: usize) -> usize
 // ---- the frame
 
 // A payload, and whether it is known that none of its bytes is escaped.
-#[derive(Clone, Copy)]
-struct Payload<'a> {
-    bytes: &'a [u8],
-    bare: bool,
-    ghost unescaped: { Bare 0x3C 0x3E bytes.now bare },
-}
+type Payload<'a> = Part<'a, 0x3C, 0x3E>;
 
 fn write_payload(p: Payload, out: &mut [u8], at: usize) -> usize
     requires { at + length (escape p.bytes.now) ≤ length out.old }

@@ -7,6 +7,7 @@ use mathlib.Core.List.{List, ◌++◌}
 use native.Mathlib.Omega.{arith}
 use lib.ListN.{length, drop, length-drop}
 use lib.Seq.{drop-drop}
+use lib.Dec.{eqb}
 use borrow.Author.Tests.{eq-eqb, ne_eqb}
 use Rattle.laws.proofs.Choice.{split≤}
 use Rattle.laws.specs.Numbers.{be32}
@@ -20,14 +21,6 @@ use Rattle.pcap.specs.Records.{record_size}
 use Rattle.pcap.specs.Packets.{milliseconds, directed_packet}
 use Rattle.pcap.specs.Reading.{RecordIs}
 use Rattle.pcap.proofs.Laws.{number_front, too_short}
-
--- ---- a fraction of a second
-
-pub fraction_nano : (nano : Bool) (x : ℕ) → nano ≡ true → x / 1000000 ≡ cond nano (x / 1000000) (x / 1000)
-fraction_nano nano x q = rw q
-
-pub fraction_micro : (nano : Bool) (x : ℕ) → nano ≡ false → x / 1000 ≡ cond nano (x / 1000000) (x / 1000)
-fraction_micro nano x q = rw q
 
 -- ---- numbers after a place
 
@@ -68,13 +61,13 @@ module _ (x : Excerpt) where
     unfolding shown directed_packet
     packet_other g = record { shows = λ f s time. rw (way_is, ne_eqb way 0 (λ z. absurd (omega arith)), ne_eqb way 1 (λ z. absurd (omega arith))); held = tt }
 
-    pub packet_directed : way < 2 → (y : Excerpt) → After x 20 y → (r : Option Fragment) → H4Is y way r → RecordIs x r
+    pub packet_directed : way < 2 → (y : Excerpt) → After x 20 y → (r : Option Fragment) → H4Is y (cond (eqb way 1) 1 0) r → RecordIs x r
     unfolding directed_packet
     packet_directed g y a r m = record {
       shows = λ f s time.
           let d = m.shows f (after_stands x 20 y a h f s) time in
           rw (way_is, drop-drop 4 16 b, ← a.rest) (split≤ 1 way
-          (λ l. let z : way ≡ 1 = omega arith in rw (ne_eqb way 0 (λ y. absurd (omega arith)), eq-eqb way 1 z, ← z) d)
-          (λ l. let z : way ≡ 0 = omega arith in rw (eq-eqb way 0 z, ← z) d));
+          (λ l. let z : way ≡ 1 = omega arith in rw (ne_eqb way 0 (λ y. absurd (omega arith)), eq-eqb way 1 z) (rw (eq-eqb way 1 z) at d))
+          (λ l. let z : way ≡ 0 = omega arith in rw (eq-eqb way 0 z) (rw (ne_eqb way 1 (λ y. absurd (omega arith))) at d)));
       held = rw (after_end x 20 y a h) at m.held;
     }

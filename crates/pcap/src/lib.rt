@@ -9,7 +9,7 @@ ghost use Rattle.pcap.specs.Packets.{milliseconds};
 ghost use Rattle.pcap.specs.Reading.{RecordIs};
 
 use acl::{Excerpt, Fragment};
-use words::{get_be32, get_le32, same};
+use words::{get_be32, get_le32};
 
 // How the numbers of a file are written, by its magic: the highest byte first, fractions of a second in nanoseconds.
 #[derive(Clone, Copy)]
@@ -32,40 +32,35 @@ fn encoding_of(file: &[u8]) -> Option<Encoding>
     if file.len() < 24 {
         return None;
     }
-    let magic = &file[..4];
-    let (big, nano) = if same(magic, b"\xA1\xB2\xC3\xD4") {
-        (true, false)
-    } else if same(magic, b"\xA1\xB2\x3C\x4D") {
-        (true, true)
-    } else if same(magic, b"\xD4\xC3\xB2\xA1") {
-        (false, false)
-    } else if same(magic, b"\x4D\x3C\xB2\xA1") {
-        (false, true)
-    } else {
-        return None;
+    let (big, nano) = match get_be32(file, 0) {
+        0xA1B2C3D4 => (true, false),
+        0xA1B23C4D => (true, true),
+        0xD4C3B2A1 => (false, false),
+        0x4D3CB2A1 => (false, true),
+        _ => return None,
     };
     Some(Encoding { big, nano })
 }
 
-// The number at a place, by the byte order.
-pub fn get_number(file: &[u8], at: usize, big: bool) -> u32
-    requires { at + 4 ≤ length file.now }
-    ensures { result ≡ number big file.now at }
-{
-    if big {
-        return get_be32(file, at);
+impl Encoding {
+    // The number at a place, by the byte order.
+    pub fn number(self, file: &[u8], at: usize) -> u32
+        requires { at + 4 ≤ length file.now }
+        ensures { result ≡ number self.big file.now at }
+    {
+        if self.big {
+            return get_be32(file, at);
+        }
+        get_le32(file, at)
     }
-    get_le32(file, at)
 }
 
 // Reads the header: how numbers are written.
 pub fn read_header(file: &[u8]) -> Result<Encoding, HeaderError>
     ensures { result ≡ header_of file.now }
 {
-    let Some(encoding) = encoding_of(file) else {
-        return Err(HeaderError::NotPcap);
-    };
-    let n = get_number(file, 20, encoding.big);
+    let encoding = encoding_of(file).ok_or(HeaderError::NotPcap)?;
+    let n = encoding.number(file, 20);
     if n != 201 {
         return Err(HeaderError::LinkType(n));
     }
@@ -73,11 +68,12 @@ pub fn read_header(file: &[u8]) -> Result<Encoding, HeaderError>
 }
 
 // The size of the record at a place, from its front.
-pub fn record_size(file: &[u8], at: usize, big: bool) -> usize
+// Stays: a function, as time_at below, and no method of Encoding: btsnoop has both under these names, and trace calls the two alike.
+pub fn record_size(file: &[u8], at: usize, encoding: Encoding) -> usize
     requires { at + 12 ≤ length file.now }
-    ensures { result ≡ record_size big (drop at file.now) }
+    ensures { result ≡ record_size encoding.big (drop at file.now) }
 {
-    16 + get_number(file, at + 8, big) as usize
+    16 + encoding.number(file, at + 8) as usize
 }
 
 // The packet of a record: a direction, then H4.
@@ -90,7 +86,7 @@ pub fn read_packet(r: Excerpt) -> Option<Fragment>
     }
     let way = get_be32(r.bytes, 16);
     if way < 2 {
-        return r.after(20).read_h4(way);
+        return r.after(20).read_h4(way == 1);
     }
     None
 }
@@ -110,8 +106,7 @@ pub fn time_at(file: &[u8], at: usize, encoding: Encoding) -> u64
     requires { at + 8 ≤ length file.now }
     ensures { result ≡ milliseconds encoding.big encoding.nano (drop at file.now) }
 {
-    let big = encoding.big;
-    let seconds = get_number(file, at, big);
-    let rest = fraction_of(get_number(file, at + 4, big), encoding.nano);
+    let seconds = encoding.number(file, at);
+    let rest = fraction_of(encoding.number(file, at + 4), encoding.nano);
     1000 * (seconds as u64) + rest
 }

@@ -2,6 +2,7 @@
 use Prim.Native.Nat.{ℕ, ◌*◌, ◌/◌, ◌<◌, ◌≤◌}
 use mathlib.Core.Path.{◌≡◌, refl, subst, ◌∙◌}
 use mathlib.Core.Bool.{true}
+use mathlib.Core.Logic.{⊎_elim}
 use mathlib.Core.List.{List, [], ◌∷◌}
 use native.Mathlib.Omega.{arith}
 use lib.ListN.{length}
@@ -13,13 +14,12 @@ use Rattle.trace.specs.Formats.{container_of}
 use Rattle.trace.specs.Headers.{told_refusal}
 use Rattle.trace.proofs.Formats.{lawful}
 use Rattle.trace.specs.declared.Container.{Container}
-use Rattle.trace.specs.declared.Container.TheVariants.{Btsnoop}
 use Rattle.trace.specs.declared.Refusal.{Refusal}
 use Rattle.trace.specs.declared.Refusal.TheVariants.{FileLong, WorkShort, NotBtsnoop, Datalink, NotPcap, LinkType, Truncated}
 use Rattle.options.specs.Numbers.{container_in}
-use Rattle.options.proofs.Numbers.{container_two}
 use Rattle.outcome.specs.Import.{Options, file_pieces, fits, work_suffices, places_suffice, imported, imported_in}
 use Rattle.outcome.proofs.Import.{same_in}
+use Rattle.opening.specs.Opening.{Sized, Unsized}
 use Rattle.cut.specs.Claim.{CutClaim}
 use Rattle.cut.proofs.Theorem.{cut_claim}
 use Rattle.split.specs.Rows.{Laid}
@@ -37,7 +37,7 @@ use Rattle.stretches.specs.Listing.{SpreadPre, OpenListed}
 use Rattle.stretches.specs.declared.Stretch.{Stretch}
 use Rattle.telling.specs.Telling.{Told}
 use Rattle.telling.proofs.TellLaws.{calls}
-use Rattle.imports.specs.Numbers.{options_in, options_number, AsOptions}
+use Rattle.imports.specs.Numbers.{options_in, AsOptions}
 use Rattle.places.specs.Places.{suffices, open_on, file_stretches, listed_by, summed, listed_of, ImportsIn, ToldIn}
 use Rattle.places.specs.declared.Placed.{Placed}
 
@@ -70,25 +70,28 @@ module _ (b : Container) (f w : List ℕ) (places : ℕ) (o : Options) (out : Li
   unfolding stretches_to listed_by
   refused_in r n e m = record { meets = m; spared = λ e. refl; list = rw e; few = omega arith; cut = cut_in r out m }
 
-  pub in_long : 1048576 < length f → ImportsIn b f w places o out (Err (Refused FileLong)) 0 w out
+  in_long : 1048576 < length f → ImportsIn b f w places o out (Err (Refused FileLong)) 0 w out
   unfolding imported_in fits
   in_long h = refused_in (Err (Refused FileLong)) 1 refl (meets_refused O out 1 [] (rw (lt-leb (length f) 1048576 h)))
 
-  pub in_short : length f ≤ 1048576 → length w < 8 * length f → ImportsIn b f w places o out (Err (Refused WorkShort)) 0 w out
+  in_short : length f ≤ 1048576 → length w < 8 * length f → ImportsIn b f w places o out (Err (Refused WorkShort)) 0 w out
   unfolding imported_in imported fits work_suffices
   in_short h g = refused_in (Err (Refused WorkShort)) 2 refl (meets_refused O out 2 [] (split_b (places_suffice f places) (λ e. rw (le-leb (length f) 1048576 h, lt-leb (8 * length f) (length w) g, e)) (λ e. rw (le-leb (length f) 1048576 h, lt-leb (8 * length f) (length w) g, e))))
+
+  pub in_unsized : (x : Refusal) → Unsized f w x → ImportsIn b f w places o out (Err (Refused x)) 0 w out
+  in_unsized x s = ⊎_elim (λ l. rw l.1 (in_long l.0)) (λ l. rw l.2 (in_short l.0 l.1)) s
 
   pub in_few : length f ≤ 1048576 → places < length f / 24 → ImportsIn b f w places o out (Err (Refused WorkShort)) 0 w out
   unfolding imported_in fits places_suffice
   in_few h g = refused_in (Err (Refused WorkShort)) 2 refl (meets_refused O out 2 [] (rw (le-leb (length f) 1048576 h, lt-leb (length f / 24) places g)))
 
   -- after an import
-  module _ (h : length f ≤ 1048576) (g : 8 * length f ≤ length w) (k : length f / 24 ≤ places) (r : Imported) (v out' : List ℕ) (m : Imports b f w o out r v out') where
+  module _ (size : Sized f w) (k : length f / 24 ≤ places) (r : Imported) (v out' : List ℕ) (m : Imports b f w o out r v out') where
     in_met : (listed : ℕ) (w' : List ℕ) → stretches_to w' listed ≡ listed_by (told_imported r) (file_stretches b f o) → listed ≤ length f / 24 → ImportsIn b f w places o out r listed w' out'
     unfolding fits work_suffices places_suffice suffices
     in_met listed w' l n =
         let q : places_suffice f places ≡ true = le-leb (length f / 24) places k in
-        let s : suffices f (length w) places ≡ true = rw (le-leb (length f) 1048576 h, le-leb (8 * length f) (length w) g, le-leb (length f / 24) places k) in
+        let s : suffices f (length w) places ≡ true = rw (le-leb (length f) 1048576 size.small, le-leb (8 * length f) (length w) size.room, le-leb (length f / 24) places k) in
         let p = meets_as O (imported (container_of b) f (length w) o) out (same_in (container_of b) f (length w) places o q) m.meets in
         record { meets = p; spared = λ e. no_way s e; list = l; few = omega (arith, n); cut = cut_in r out' p }
 
@@ -103,7 +106,7 @@ module _ (b : Container) (f w : List ℕ) (places : ℕ) (o : Options) (out : Li
       left = m.left.at s q
 
       pub in_plan : (length f / 4 ≤ 1048576) × (s.pieces ≤ 1048576)
-      in_plan = (omega (arith, h), omega (arith, h, left.few))
+      in_plan = (omega (arith, size.small), omega (arith, size.small, left.few))
 
       module _ (p : Plan) (ep : p ≡ plan_of (length f / 4) s.pieces s.stream.dlci) where
         laid : Laid f v p
@@ -156,10 +159,3 @@ module _ (l : List ℕ) (o : code.Options) (a : AsOptions l o) (f w : List ℕ) 
 
   pub told_error : (y : ImportError) → x ≡ Err y → Told (told_imported (Err y)) v r v' → ToldIn (container_in l) f w places out (options_in l) v r 0 w' out' v'
   told_error y e t = told_in l o a f w places out (Err y) 0 w' out' (rw e at m) v r v' t
-
--- by two numbers
-pub told_two :
-    (channel tolerant : ℕ) (f w : List ℕ) (places : ℕ) (out v : List ℕ) (r listed : ℕ) (w' out' v' : List ℕ) →
-    ToldIn (container_in (channel ∷ tolerant ∷ [])) f w places out (options_in (channel ∷ tolerant ∷ [])) v r listed w' out' v' → ToldIn Btsnoop f w places out (options_number channel tolerant) v r listed w' out' v'
-told_two channel tolerant f w places out v r listed w' out' v' m =
-    subst (λ (b : Container). ToldIn b f w places out (options_number channel tolerant) v r listed w' out' v') (container_two channel tolerant) m

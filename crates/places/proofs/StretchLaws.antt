@@ -1,13 +1,16 @@
 -- What a caller gets of an import with a lent list of stretches.
 use Prim.Native.Nat.{ℕ, ◌≤◌}
-use mathlib.Core.Path.{◌≡◌, ap, sym, ◌∙◌}
+use mathlib.Core.Path.{◌≡◌, ap, subst, sym, ◌∙◌}
 use mathlib.Core.Bool.{true, false}
-use mathlib.Core.List.{List}
+use mathlib.Core.List.{List, [], ◌∷◌}
 use lib.ListN.{length}
 use Rattle.laws.specs.Answers.{Answer, accepted, refused, answer}
 use Rattle.laws.proofs.Choice.{split_b, no_way}
 use Rattle.trace.specs.Formats.{container_of}
 use Rattle.trace.specs.declared.Container.{Container}
+use Rattle.trace.specs.declared.Container.TheVariants.{Btsnoop}
+use Rattle.options.specs.Numbers.{container_in}
+use Rattle.options.proofs.Numbers.{container_two}
 use Rattle.outcome.specs.Import.{Options, fits, work_suffices, places_suffice, imported, imported_in}
 use Rattle.outcome.proofs.Import.{same_in}
 use Rattle.places.specs.Places.{suffices, file_stretches, places_after, listed_by, ToldIn}
@@ -15,6 +18,7 @@ use Rattle.stretches.specs.Filled.{filled, stretches_to}
 use Rattle.stretches.proofs.Filling.{filled_is, length_to}
 use Rattle.stretches.specs.declared.Stretch.{Stretch}
 use Rattle.imports.specs.Imports.{ImportCalls}
+use Rattle.imports.specs.Numbers.{options_in, options_number}
 use Rattle.places.specs.Stretches.{StretchCalls}
 
 -- the places filled from a list in words are those after the answer
@@ -36,6 +40,14 @@ stretch_calls b f w s out o v r listed w' out' v' m s' e = record {
   places = e ∙ places_are (answer (imported_in (container_of b) f (length w) (length s) o) (length out)) (file_stretches b f o) s w' listed m.few m.list;
   cut = m.cut;
 }
+
+-- by two numbers
+pub stretch_two :
+    (channel tolerant : ℕ) (l : List ℕ) → l ≡ channel ∷ tolerant ∷ [] → (f w : List ℕ) (s : List Stretch) (out v : List ℕ) (r : ℕ) (w' : List ℕ) (s' : List Stretch) (out' v' : List ℕ) →
+    StretchCalls (container_in l) f w s out (options_in l) v r w' s' out' v' → StretchCalls Btsnoop f w s out (options_number channel tolerant) v r w' s' out' v'
+stretch_two channel tolerant l e f w s out v r w' s' out' v' m =
+    subst (λ (b : Container). StretchCalls b f w s out (options_number channel tolerant) v r w' s' out' v') (container_two channel tolerant)
+    (subst (λ (k : List ℕ). StretchCalls (container_in k) f w s out (options_in k) v r w' s' out' v') e m)
 
 -- After 1 and 2 the places are as they were.
 pub places_spared :

@@ -3,13 +3,13 @@
 #![tactic(auto)]
 
 ghost use Rattle.capture.specs.Options.{options_of};
-ghost use Rattle.trace.specs.declared.Container.TheVariants.{Btsnoop};
 ghost use Rattle.options.specs.Numbers.{container_in};
-ghost use Rattle.imports.specs.Numbers.{options_in, options_number};
+ghost use Rattle.imports.specs.Numbers.{options_in};
 ghost use Rattle.places.specs.Places.{ImportsIn, ToldIn, summed, listed_of};
 
 use capture::{ImportError, Options, Summary, import};
 use imports::options_in;
+use opening::check_sizes;
 use streams::plan;
 use stretches::list_open;
 use telling::Tell;
@@ -46,22 +46,6 @@ pub fn places_told(
     }
 }
 
-// The same for a btsnoop file, by two options.
-pub fn places_by(
-    file: &[u8],
-    work: &mut [u8],
-    out: &mut [u8],
-    channel: u32,
-    tolerant: u32,
-    values: &mut [u64],
-    places: usize,
-) -> Told
-    ensures { ToldIn Btsnoop file.now work.old places out.old (options_number channel tolerant) values.old result.number result.listed work.new out.new values.new }
-{
-    let options = [channel as u64, tolerant as u64];
-    places_told(file, work, out, &options, values, places)
-}
-
 // What import gives, and how many stretches stand at the start of work.
 #[derive(Clone, Copy)]
 pub struct Placed {
@@ -79,13 +63,9 @@ pub fn import_places(
 ) -> Result<Placed, ImportError>
     ensures { ImportsIn options.container file.now work.old places (options_of options) out.old (summed result) (listed_of result) work.new out.new }
 {
+    // Stays: import refuses these sizes too; here they come before the places, which are asked before import is run.
+    check_sizes(file, work)?;
     let n = file.len();
-    if 1048576 < n {
-        return Err(ImportError::Refused(Refusal::FileLong));
-    }
-    if work.len() < 8 * n {
-        return Err(ImportError::Refused(Refusal::WorkShort));
-    }
     if places < n / 24 {
         return Err(ImportError::Refused(Refusal::WorkShort));
     }

@@ -1,11 +1,10 @@
 -- The signs of the records counted in one pass.
 use Rattle.std.specs.Prelude.{Option, Some, None}
-use Prim.Native.Nat.{ℕ, ◌+◌, ◌-◌, ◌<◌, ◌≤◌}
+use Prim.Native.Nat.{ℕ, ◌+◌, ◌-◌, ◌≤◌}
 use mathlib.Core.Path.{◌≡◌, ap, ◌∙◌}
 use mathlib.Core.Bool.{Bool, true, false}
 use mathlib.Core.List.{List}
 use native.Mathlib.Omega.{arith}
-use borrow.Author.Tests.{lt-ltb, le-ltb}
 use Rattle.acl.specs.Reading.{between}
 use Rattle.trace.proofs.Formats.{head_least}
 use Rattle.trace.specs.Reader.{Starts}
@@ -20,27 +19,9 @@ use Rattle.signs.specs.Gaps.{record_gaps}
 use Rattle.signs.specs.Counting.{noted}
 use Rattle.signs.proofs.Places.{rest_at, rest_start, rest_turn, rest_none}
 use Rattle.signs.specs.declared.Gap.{Gap}
-use Rattle.recorded.specs.Looking.{recorded_of, noted_if, noted_rise, looked, looked_all, unseen, Risen, Bounded, Looks}
+use Rattle.recorded.specs.Looking.{recorded_of, noted_if, looked, looked_all, no_gap, unseen, Risen, Bounded, Looks}
 use Rattle.recorded.specs.declared.Seen.{Seen}
 use Rattle.recorded.proofs.Tallies.{all_gaps}
-
--- ---- one sign
-
-pub noted_shows : (shows : Bool) (g : Gap) (at : ℕ) → shows ≡ true → (r : Gap) → r ≡ noted g 1 at → r ≡ noted_if shows g at
-unfolding noted_if
-noted_shows shows g at q r e = rw q e
-
-pub noted_not : (shows : Bool) (g : Gap) (at : ℕ) → shows ≡ false → g ≡ noted_if shows g at
-unfolding noted_if
-noted_not shows g at q = rw q
-
-pub rise_more : (before here : ℕ) (g : Gap) (at : ℕ) → before < here → here < 4294967296 → (r : Gap) → r ≡ noted g (here - before) at → Risen before here g at r
-unfolding noted_rise noted
-rise_more before here g at h s r e = record { is = rw (lt-ltb before here h) e; most = rw e (omega arith) }
-
-pub rise_none : (before here : ℕ) (g : Gap) (at : ℕ) → here ≤ before → Risen before here g at g
-unfolding noted_rise
-rise_none before here g at h = record { is = rw (le-ltb before here h); most = omega arith }
 
 -- ---- one record
 
@@ -77,12 +58,17 @@ pub record Looking (t : Trace) (s : Seen) (q : Reader) : Type 0 where
   pub bounded : Bounded s q.at
   pub same : looked_all t.format s (rest_at t.format t.file.now q.at) ≡ looked_all t.format unseen (records_at t.format t.file.now)
 
-pub looking_start : (t : Trace) (q : Reader) → Starts t q → Looking t unseen q
-looking_start t q h = record {
+start_unseen : (t : Trace) (q : Reader) → Starts t q → Looking t unseen q
+start_unseen t q h = record {
   trace = h.trace;
   bounded = record { short = omega arith; dropped = omega arith; skipped = omega arith; zeros = omega arith };
   same = rw (h.at, rest_start t.format t.file.now);
 }
+
+pub looking_start :
+    (t : Trace) (q : Reader) → Starts t q → (a b c d : Gap) (n : ℕ) → a ≡ no_gap → b ≡ no_gap → c ≡ no_gap → d ≡ no_gap → n ≡ 0 →
+    Looking t (record { signs = record { short = a; dropped = b; skipped = c; zeros = d }; last = n }) q
+looking_start t q h a b c d n ea eb ec ed en = rw (ea, eb, ec, ed, en) (start_unseen t q h)
 
 module _ (t : Trace) (q : Reader) (s : Seen) (l : Looking t s q) where
   module _ (x : Option Record) (z : Reader) (h : Reads q x z) where

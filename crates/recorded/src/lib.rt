@@ -7,13 +7,12 @@ ghost use Rattle.signs.specs.Recorded.{is_short, is_skipped, is_zeros, drops};
 ghost use Rattle.signs.specs.Gaps.{record_gaps};
 ghost use Rattle.recorded.specs.Looking.{recorded_of, Readable, noted_if, GapPre, Risen, Bounded, Looks};
 
-use pcap::get_number;
 use signs::{Gap, is_acl, lacks_packet, note};
 use trace::{Format, Record, Trace};
 use words::get_be32;
 
 // The signs: records stored short, the recorder's drops, ACL packets skipped because data is not there, records of zeros.
-#[derive(Clone, Copy)]
+#[derive(Clone, Copy, Default)]
 pub struct Recorded {
     pub short: Gap,
     pub dropped: Gap,
@@ -22,24 +21,27 @@ pub struct Recorded {
 }
 
 // The signs up to a place, and the recorder's count in the last record before it.
-#[derive(Clone, Copy)]
+#[derive(Clone, Copy, Default)]
 struct Seen {
     signs: Recorded,
     last: u32,
 }
 
 // Whether a record is stored short.
+#[tactic(auto, unfolding(signs::specs::Recorded::is_short))]
 fn is_short(r: Record) -> bool
     ensures { result ≡ is_short r.entry.trace.format (bytes_of r.entry) }
 {
     let bytes = r.bytes();
     match r.trace.format {
         Format::Btsnoop(_) => get_be32(bytes, 4) < get_be32(bytes, 0),
-        Format::Pcap(e) => get_number(bytes, 8, e.big) < get_number(bytes, 12, e.big),
+        Format::Pcap(e) => e.number(bytes, 8) < e.number(bytes, 12),
     }
 }
 
 // The packets that the recorder dropped up to a record. A pcap file does not say.
+// Stays: 0 and no Option for a pcap file. The definition has 0 there, a count that never rises, and an Option would be made 0 in `look_at`.
+#[tactic(auto, unfolding(signs::specs::Recorded::drops))]
 fn drops_of(r: Record) -> u32
     ensures { result ≡ drops r.entry.trace.format (bytes_of r.entry) }
 {
@@ -50,6 +52,7 @@ fn drops_of(r: Record) -> u32
 }
 
 // Whether it is ACL data and holds no packet that import takes.
+#[tactic(auto, unfolding(signs::specs::Recorded::is_skipped))]
 fn is_skipped(r: Record) -> bool
     ensures { result ≡ is_skipped r.entry.trace.format (bytes_of r.entry) }
 {
@@ -64,6 +67,7 @@ fn is_zeros(bytes: &[u8]) -> bool
 }
 
 // A sign that comes once more, at a place, if the record there shows it.
+#[tactic(auto, unfolding(crate::specs::Looking::noted_if))]
 fn note_if(shows: bool, g: Gap, at: usize) -> Gap
     requires { GapPre g }
     ensures { result ≡ noted_if shows g at }
@@ -75,6 +79,7 @@ fn note_if(shows: bool, g: Gap, at: usize) -> Gap
 }
 
 // The recorder's drops with those that the record at a place shows: as many as its count is over the one before.
+#[tactic(auto, unfolding(crate::specs::Looking::noted_rise, signs::specs::Counting::noted))]
 fn note_rise(before: u32, here: u32, g: Gap, at: usize) -> Gap
     requires { GapPre g }
     ensures { Risen before here g at result }
@@ -106,16 +111,7 @@ pub fn record_signs(trace: Trace) -> Recorded
     requires { Readable trace.file.now }
     ensures { recorded_of result ≡ record_gaps trace.entry.format trace.entry.file.now }
 {
-    let none = Gap { many: 0, first: 0 };
-    let mut s = Seen {
-        signs: Recorded {
-            short: none,
-            dropped: none,
-            skipped: none,
-            zeros: none,
-        },
-        last: 0,
-    };
+    let mut s = Seen::default();
     for r in trace.records() {
         s = look_at(r, s);
     }

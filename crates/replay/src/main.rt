@@ -10,6 +10,7 @@ ghost use Rattle.std.specs.Io.KnownBytes.{Appends};
 ghost use Rattle.replay.specs.Lines.{sample_line};
 
 use reading::read_full;
+use samples::Cases;
 use std::fs::File;
 use std::io::{Eprint, Print, Write};
 use std::rt::Files;
@@ -26,14 +27,11 @@ fn replay(s: &[u8], work: &mut [u8], space: &mut [u8]) -> Totals
     ensures cases { result.cases ≤ length s.now }
     ensures differences { result.differences ≤ result.cases }
 {
-    let mut cases: u64 = 0;
-    let mut differences: u64 = 0;
-    let mut at: usize = 0;
-    while at < s.len() {
-        let r = cases::replay_case(s, at, work, space);
+    let mut cases = 0;
+    let mut differences = 0;
+    for case in Cases::new(s) {
         cases += 1;
-        differences += samples::one_unless(r.same);
-        at = samples::next(at, r.end, s.len());
+        differences += u64::from(!cases::is_same(case, work, space));
     }
     Totals { cases, differences }
 }
@@ -56,7 +54,7 @@ fn print<W: Write>(out: &mut W, stem: &str, t: Totals) -> io::Result<()>
 
 // Replays an open file, and prints its line under a name.
 fn replay_open<R: Files + Print>(rt: &R, name: &str, mut open: R::File) -> io::Result<()> {
-    let mut file = samples::room();
+    let mut file = [0u8; samples::ROOM];
     let got = read_full(&mut open, &mut file)?;
     let mut work = [0u8; 65536];
     let mut space = [0u8; 65536];

@@ -21,12 +21,12 @@ use Rattle.channels.specs.Channels.{any, is_tried, asks_rfcomm, asks_session}
 use Rattle.channels.specs.ChannelTable.{Tells}
 use Rattle.channels.specs.Passing.{Judged}
 use Rattle.channels.proofs.Walk.{asks_is}
-use Rattle.uih.specs.Frames.{Uih as UihFrame, Frame as FrameRead, sabm, uih, wrong_fcs, other, frame_of}
+use Rattle.uih.specs.Frames.{Frame as FrameRead, sabm, uih, wrong_fcs, other, frame_of}
 use Rattle.rfcomm.specs.Pieces.{carries, passed, uih_kind, frame_kind, kind_of}
 use Rattle.uih.specs.Reading.{uih_at, frame_shown, seen, UihLies, FrameIs}
 use Rattle.uih.specs.declared.Uih.{Uih}
 use Rattle.uih.specs.declared.Frame.{Frame}
-use Rattle.uih.specs.declared.Frame.TheVariants.{Sabm, Uih as Found, WrongFcs, Other}
+use Rattle.uih.specs.declared.Frame.TheVariants.{Uih as Found}
 use Rattle.rfcomm.specs.declared.Info.{Info}
 use Rattle.rfcomm.specs.declared.Verdict.{Verdict}
 use Rattle.rfcomm.specs.declared.Verdict.TheVariants.{Asks, Opens, Carries, Wrong, Passed}
@@ -68,43 +68,11 @@ kind_seen true (wrong_fcs u) = refl
 kind_seen false (wrong_fcs u) = refl
 kind_seen fcs other = refl
 
-not_wrong : ◌≡◌ {A = ℕ} 0 1 → ⊥
-not_wrong z = omega arith
-
--- a wrong FCS is told only where it is checked
-seen_checked : (fcs : Bool) (x : FrameRead) (u : UihFrame) → seen fcs x ≡ wrong_fcs u → fcs ≡ true
-unfolding seen
-seen_checked true x u e = refl
-seen_checked false (sabm d) u e = absurd (not_wrong cc)
-seen_checked false (uih v) u e = absurd (not_wrong cc)
-seen_checked false (wrong_fcs v) u e = absurd (not_wrong cc)
-seen_checked false other u e = absurd (not_wrong cc)
-
-module _ (fcs : Bool) (p : Pdu) (x : Frame) (is : FrameIs fcs p.payload.now x) where
-  frame_as : (y : Frame) → x ≡ y → FrameIs fcs p.payload.now y
-  frame_as y e = rw e at is
-
-  kind_as : (y : Frame) → x ≡ y → frame_kind fcs (frame_of p.payload.now) ≡ frame_kind fcs (frame_shown p.payload.now y)
-  kind_as y e = kind_seen fcs (frame_of p.payload.now) ∙ ap (frame_kind fcs) (frame_as y e).shows
-
-  pub verdict_sabm : (d : ℕ) → x ≡ Sabm d → FrameVerdict fcs p (Opens d)
-  unfolding frame_shown kind_in frame_kind
-  verdict_sabm d e = record { shows = kind_as (Sabm d) e; borne = (frame_as (Sabm d) e).lies }
-
-  pub verdict_other : x ≡ Other → FrameVerdict fcs p Passed
-  unfolding frame_shown kind_in frame_kind
-  verdict_other e = record { shows = kind_as Other e; borne = tt }
-
-  module _ (u : Uih) where
-    pub verdict_uih : x ≡ Found u → (r : Verdict) → r ≡ placed_uih p u → FrameVerdict fcs p r
-    unfolding frame_shown frame_kind
-    verdict_uih e = verdict_placed fcs p u (frame_as (Found u) e).lies (kind_as (Found u) e)
-
-    pub verdict_wrong : x ≡ WrongFcs u → FrameVerdict fcs p (Wrong u.dlci)
-    unfolding frame_shown kind_in frame_kind uih_at
-    verdict_wrong e =
-        let z : fcs ≡ true = seen_checked fcs (frame_of p.payload.now) (uih_at p.payload.now u) (frame_as (WrongFcs u) e).shows in
-        record { shows = kind_as (WrongFcs u) e ∙ rw z; borne = tt }
+pub verdict_uih : (fcs : Bool) (p : Pdu) (x : Frame) → FrameIs fcs p.payload.now x → (u : Uih) → x ≡ Found u → (r : Verdict) → r ≡ placed_uih p u → FrameVerdict fcs p r
+unfolding frame_shown frame_kind
+verdict_uih fcs p x is u e =
+    let y : FrameIs fcs p.payload.now (Found u) = rw e at is in
+    verdict_placed fcs p u y.lies (kind_seen fcs (frame_of p.payload.now) ∙ ap (frame_kind fcs) y.shows)
 
 -- ---- the PDU of a row
 
@@ -169,9 +137,5 @@ module _
     }
 
 -- what a verdict says of its numbers
-module _ (fcs : Bool) (f w : List ℕ) (row b n : ℕ) (v : Verdict) (is : VerdictIs fcs f w row b n v) where
-  pub opens_small : (d : ℕ) → v ≡ Opens d → d < 64
-  opens_small d e = rw e at is.borne
-
-  pub carries_held : (i : Info) → v ≡ Carries i → Carried w row i
-  carries_held i e = rw e at is.borne
+pub carries_held : (fcs : Bool) (f w : List ℕ) (row b n : ℕ) (v : Verdict) → VerdictIs fcs f w row b n v → (i : Info) → v ≡ Carries i → Carried w row i
+carries_held fcs f w row b n v is i e = rw e at is.borne

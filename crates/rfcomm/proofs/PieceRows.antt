@@ -6,7 +6,7 @@ use mathlib.Core.List.{List, [], ◌∷◌, ◌++◌}
 use native.Mathlib.Omega.{arith}
 use lib.ListN.{length, get_or, take, drop}
 use lib.Dec.{eqb}
-use Rattle.words.specs.Words.{word, long, put_word, put_long}
+use Rattle.words.specs.Words.{word, long}
 use Rattle.words.proofs.Front.{front_part, front_word}
 use Rattle.words.specs.Rows.{put_words}
 use Rattle.words.proofs.Rows.{front_puts, word_puts, long_puts, puts_append}
@@ -59,23 +59,6 @@ module _ (f w : List ℕ) (at : ℕ) (p : Part) (t : ℕ) (pre : PutPre w at p) 
 pub row_long : (p : Part) (t : ℕ) → length (row_of p t) ≡ 8
 unfolding row_of stretch_of bytes_of
 row_long p t = refl
-
-pub put_stretch : (w : List ℕ) (at : ℕ) (p : Part) (n : ℕ) (a b c u : List ℕ) → n ≡ p.sessions + 65536 * p.links →
-    a ≡ put_word w at p.dlci → b ≡ put_word a (at + 1) p.way → c ≡ put_word b (at + 2) p.cid → u ≡ put_word c (at + 3) n → u ≡ put_words w at (stretch_of p)
-unfolding put_words stretch_of
-put_stretch w at p n a b c u en pa pb pc pu =
-    let k1 : at + 1 ≡ suc at = omega arith in
-    let k2 : at + 2 ≡ suc (suc at) = omega arith in
-    let k3 : at + 3 ≡ suc (suc (suc at)) = omega arith in
-    pu ∙ rw (pc, pb, pa, en, k1, k2, k3)
-
-pub put_bytes : (w : List ℕ) (at start size t : ℕ) (a b u : List ℕ) → a ≡ put_word w at start → b ≡ put_word a (at + 1) size → u ≡ put_long b (at + 2) t → u ≡ put_words w at (bytes_of start size t)
-unfolding put_words bytes_of put_long
-put_bytes w at start size t a b u pa pb pu =
-    let k1 : at + 1 ≡ suc at = omega arith in
-    let k3 : at + 2 + 1 ≡ suc (suc (suc at)) = omega arith in
-    let k2 : at + 2 ≡ suc (suc at) = omega arith in
-    pu ∙ rw (pb, pa, k3, k1, k2)
 
 bit_of : (b : Bool) → from_bool b ≡ cond b 1 0
 bit_of true = refl

@@ -35,6 +35,7 @@ fn pair(lo: u32, hi: u32) -> u32
 }
 
 // Writes the first words of a piece's row: DLCI, stretch and direction.
+#[tactic(auto, unfolding(words::specs::Rows::put_words, crate::specs::PieceRows::stretch_of))]
 fn put_stretch(w: &mut [u8], at: usize, p: Part)
     requires { PutPre w.old at p }
     ensures { w.new ≡ put_words w.old at (stretch_of p) }
@@ -47,6 +48,7 @@ fn put_stretch(w: &mut [u8], at: usize, p: Part)
 }
 
 // Writes the other words of a piece's row, from word at on: its information and time.
+#[tactic(auto, unfolding(words::specs::Rows::put_words, words::specs::Words::put_long, crate::specs::PieceRows::bytes_of))]
 fn put_bytes(w: &mut [u8], at: usize, start: u32, size: u32, time: u64)
     requires { 4 * at + 16 ≤ length w.old }
     ensures { w.new ≡ put_words w.old at (bytes_of start size time) }
@@ -67,6 +69,8 @@ pub fn put_piece(w: &mut [u8], at: usize, p: Part, time: u64)
 }
 
 // Information in the file, or in work where it is joined.
+// Stays: no ghost fields for the bounds of dlci, start and len that `gathering` asks in three clauses. That start is below 2^32 comes of the file's
+// length, of which a PDU tells nothing, and `count_key` is asked of the DLCI of `Opens` too: two of the three would be asked all the same.
 #[derive(Clone, Copy)]
 pub struct Info {
     pub dlci: u32,
@@ -107,6 +111,7 @@ fn place_uih(p: Pdu, u: Uih) -> Verdict
 }
 
 // What the frame in the payload of a PDU is, with FCS checked or not.
+#[tactic(auto, unfolding(crate::specs::Judging::kind_in, crate::specs::Pieces::frame_kind, uih::specs::Reading::frame_shown, uih::specs::Reading::seen, uih::specs::Reading::uih_at))]
 fn judge_frame(p: Pdu, fcs: bool) -> Verdict
     ensures { FrameVerdict fcs p.entry result }
 {
@@ -119,14 +124,8 @@ fn judge_frame(p: Pdu, fcs: bool) -> Verdict
 }
 
 // What the PDU of a row is, by the channels of the whole file. q is a quarter of the file's length.
-pub fn judge<'a>(
-    file: &'a [u8],
-    w: &'a [u8],
-    row: usize,
-    q: usize,
-    rows: usize,
-    fcs: bool,
-) -> Verdict
+// Stays: q, beside the file: what is asked and promised holds for each q, so that one of the file's length would serve fewer callers.
+pub fn judge(file: &[u8], w: &[u8], row: usize, q: usize, rows: usize, fcs: bool) -> Verdict
     requires { JudgePre file.now w.now row q rows }
     ensures { VerdictIs fcs file.now w.now row (3 * q) rows result }
 {

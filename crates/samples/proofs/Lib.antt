@@ -1,2 +1,1 @@
-pub mod Filling
-pub mod Places
+pub mod Comparing

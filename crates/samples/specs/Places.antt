@@ -1,15 +1,16 @@
 -- How a sample is laid out: what is read at a place. What lies past the end of the file reads as 0, and a part that passes it as empty.
-use Rattle.std.specs.Prelude.{ℕ, ◌+◌, ◌*◌, cond, Option, None, Some, List, [], length, get_or, take, drop, leb, eqb}
+use Rattle.std.specs.Prelude.{ℕ, ◌+◌, ◌-◌, ◌*◌, ◌^◌, ◌≡◌, ◌<◌, ◌≤◌, MatchOption, min, cond, Option, None, Some, List, [], length, get_or, take, drop, leb, eqb}
 use Rattle.laws.specs.Numbers.{le32, le64}
 use Rattle.samples.specs.declared.Op.{Op}
 use Rattle.samples.specs.declared.Op.TheVariants.{Unpack, Pack, FixtureName, IsCommandName, Plan, CaptureOrder, ImportStrict, Import}
-use Rattle.samples.specs.declared.Counted.{Counted}
 use Rattle.samples.specs.declared.Call.{Call}
 use Rattle.samples.specs.declared.Answer.{Answer}
+use Rattle.samples.specs.declared.Case.{Case}
+use Rattle.samples.specs.declared.Cases.{Cases}
 
 -- the sum, or the largest number of 64 bits if it is larger
-unfoldable pub capped : ℕ → ℕ → ℕ
-capped a b = cond (leb (a + b) 18446744073709551615) (a + b) 18446744073709551615
+abbrev pub capped : ℕ → ℕ → ℕ
+capped a b = min (a + b) (2 ^ 64 - 1)
 
 unfoldable pub word_at : List ℕ → ℕ → ℕ
 word_at s at = cond (leb (at + 4) (length s)) (le32 s at) 0
@@ -20,7 +21,15 @@ long_at s at = cond (leb (at + 8) (length s)) (le64 s at) 0
 unfoldable pub part_at : List ℕ → ℕ → ℕ → List ℕ
 part_at s at size = cond (leb (at + size) (length s)) (take size (drop at s)) []
 
--- bytes with their length before them
+-- bytes with their length before them: where they stand, how many there are, and the place after them
+pub record Counted : Type 0 where
+  pub start : ℕ
+  pub size : ℕ
+  pub end : ℕ
+
+abbrev pub bytes_of : List ℕ → Counted → List ℕ
+bytes_of s c = part_at s c.start c.size
+
 unfoldable pub counted_at : List ℕ → ℕ → Counted
 counted_at s at = record { start = capped at 4; size = word_at s at; end = capped (capped at 4) (word_at s at) }
 
@@ -64,28 +73,57 @@ second_at s (Some ImportStrict) at = no_bytes at
 second_at s (Some Import) at = no_bytes at
 second_at s None at = no_bytes at
 
--- a call by its op, where its first input ends, and its second
-abbrev pub call_of : Option Op → ℕ → Counted → Counted → Call
-call_of op numbers a b =
-    record { op = op; numbers = numbers; first = a.start; first_size = a.size; second = b.start; second_size = b.size; end = b.end }
+-- the op, and the first and second input, of the call at a place
+abbrev pub op_at : List ℕ → ℕ → Option Op
+op_at s at = op_of (get_or s at 0)
 
-unfoldable pub call_at : List ℕ → ℕ → Call
-call_at s at =
-    call_of (op_of (get_or s at 0)) (capped at 1)
-    (counted_at s (capped (capped at 1) (numbers_size (op_of (get_or s at 0)))))
-    (second_at s (op_of (get_or s at 0)) (counted_at s (capped (capped at 1) (numbers_size (op_of (get_or s at 0))))).end)
+unfoldable pub first_of : List ℕ → ℕ → Counted
+first_of s at = counted_at s (capped (capped at 1) (numbers_size (op_at s at)))
+
+unfoldable pub second_of : List ℕ → ℕ → Counted
+second_of s at = second_at s (op_at s at) (first_of s at).end
+
+pub record IsCall (s : List ℕ) (at : ℕ) (c : Call) : Type 0 where
+  pub op : c.op ≡ op_at s at
+  pub numbers : c.numbers.now ≡ take (numbers_size (op_at s at)) (drop (capped at 1) s)
+  pub first : c.first.now ≡ bytes_of s (first_of s at)
+  pub second : c.second.now ≡ bytes_of s (second_of s at)
+
+abbrev pub call_end : List ℕ → ℕ → ℕ
+call_end s at = (second_of s at).end
+
+-- how many bytes the values of an answer take, and the output written
+unfoldable pub values_size : List ℕ → ℕ → ℕ
+values_size s at = 8 * get_or s (capped at 8) 0
+
+unfoldable pub output_at : List ℕ → ℕ → Counted
+output_at s at = counted_at s (capped (capped at 9) (values_size s at))
 
 -- output lent, number, values, and the output written
-abbrev pub answer_of : List ℕ → ℕ → Counted → Answer
-answer_of s at o = record {
-  lent = word_at s at;
-  number = word_at s (capped at 4);
-  values = capped at 9;
-  count = get_or s (capped at 8) 0;
-  output = o.start;
-  size = o.size;
-  end = o.end;
-}
+pub record IsAnswer (s : List ℕ) (at : ℕ) (a : Answer) : Type 0 where
+  pub lent : a.lent ≡ word_at s at
+  pub number : a.number ≡ word_at s (capped at 4)
+  pub values : a.values.now ≡ take (values_size s at) (drop (capped at 9) s)
+  pub output : a.output.now ≡ bytes_of s (output_at s at)
 
-unfoldable pub answer_at : List ℕ → ℕ → Answer
-answer_at s at = answer_of s at (counted_at s (capped (capped at 9) (8 * get_or s (capped at 8) 0)))
+abbrev pub answer_end : List ℕ → ℕ → ℕ
+answer_end s at = (output_at s at).end
+
+-- a call and its answer; the case is whole if its end lies in the file
+pub record IsCase (s : List ℕ) (at : ℕ) (c : Case) : Type 0 where
+  pub call : IsCall s at c.call
+  pub answer : IsAnswer s (call_end s at) c.answer
+  pub end : c.end ≡ answer_end s (call_end s at)
+  pub whole : c.whole ≡ leb c.end (length s)
+
+-- the case at c's place was given, and what is left begins after it
+pub record GaveCase (c : Cases) (k : Case) (d : Cases) : Type 0 where
+  pub is : IsCase c.sample.now c.at k
+  pub sample : d.sample ≡ c.sample
+  pub next : d.at ≡ k.end
+  pub within : c.at < length c.sample.now
+  pub ahead : c.at < d.at
+
+-- none is left where the sample ends
+abbrev pub GivesCase : Cases → Option Case → Cases → Type 0
+GivesCase c r d = MatchOption r ((length c.sample.now ≤ c.at) × (d ≡ c)) (λ k. GaveCase c k d)

@@ -8,6 +8,10 @@ untouched_of i = (i % 251 + 165) % 256
 pub record Fresh (e : List ℕ) : Type 0 where
   pub bytes : (j : ℕ) → j < length e → get_or e j 0 ≡ untouched_of j
 
+-- the bytes from a place on are those before a call
+abbrev pub Untouched : ℕ → List ℕ → Type 0
+Untouched from e = (j : ℕ) → j < length e → from ≤ j → get_or e j 0 ≡ untouched_of j
+
 -- the byte at a place after a call that wrote w
 unfoldable pub output_of : List ℕ → ℕ → ℕ
 output_of w i = cond (ltb i (length w)) (get_or w i 0) (untouched_of i)

@@ -36,16 +36,6 @@ pub record Seeking (s : List ℕ) (x i : ℕ) : Type 0 where
 pub seeking_start : (s : List ℕ) (x : ℕ) → Seeking s x 0
 seeking_start s x = record { high = omega arith; same = omega arith }
 
-module _ (s : List ℕ) (x i : ℕ) (v : Seeking s x i) where
-  pub seeking_hit : i < length s → get_or s i 0 ≡ x → i ≡ seek x s
-  seeking_hit h e = omega (arith, v.same, seek_hit s i x h e)
-
-  pub seeking_miss : i < length s → (get_or s i 0 ≡ x → ⊥) → Seeking s x (i + 1)
-  seeking_miss h e = record { high = omega arith; same = omega (arith, v.same, seek_miss s i x h e) }
-
-  pub seeking_end : length s ≤ i → length s ≡ seek x s
-  seeking_end h = omega (arith, v.same, v.high, seek_end s i x h)
-
 -- ---- many bytes at once
 
 -- the first x of the first m bytes, if they have one, is the first

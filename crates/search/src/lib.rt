@@ -1,14 +1,18 @@
 // The search for a byte in a slice, by blocks: a block that has none is passed by without an early way out. Where there is none
 // in the slice, the answer is its length.
-// Stays: no Option, since callers go on with the place: `&s[find(s, x)..]` begins with x, or is empty, and a part's place is
-// added to those of its bytes.
+// Stays: no Option: two of the uses (in spans) cut or count from the place, also where it is the length; the others ask whether it is, or hand
+// it on. An Option would be turned back by unwrap_or in the first.
 #![tactic(auto)]
 
-ghost use Rattle.std.specs.Prelude.{◌≡◌, ◌≤◌, length};
+ghost use Rattle.std.specs.Prelude.{◌≡◌, ◌≤◌, length, nat_eq};
+ghost use Rattle.std.specs.List.{position};
 ghost use Rattle.search.specs.Seek.{seek};
 ghost use Rattle.search.specs.Steps.{Without, Passed, Sought};
 
 // Whether no byte is x. There is no early way out, so that the loop runs on many bytes at once.
+// Stays: blocks::is_bare::<X, X> is the same test, but blocks rests on mdr, of whose frames a search for a byte knows nothing, and find
+// and find_soon would ask for x as a const of their callers. std's contains looks at 16 or 32 bytes by four runs of eight, and its fact would have
+// to be made `Without` again.
 fn is_without(s: &[u8], x: u8) -> bool
     ensures { Without s.now x result }
 {
@@ -20,6 +24,7 @@ fn is_without(s: &[u8], x: u8) -> bool
 }
 
 // The place of the first x. From the end on, so that nothing is jumped over.
+// Stays: here and below by blocks and by halves, and no position, which looks at one byte in a turn; find_few has it, for a few bytes.
 fn place_of(s: &[u8], x: u8) -> usize
     ensures { result ≡ seek x s.now }
 {
@@ -32,16 +37,18 @@ fn place_of(s: &[u8], x: u8) -> usize
     best
 }
 
-// The place of the first x, byte by byte.
+// The place of the first x, byte by byte, if there is one.
+fn first_place(s: &[u8], x: u8) -> Option<usize>
+    ensures { result ≡ position (λ b. nat_eq b x) s.now }
+{
+    s.iter().position(|&b| b == x)
+}
+
+// The same; where there is none, the length.
 pub fn find_few(s: &[u8], x: u8) -> usize
     ensures { result ≡ seek x s.now }
 {
-    for (i, &b) in s.iter().enumerate() {
-        if b == x {
-            return i;
-        }
-    }
-    s.len()
+    first_place(s, x).unwrap_or(s.len())
 }
 
 // The place of the first x in 32 bytes or fewer: in the first sixteen, or else in the last.

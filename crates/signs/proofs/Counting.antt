@@ -21,7 +21,17 @@ note_more g by at e = rw (ne_eqb g.many 0 e)
 
 -- ---- none, and one more
 
-pub counted_none : Counted [] (record { many = 0; first = 0 })
+abbrev pub no_sign : Gap
+no_sign = record { many = 0; first = 0 }
+
+none_by : (many first : ℕ) → many ≡ 0 → first ≡ 0 → record { many = many; first = first } ≡ no_sign
+none_by many first m f = rw (m, f)
+
+-- a default is none
+pub default_none : (g : Gap) → (g.many ≡ 0) × (g.first ≡ 0) → g ≡ no_sign
+default_none g h = none_by g.many g.first h.0 h.1
+
+pub counted_none : Counted [] no_sign
 unfolding first_of
 counted_none = record { many = refl; first = refl }
 

@@ -15,7 +15,7 @@ use words::{field16, get_be32};
 
 // How often a sign comes, and the byte at which the record starts that shows it first; 0 if none does.
 // Stays: two numbers, since the calls tell both as they stand, the 0 too; many says whether there is a first.
-#[derive(Clone, Copy)]
+#[derive(Clone, Copy, Default)]
 pub struct Gap {
     pub many: u64,
     pub first: u64,
@@ -34,7 +34,7 @@ pub fn note(g: Gap, by: u64, at: usize) -> Gap
     }
     Gap {
         many: g.many + by,
-        first: g.first,
+        ..g
     }
 }
 
@@ -49,7 +49,7 @@ fn is_monitor_acl(flags: u32) -> bool
 fn is_h4_acl(packet: &[u8]) -> bool
     ensures { result ≡ eqb (get_or packet.now 0 0) 2 }
 {
-    !packet.is_empty() && packet[0] == 2
+    packet.first() == Some(&2)
 }
 
 // Whether a record of a btsnoop file is ACL data by its flags.
@@ -89,6 +89,7 @@ pub fn is_acl(r: Record) -> bool
 }
 
 // Whether a field of an ACL packet, or its data, is not all there.
+// Stays: by let else: with is_none_or it is a closure over the packet's length, and no plainer.
 fn lacks_data(packet: &[u8]) -> bool
     ensures { result ≡ lacks_data packet.now }
 {
@@ -98,7 +99,7 @@ fn lacks_data(packet: &[u8]) -> bool
     packet.len() < 4 + usize::from(n)
 }
 
-// How many bytes of a record of ACL data stand before its packet.
+// How many bytes of a record of ACL data stand before its ACL packet.
 fn before_packet(format: Format) -> usize
     ensures { result ≡ before_packet format }
 {
@@ -111,6 +112,9 @@ fn before_packet(format: Format) -> usize
 }
 
 // Whether a record holds no ACL packet that import takes. It does not read the packet.
+// Stays: with before_packet and what is above, the tests of btsnoop's, pcap's and acl's reading a second time. `packets::read_packet(r).is_none()`
+// would be a second caller of what import calls for each packet, which is put in place only where it is called once. Figures are of l2cap::step:
+// with a second caller, import took 9 percent more instructions (docs/notes/00-losses.md).
 pub fn lacks_packet(r: Record) -> bool
     ensures { result ≡ is_none (packet_by r.entry.trace.format (bytes_of r.entry)) }
 {

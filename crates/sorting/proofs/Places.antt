@@ -4,21 +4,23 @@ use mathlib.Core.Logic.{◌⊎◌, inl, inr, ⊎_elim}
 use mathlib.Core.Bool.{Bool, true, false}
 use mathlib.Core.List.{List, [], ◌∷◌, ◌++◌, append_assoc}
 use Rattle.std.specs.Prelude.{min}
+use Rattle.std.specs.List.{CopiedTo, SameBelow, SameFrom}
 use Prim.Native.Nat.{ℕ, zero, suc, ◌+◌, ◌-◌, ◌*◌, ◌/◌, ◌<◌, ◌≤◌}
 use native.Mathlib.Nat.{add-zero}
 use native.Mathlib.Omega.{arith}
-use lib.ListN.{length, take, drop, length-drop, drop_of_length-le}
+use lib.ListN.{length, get_or, take, drop, length-drop, drop_of_length-le}
 use lib.Seq.{take_all, take-nil}
 use Rattle.laws.specs.Numbers.{le32}
 use Rattle.laws.proofs.Choice.{split≤}
 use Rattle.words.specs.Words.{word, put_word}
-use Rattle.words.proofs.Words.{length_put, word_put_same, word_put_other}
+use Rattle.words.proofs.Words.{length_put, word_put_same, word_put_other, word_of_bytes}
 use Rattle.sorting.specs.Sort.{insert, isort, merge}
-use Rattle.sorting.specs.Steps.{name_at, HeadOf, first_of, le_at, words, Kept, Apart, Copies, Rotates, HeadIs, MergePre, Merges, HalvesIn, Joins, Pairs, Sorts}
+use Rattle.sorting.specs.Steps.{name_at, HeadOf, first_of, le_at, words, Kept, Copies, Rotates, MergePre, Merges, HalvesIn, Joins, Pairs, Sorts}
 use Rattle.sorting.specs.declared.Head.{Head}
+use Rattle.sorting.specs.declared.halves.Halves.{Halves}
 use Rattle.sorting.proofs.Sorting.{isort_append, merge_met, merge_turned}
 use Rattle.sorting.proofs.Names.{name_trans, name_total}
-use Rattle.sorting.proofs.Comparing.{first_is, first_true, first_below, first_false}
+use Rattle.sorting.proofs.Comparing.{first_is}
 
 -- ---- the name at a place
 
@@ -80,76 +82,65 @@ kept_put : (lo hi top : ℕ) (w u : List ℕ) (i v : ℕ) → Kept lo hi top w u
 kept_put lo hi top w u i v k h =
     record { same = λ j p q. word_put_other u i v j (λ e. ⊎_elim (λ x. ⊎_elim (λ y. omega arith) (λ y. omega arith) q) (λ x. omega arith) h) ∙ k.same j p q }
 
-kept_wide : (lo hi lo' hi' top : ℕ) (w u : List ℕ) → Kept lo hi top w u → lo' ≤ lo → hi ≤ hi' → Kept lo' hi' top w u
-kept_wide lo hi lo' hi' top w u k f g = record { same = λ j p q. k.same j p (⊎_elim (λ x. inl (omega arith)) (λ x. inr (omega arith)) q) }
-
 words_kept : (lo hi top : ℕ) (w u : List ℕ) (i n : ℕ) → Kept lo hi top w u → i + n ≤ top → (i + n ≤ lo) ⊎ (hi ≤ i) → words u i n ≡ words w i n
 words_kept lo hi top w u i n k h g = words_same w u i n (λ j p q. k.same j (omega arith) (⊎_elim (λ x. inl (omega arith)) (λ x. inr (omega arith)) g))
 
 -- ---- copying
 
-pub record Copying (lo n to : ℕ) (w u : List ℕ) (i : ℕ) : Type 0 where
-  pub within : i ≤ n
-  pub long : length u ≡ length w
-  pub copied : words u to i ≡ words w lo i
-  pub kept : (top : ℕ) → Kept to (to + i) top w u
+-- two lists that have a word's bytes, each at its place, have the word
+word_moved : (w u : List ℕ) (i j : ℕ) → ((k : ℕ) → k < 4 → get_or u (4 * i + k) 0 ≡ get_or w (4 * j + k) 0) → word u i ≡ word w j
+unfolding word le32
+word_moved w u i j h =
+    let x : 4 * i + 0 ≡ 4 * i = add-zero (4 * i) in
+    let y : 4 * j + 0 ≡ 4 * j = add-zero (4 * j) in
+    let e : get_or u (4 * i) 0 ≡ get_or w (4 * j) 0 = rw (x, y) at (h 0 (omega arith)) in
+    rw (e, h 1 (omega arith), h 2 (omega arith), h 3 (omega arith))
 
-pub copying_start : (lo n to : ℕ) (w : List ℕ) → Copying lo n to w w 0
-copying_start lo n to w = record { within = omega arith; long = refl; copied = refl; kept = λ top. kept_none to (to + 0) top w }
+words_moved : (w u : List ℕ) (i j n : ℕ) → ((k : ℕ) → k < n → word u (i + k) ≡ word w (j + k)) → words u i n ≡ words w j n
+words_moved w u i j zero f = refl
+words_moved w u i j (suc n) f =
+    let e : word u i ≡ word w j = rw (add-zero i, add-zero j) at (f 0 (omega arith)) in
+    rw (e, words_moved w u (suc i) (suc j) n (λ k h. let x : i + suc k ≡ suc i + k = omega arith in let y : j + suc k ≡ suc j + k = omega arith in rw (x, y) at (f (suc k) (omega arith))))
 
-module _ (lo n to : ℕ) (w u : List ℕ) (i : ℕ) (c : Copying lo n to w u i) where
-  source : i < n → Apart lo n to → word u (lo + i) ≡ word w (lo + i)
-  unfolding Apart
-  source h d = (c.kept (suc (lo + i))).same (lo + i) (omega arith) (⊎_elim (λ x. inr (omega arith)) (λ x. inl (omega arith)) d)
-
-  pub copying_turn : (v : ℕ) (u' : List ℕ) → Apart lo n to → 4 * (to + n) ≤ length w → i < n → v ≡ word u (lo + i) → u' ≡ put_word u (to + i) v → Copying lo n to w u' (i + 1)
-  copying_turn v u' d room h e q =
-      record {
-        within = omega arith;
-        long = rw (q, length_put u (to + i) v) c.long;
-        copied = rw (q, words_more u to i v (omega (arith, c.long)), c.copied, words_snoc w lo i, e, source h d);
-        kept = λ top. rw q (kept_put to (to + (i + 1)) top w u (to + i) v (kept_wide to (to + i) to (to + (i + 1)) top w u (c.kept top) (omega arith) (omega arith)) (inl (omega arith, omega arith)));
-      }
-
-  pub copying_end : n ≤ i → Copies lo n to w u
-  copying_end h = let e : i ≡ n = omega (arith, c.within) in record { copied = rw e at c.copied; kept = λ top. rw e at (c.kept top) }
-
-pub apart_up : (lo n to : ℕ) → lo + n ≤ to → Apart lo n to
-unfolding Apart
-apart_up lo n to h = inr h
-
-pub apart_down : (lo n to : ℕ) → to ≤ lo → Apart lo n to
-unfolding Apart
-apart_down lo n to h = inl h
+module _ (lo n to : ℕ) (w u : List ℕ) where
+  pub copies : CopiedTo w u (4 * lo) (4 * to) (4 * (lo + n) - 4 * lo) → SameBelow w u (4 * to) → SameFrom w u (4 * to + (4 * (lo + n) - 4 * lo)) → Copies lo n to w u
+  copies c b f = record {
+    copied = words_moved w u to lo n (λ i h. word_moved w u (to + i) (lo + i) (λ k g.
+        let e : 4 * lo + (4 * (to + i) + k - 4 * to) ≡ 4 * (lo + i) + k = omega arith in
+        rw e at (c (4 * (to + i) + k) 0 (omega arith) (omega arith))));
+    kept = λ top. record {
+      same = λ j p q. word_of_bytes u w j (λ k g h. ⊎_elim (λ x. b k 0 (omega arith)) (λ x. f k 0 (omega arith)) q);
+    };
+  }
 
 -- the first part aside, the second down, the first behind it
-pub rotates : (lo h m top : ℕ) (w w1 w2 u : List ℕ) → lo + h + m ≤ top → Copies lo h top w w1 → Copies (lo + h) m lo w1 w2 → Copies top h (lo + m) w2 u → Rotates lo h m top w u
-rotates lo h m top w w1 w2 u d a b c = record {
+pub rotates : (hs : Halves) (w w1 w2 u : List ℕ) → Copies hs.lo hs.h hs.top w w1 → Copies (hs.lo + hs.h) hs.m hs.lo w1 w2 → Copies hs.top hs.h (hs.lo + hs.m) w2 u → Rotates hs w u
+rotates hs w w1 w2 u a b c = record {
   turned =
-      words_append u lo m h
+      words_append u hs.lo hs.m hs.h
       ∙ rw (
-        words_kept (lo + m) (lo + m + h) (lo + m) w2 u lo m (c.kept (lo + m)) (omega arith) (inl (omega arith)),
+        words_kept (hs.lo + hs.m) (hs.lo + hs.m + hs.h) (hs.lo + hs.m) w2 u hs.lo hs.m (c.kept (hs.lo + hs.m)) (omega (arith, hs.apart)) (inl (omega (arith, hs.apart))),
         c.copied,
-        words_kept lo (lo + m) (top + h) w1 w2 top h (b.kept (top + h)) (omega arith) (inr (omega arith)),
+        words_kept hs.lo (hs.lo + hs.m) (hs.top + hs.h) w1 w2 hs.top hs.h (b.kept (hs.top + hs.h)) (omega (arith, hs.apart)) (inr (omega (arith, hs.apart))),
         a.copied,
         b.copied,
-        words_kept top (top + h) top w w1 (lo + h) m (a.kept top) (omega arith) (inl (omega arith)),
+        words_kept hs.top (hs.top + hs.h) hs.top w w1 (hs.lo + hs.h) hs.m (a.kept hs.top) (omega (arith, hs.apart)) (inl (omega (arith, hs.apart))),
       );
   kept = record {
     same = λ j p q.
-        (c.kept top).same j p (⊎_elim (λ x. inl (omega arith)) (λ x. inr (omega arith)) q)
-        ∙ (b.kept top).same j p (⊎_elim (λ x. inl (omega arith)) (λ x. inr (omega arith)) q)
-        ∙ (a.kept top).same j p (inl (omega arith));
+        (c.kept hs.top).same j p (⊎_elim (λ x. inl (omega (arith, hs.apart))) (λ x. inr (omega (arith, hs.apart))) q)
+        ∙ (b.kept hs.top).same j p (⊎_elim (λ x. inl (omega (arith, hs.apart))) (λ x. inr (omega (arith, hs.apart))) q)
+        ∙ (a.kept hs.top).same j p (inl (omega (arith, hs.apart)));
   };
 }
 
 -- ---- merging
 
 module _ (l : List ℕ) where
-  take_none : (x : ℕ) (a : List ℕ) → merge (le_at l) (x ∷ a) [] ≡ x ∷ merge (le_at l) a []
+  take_rest : (a : List ℕ) → merge (le_at l) a [] ≡ a
   unfolding merge
-  take_none x [] = refl
-  take_none x (y ∷ a) = refl
+  take_rest [] = refl
+  take_rest (x ∷ a) = refl
 
   take_left : (x y : ℕ) (a b : List ℕ) → le_at l x y ≡ true → merge (le_at l) (x ∷ a) (y ∷ b) ≡ x ∷ merge (le_at l) a (y ∷ b)
   unfolding merge
@@ -159,116 +150,151 @@ module _ (l : List ℕ) where
   unfolding merge
   take_right x y a b h = rw h
 
--- a name that was read stays where a word elsewhere is stored
-head_put : (l w : List ℕ) (k end : ℕ) (a : Head) (i v : ℕ) → HeadIs l w k end a → (i ≡ k → ⊥) → HeadIs l (put_word w i v) k end a
-head_put l w k end a i v h n = record { more = λ g. rw (word_put_other w i v k n) (h.more g); none = h.none }
-
--- i words of the left and j of the right are merged, and the next names of both are a and b
-pub record Merging (l : List ℕ) (lo h m top : ℕ) (w u : List ℕ) (i j : ℕ) (a b : Head) : Type 0 where
-  pub left : i ≤ h
-  pub right : j ≤ m
+-- i words of the left and j of the right are merged
+pub record Merged (l : List ℕ) (hs : Halves) (w u : List ℕ) (i j : ℕ) : Type 0 where
+  pub left : i ≤ hs.h
+  pub right : j ≤ hs.m
   pub long : length u ≡ length w
-  pub same : words u lo (i + j) ++ merge (le_at l) (words u (top + i) (h - i)) (words u (lo + h + j) (m - j)) ≡ merge (le_at l) (words w top h) (words w (lo + h) m)
-  pub kept : Kept lo (lo + h + m) top w u
-  pub first : HeadIs l u (top + i) (top + h) a
-  pub second : HeadIs l u (lo + h + j) (lo + h + m) b
+  pub same : words u hs.lo (i + j) ++ merge (le_at l) (words u (hs.top + i) (hs.h - i)) (words u (hs.lo + hs.h + j) (hs.m - j)) ≡ merge (le_at l) (words w hs.top hs.h) (words w (hs.lo + hs.h) hs.m)
+  pub kept : Kept hs.lo (hs.lo + hs.h + hs.m) hs.top w u
 
-module _ (l : List ℕ) (lo h m top : ℕ) (w : List ℕ) (a₀ b₀ : Head) (pre : MergePre l lo h m top w a₀ b₀) where
-  pub merging_start : Merging l lo h m top w w 0 0 a₀ b₀
-  merging_start =
-      let x : h - 0 ≡ h = omega arith in
-      let y : m - 0 ≡ m = omega arith in
-      record {
-        left = omega arith;
-        right = omega arith;
-        long = refl;
-        same = rw (add-zero top, add-zero (lo + h), x, y);
-        kept = kept_none lo (lo + h + m) top w;
-        first = rw (add-zero top) pre.left;
-        second = rw (add-zero (lo + h)) pre.right;
-      }
+-- neither half is at its end, and the next names are a and b
+pub record Merging (l : List ℕ) (hs : Halves) (w u : List ℕ) (i j : ℕ) (a b : Head) : Type 0 where
+  pub merged : Merged l hs w u i j
+  pub less : i < hs.h
+  pub more : j < hs.m
+  pub first : HeadOf l (word u (hs.top + i)) a
+  pub second : HeadOf l (word u (hs.lo + hs.h + j)) b
 
-  module _ (u : List ℕ) (i j : ℕ) (a b : Head) (c : Merging l lo h m top w u i j a b) where
-    pub merging_end : h ≤ i → Merges l lo h m top w u
+-- a name that was read stays where a word elsewhere is stored
+head_put : (l w : List ℕ) (k : ℕ) (a : Head) (i v : ℕ) → HeadOf l (word w k) a → (i ≡ k → ⊥) → HeadOf l (word (put_word w i v) k) a
+head_put l w k a i v h n = rw (word_put_other w i v k n) h
+
+module _ (l : List ℕ) (hs : Halves) (w : List ℕ) where
+  module _ (u : List ℕ) (i j : ℕ) (c : Merged l hs w u i j) where
+    -- the left is at its end, and what is left of the right stands where it belongs
+    pub merged_end : i ≡ hs.h → Merges l hs w u
     unfolding merge
-    merging_end g =
-        let e : i ≡ h = omega (arith, c.left) in
-        let z : h - h ≡ 0 = omega arith in
-        let f : h + m ≡ h + j + (m - j) = omega (arith, c.right) in
-        let k : lo + h + j ≡ lo + (h + j) = omega arith in
-        record { merged = rw f (words_append u lo (h + j) (m - j) ∙ rw (← k) (rw (e, z) at c.same)); kept = c.kept }
+    merged_end e =
+        let z : hs.h - hs.h ≡ 0 = omega arith in
+        let f : hs.h + hs.m ≡ hs.h + j + (hs.m - j) = omega (arith, c.right) in
+        let k : hs.lo + hs.h + j ≡ hs.lo + (hs.h + j) = omega arith in
+        record { merged = rw f (words_append u hs.lo (hs.h + j) (hs.m - j) ∙ rw (← k) (rw (e, z) at c.same)); kept = c.kept }
 
-    module _ (less : i < h) (t : Bool) (p : t ≡ first_of l a b) where
-      left_head : HeadOf l (word u (top + i)) a
-      left_head = c.first.more (omega arith)
+    -- the right is at its end, and what is left of the left is copied behind
+    pub merged_rest : (u' : List ℕ) → j ≡ hs.m → Copies (hs.top + i) (hs.h - i) (hs.lo + i + j) u u' → Merges l hs w u'
+    merged_rest u' e d =
+        let z : hs.m - j ≡ 0 = omega arith in
+        let f : hs.h + hs.m ≡ i + j + (hs.h - i) = omega (arith, c.left) in
+        let k : hs.lo + (i + j) ≡ hs.lo + i + j = omega arith in
+        let n : words u' hs.lo (i + j) ≡ words u hs.lo (i + j) = words_kept (hs.lo + i + j) (hs.lo + i + j + (hs.h - i)) (hs.lo + i + j) u u' hs.lo (i + j) (d.kept (hs.lo + i + j)) (omega arith) (inl (omega arith)) in
+        record {
+          merged = rw f (words_append u' hs.lo (i + j) (hs.h - i) ∙ rw (k, n, d.copied) (rw (z, take_rest l (words u (hs.top + i) (hs.h - i))) at c.same));
+          kept = record { same = λ q p r. (d.kept hs.top).same q p (⊎_elim (λ x. inl (omega arith)) (λ x. inr (omega (arith, c.left, c.right))) r) ∙ c.kept.same q p r };
+        }
 
-      pub merging_below : t ≡ false → j < m
-      merging_below g = omega (arith, first_below l u (word u (top + i)) (lo + h + j) (lo + h + m) a b left_head c.second t p g)
+  module _ (a₀ b₀ : Head) (pre : MergePre l hs w a₀ b₀) where
+    pub merging_start : Merging l hs w w 0 0 a₀ b₀
+    merging_start =
+        let x : hs.h - 0 ≡ hs.h = omega arith in
+        let y : hs.m - 0 ≡ hs.m = omega arith in
+        record {
+          merged = record {
+            left = omega arith;
+            right = omega arith;
+            long = refl;
+            same = rw (add-zero hs.top, add-zero (hs.lo + hs.h), x, y);
+            kept = kept_none hs.lo (hs.lo + hs.h + hs.m) hs.top w;
+          };
+          less = pre.halves.left;
+          more = pre.halves.right;
+          first = rw (add-zero hs.top) pre.left;
+          second = rw (add-zero (hs.lo + hs.h)) pre.right;
+        }
 
-      module _ (v : ℕ) (u' : List ℕ) (q : u' ≡ put_word u (lo + i + j) v) where
-        wrote : (k : ℕ) → k ≡ i + j + 1 → words u' lo k ≡ words u lo (i + j) ++ (v ∷ [])
+    module _ (u : List ℕ) (i j : ℕ) (a b : Head) (c : Merging l hs w u i j a b) (t : Bool) (p : t ≡ first_of l a b) where
+      test : le_at l (word u (hs.top + i)) (word u (hs.lo + hs.h + j)) ≡ t
+      test = sym (first_is l (word u (hs.top + i)) (word u (hs.lo + hs.h + j)) a b c.first c.second) ∙ sym p
+
+      module _ (v : ℕ) (u' : List ℕ) (q : u' ≡ put_word u (hs.lo + i + j) v) where
+        wrote : (k : ℕ) → k ≡ i + j + 1 → words u' hs.lo k ≡ words u hs.lo (i + j) ++ (v ∷ [])
         wrote k e =
-            let f : lo + i + j ≡ lo + (i + j) = omega arith in
-            rw (e, q, f) (words_more u lo (i + j) v (omega (arith, c.long, c.right, pre.apart, pre.room)))
+            let f : hs.lo + i + j ≡ hs.lo + (i + j) = omega arith in
+            rw (e, q, f) (words_more u hs.lo (i + j) v (omega (arith, c.merged.long, c.more, c.less, hs.apart, pre.halves.room)))
 
-        left_put : (k : ℕ) → words u' (top + k) (h - k) ≡ words u (top + k) (h - k)
-        left_put k = rw q (words_put u (lo + i + j) v (top + k) (h - k) (inl (omega (arith, c.right, pre.apart))))
+        left_put : (k : ℕ) → words u' (hs.top + k) (hs.h - k) ≡ words u (hs.top + k) (hs.h - k)
+        left_put k = rw q (words_put u (hs.lo + i + j) v (hs.top + k) (hs.h - k) (inl (omega (arith, c.more, c.less, hs.apart))))
 
-        right_put : (k : ℕ) → j ≤ k → words u' (lo + h + k) (m - k) ≡ words u (lo + h + k) (m - k)
-        right_put k g = rw q (words_put u (lo + i + j) v (lo + h + k) (m - k) (inl (omega arith)))
+        right_put : (k : ℕ) → j ≤ k → words u' (hs.lo + hs.h + k) (hs.m - k) ≡ words u (hs.lo + hs.h + k) (hs.m - k)
+        right_put k g = rw q (words_put u (hs.lo + i + j) v (hs.lo + hs.h + k) (hs.m - k) (inl (omega (arith, c.less))))
 
         long' : length u' ≡ length w
-        long' = rw (q, length_put u (lo + i + j) v) c.long
+        long' = rw (q, length_put u (hs.lo + i + j) v) c.merged.long
 
-        kept' : Kept lo (lo + h + m) top w u'
-        kept' = rw q (kept_put lo (lo + h + m) top w u (lo + i + j) v c.kept (inl (omega arith, omega (arith, c.right))))
+        kept' : Kept hs.lo (hs.lo + hs.h + hs.m) hs.top w u'
+        kept' = rw q (kept_put hs.lo (hs.lo + hs.h + hs.m) hs.top w u (hs.lo + i + j) v c.merged.kept (inl (omega arith, omega (arith, c.less, c.more))))
 
-        step : (k : ℕ) (x y xs : List ℕ) → k ≡ i + j + 1 → xs ≡ v ∷ merge (le_at l) x y → words u lo (i + j) ++ xs ≡ merge (le_at l) (words w top h) (words w (lo + h) m)
-            → words u' lo k ++ merge (le_at l) x y ≡ merge (le_at l) (words w top h) (words w (lo + h) m)
-        step k x y xs e f g = rw (wrote k e) (append_assoc (words u lo (i + j)) (v ∷ []) (merge (le_at l) x y) ∙ rw f at g)
+        step : (k : ℕ) (d e f : List ℕ) → k ≡ i + j + 1 → f ≡ v ∷ merge (le_at l) d e → words u hs.lo (i + j) ++ f ≡ merge (le_at l) (words w hs.top hs.h) (words w (hs.lo + hs.h) hs.m)
+            → words u' hs.lo k ++ merge (le_at l) d e ≡ merge (le_at l) (words w hs.top hs.h) (words w (hs.lo + hs.h) hs.m)
+        step k d e f g h n = rw (wrote k g) (append_assoc (words u hs.lo (i + j)) (v ∷ []) (merge (le_at l) d e) ∙ rw h at n)
 
-      -- the left name is the next: the right is at its end, or its name does not come before
-      pub merging_left : (u' : List ℕ) (a' : Head) → t ≡ true → u' ≡ put_word u (lo + i + j) a.place → HeadIs l u' (top + (i + 1)) (top + h) a' → Merging l lo h m top w u' (i + 1) j a' b
-      merging_left u' a' g q n =
-          let v : ℕ = a.place in
-          let e : v ≡ word u (top + i) = left_head.place in
-          record {
-            left = omega arith;
-            right = c.right;
-            long = long' v u' q;
-            same =
-                rw (left_put v u' q (i + 1), right_put v u' q j (omega arith))
-                (step v u' q (i + 1 + j) (words u (top + (i + 1)) (h - (i + 1))) (words u (lo + h + j) (m - j)) _ (omega arith)
-                (split≤ m j
-                (λ x. let z : m - j ≡ 0 = omega arith in rw z (take_none l v (words u (top + (i + 1)) (h - (i + 1)))))
-                (λ x. rw (words_first u (lo + h) j m x) (take_left l v (word u (lo + h + j)) (words u (top + (i + 1)) (h - (i + 1))) (words u (lo + h + (j + 1)) (m - (j + 1)))
-                (rw e (first_true l u (word u (top + i)) (lo + h + j) (lo + h + m) a b left_head c.second t p g (omega arith))))))
-                (rw (words_first u top i h less, ← e) at c.same));
-            kept = kept' v u' q;
-            first = n;
-            second = rw q (head_put l u (lo + h + j) (lo + h + m) b (lo + i + j) v c.second (λ z. omega arith));
-          }
+      -- both halves from their next names on
+      both : words u hs.lo (i + j) ++ merge (le_at l) (word u (hs.top + i) ∷ words u (hs.top + (i + 1)) (hs.h - (i + 1))) (word u (hs.lo + hs.h + j) ∷ words u (hs.lo + hs.h + (j + 1)) (hs.m - (j + 1)))
+          ≡ merge (le_at l) (words w hs.top hs.h) (words w (hs.lo + hs.h) hs.m)
+      both = rw (words_first u hs.top i hs.h c.less, words_first u (hs.lo + hs.h) j hs.m c.more) at c.merged.same
 
-      pub merging_right : (u' : List ℕ) (b' : Head) → t ≡ false → u' ≡ put_word u (lo + i + j) b.place → HeadIs l u' (lo + h + (j + 1)) (lo + h + m) b' → Merging l lo h m top w u' i (j + 1) a b'
-      merging_right u' b' f q n =
-          let g : j < m = merging_below f in
-          let v : ℕ = b.place in
-          let e : v ≡ word u (lo + h + j) = (c.second.more (omega arith)).place in
-          let x : ℕ = word u (top + i) in
-          record {
-            left = c.left;
-            right = omega arith;
-            long = long' v u' q;
-            same =
-                rw (left_put v u' q i, right_put v u' q (j + 1) (omega arith))
-                (step v u' q (i + (j + 1)) (words u (top + i) (h - i)) (words u (lo + h + (j + 1)) (m - (j + 1))) _ (omega arith)
-                (rw (words_first u top i h less) (take_right l x v (words u (top + (i + 1)) (h - (i + 1))) (words u (lo + h + (j + 1)) (m - (j + 1)))
-                (rw e (first_false l u x (lo + h + j) (lo + h + m) a b left_head c.second t p f))))
-                (rw (words_first u (lo + h) j m g, ← e, words_first u top i h less) at c.same));
-            kept = kept' v u' q;
-            first = rw q (head_put l u (top + i) (top + h) a (lo + i + j) v c.first (λ z. omega (arith, pre.apart, c.right)));
-            second = n;
-          }
+      -- the left name is the next
+      module _ (g : t ≡ true) (u' : List ℕ) (q : u' ≡ put_word u (hs.lo + i + j) a.place) where
+        merged_left : Merged l hs w u' (i + 1) j
+        merged_left =
+            let e : a.place ≡ word u (hs.top + i) = c.first.place in
+            record {
+              left = omega (arith, c.less);
+              right = c.merged.right;
+              long = long' a.place u' q;
+              same =
+                  rw (left_put a.place u' q (i + 1), right_put a.place u' q j (omega arith), words_first u (hs.lo + hs.h) j hs.m c.more)
+                  (step a.place u' q (i + 1 + j) _ _ _ (omega arith) (rw e (take_left l _ _ _ _ (test ∙ g))) both);
+              kept = kept' a.place u' q;
+            }
+
+        pub ends_left : i + 1 ≡ hs.h → Merges l hs w u'
+        ends_left e = merged_end u' (i + 1) j merged_left e
+
+        pub merging_left : (a' : Head) → (i + 1 ≡ hs.h → ⊥) → HeadOf l (word u' (hs.top + (i + 1))) a' → Merging l hs w u' (i + 1) j a' b
+        merging_left a' n h = record {
+          merged = merged_left;
+          less = omega (arith, c.less, n);
+          more = c.more;
+          first = h;
+          second = rw q (head_put l u (hs.lo + hs.h + j) b (hs.lo + i + j) a.place c.second (λ z. omega (arith, c.less)));
+        }
+
+      module _ (g : t ≡ false) (u' : List ℕ) (q : u' ≡ put_word u (hs.lo + i + j) b.place) where
+        merged_right : Merged l hs w u' i (j + 1)
+        merged_right =
+            let e : b.place ≡ word u (hs.lo + hs.h + j) = c.second.place in
+            record {
+              left = c.merged.left;
+              right = omega (arith, c.more);
+              long = long' b.place u' q;
+              same =
+                  rw (left_put b.place u' q i, right_put b.place u' q (j + 1) (omega arith), words_first u hs.top i hs.h c.less)
+                  (step b.place u' q (i + (j + 1)) _ _ _ (omega arith) (rw e (take_right l _ _ _ _ (test ∙ g))) both);
+              kept = kept' b.place u' q;
+            }
+
+        pub ends_right : (u₂ : List ℕ) → j + 1 ≡ hs.m → Copies (hs.top + i) (hs.h - i) (hs.lo + i + (j + 1)) u' u₂ → Merges l hs w u₂
+        ends_right u₂ e d = merged_rest u' i (j + 1) merged_right u₂ e d
+
+        pub merging_right : (b' : Head) → (j + 1 ≡ hs.m → ⊥) → HeadOf l (word u' (hs.lo + hs.h + (j + 1))) b' → Merging l hs w u' i (j + 1) a b'
+        merging_right b' n h = record {
+          merged = merged_right;
+          less = c.less;
+          more = omega (arith, c.more, n);
+          first = rw q (head_put l u (hs.top + i) a (hs.lo + i + j) b.place c.first (λ z. omega (arith, c.less, c.more, hs.apart)));
+          second = h;
+        }
 
 -- ---- the order of places
 
@@ -282,71 +308,66 @@ at_total l x y = name_total (name_at l x) (name_at l y)
 
 -- ---- joining
 
-module _ (l : List ℕ) (lo h m top : ℕ) (w : List ℕ) (d : HalvesIn lo h m top w) where
-  merged_all : (p q : List ℕ) → words w lo h ≡ isort (le_at l) p → words w (lo + h) m ≡ isort (le_at l) q → merge (le_at l) (words w lo h) (words w (lo + h) m) ≡ isort (le_at l) (p ++ q)
+module _ (l : List ℕ) (hs : Halves) (w : List ℕ) (d : HalvesIn hs w) where
+  merged_all : (p q : List ℕ) → words w hs.lo hs.h ≡ isort (le_at l) p → words w (hs.lo + hs.h) hs.m ≡ isort (le_at l) q → merge (le_at l) (words w hs.lo hs.h) (words w (hs.lo + hs.h) hs.m) ≡ isort (le_at l) (p ++ q)
   merged_all p q f g = rw (f, g) (sym (isort_append (le_at l) (at_trans l) (at_total l) p q))
 
   -- they meet in order
-  pub joins_met : (a b : Head) (t : Bool) → HeadOf l (word w (lo + h - 1)) a → HeadOf l (word w (lo + h)) b → t ≡ first_of l a b → t ≡ true → Joins l lo h m top w w
+  pub joins_met : (a b : Head) (t : Bool) → HeadOf l (word w (hs.lo + hs.h - 1)) a → HeadOf l (word w (hs.lo + hs.h)) b → t ≡ first_of l a b → t ≡ true → Joins l hs w w
   joins_met a b t ha hb f g =
-      let k : h ≡ h - 1 + 1 = omega (arith, d.left) in
-      let i : lo + (h - 1) ≡ lo + h - 1 = omega (arith, d.left) in
-      let j : m ≡ suc (m - 1) = omega (arith, d.right) in
-      let v : ℕ = word w (lo + h - 1) in
-      let x : words w lo h ≡ words w lo (h - 1) ++ (v ∷ []) = ap (words w lo) k ∙ words_snoc w lo (h - 1) ∙ rw i in
-      let y : words w (lo + h) m ≡ word w (lo + h) ∷ words w (suc (lo + h)) (m - 1) = ap (words w (lo + h)) j in
-      let z : le_at l v (word w (lo + h)) ≡ true = sym (first_is l v (word w (lo + h)) a b ha hb) ∙ sym f ∙ g in
+      let k : hs.h ≡ hs.h - 1 + 1 = omega (arith, d.left) in
+      let i : hs.lo + (hs.h - 1) ≡ hs.lo + hs.h - 1 = omega (arith, d.left) in
+      let j : hs.m ≡ suc (hs.m - 1) = omega (arith, d.right) in
+      let v : ℕ = word w (hs.lo + hs.h - 1) in
+      let x : words w hs.lo hs.h ≡ words w hs.lo (hs.h - 1) ++ (v ∷ []) = ap (words w hs.lo) k ∙ words_snoc w hs.lo (hs.h - 1) ∙ rw i in
+      let y : words w (hs.lo + hs.h) hs.m ≡ word w (hs.lo + hs.h) ∷ words w (suc (hs.lo + hs.h)) (hs.m - 1) = ap (words w (hs.lo + hs.h)) j in
+      let z : le_at l v (word w (hs.lo + hs.h)) ≡ true = sym (first_is l v (word w (hs.lo + hs.h)) a b ha hb) ∙ sym f ∙ g in
       record {
         joined = λ p q s r.
-            words_append w lo h m
-            ∙ rw (y, s) (sym (merge_met (le_at l) (at_trans l) (at_total l) p (words w lo (h - 1)) v (word w (lo + h)) (words w (suc (lo + h)) (m - 1)) (sym s ∙ x) z))
+            words_append w hs.lo hs.h hs.m
+            ∙ rw (y, s) (sym (merge_met (le_at l) (at_trans l) (at_total l) p (words w hs.lo (hs.h - 1)) v (word w (hs.lo + hs.h)) (words w (suc (hs.lo + hs.h)) (hs.m - 1)) (sym s ∙ x) z))
             ∙ merged_all p q s r;
-        kept = kept_none lo (lo + h + m) top w;
+        kept = kept_none hs.lo (hs.lo + hs.h + hs.m) hs.top w;
       }
 
-  module _ (w1 : List ℕ) (c : Copies lo h top w w1) where
-    right_copied : words w1 (lo + h) m ≡ words w (lo + h) m
-    right_copied = words_kept top (top + h) top w w1 (lo + h) m (c.kept top) (omega (arith, d.apart)) (inl (omega (arith, d.apart)))
+  module _ (w1 : List ℕ) (c : Copies hs.lo hs.h hs.top w w1) where
+    right_copied : words w1 (hs.lo + hs.h) hs.m ≡ words w (hs.lo + hs.h) hs.m
+    right_copied = words_kept hs.top (hs.top + hs.h) hs.top w w1 (hs.lo + hs.h) hs.m (c.kept hs.top) (omega (arith, hs.apart)) (inl (omega (arith, hs.apart)))
 
     -- the first names of both halves, once the left one is aside
-    pub merge_pre : (x b : Head) → length w1 ≡ length w → HeadOf l (word w lo) x → HeadOf l (word w (lo + h)) b → MergePre l lo h m top w1 x b
+    pub merge_pre : (x b : Head) → length w1 ≡ length w → HeadOf l (word w hs.lo) x → HeadOf l (word w (hs.lo + hs.h)) b → MergePre l hs w1 x b
     merge_pre x b e hx hb =
-        let k : h ≡ suc (h - 1) = omega (arith, d.left) in
-        let j : m ≡ suc (m - 1) = omega (arith, d.right) in
-        let p : word w1 top ∷ words w1 (suc top) (h - 1) ≡ word w lo ∷ words w (suc lo) (h - 1) = rw k at c.copied in
-        let q : word w1 (lo + h) ∷ words w1 (suc (lo + h)) (m - 1) ≡ word w (lo + h) ∷ words w (suc (lo + h)) (m - 1) = rw j at right_copied in
-        let p' : word w1 top ≡ word w lo = cc in
-        let q' : word w1 (lo + h) ≡ word w (lo + h) = cc in
-        record {
-          apart = d.apart;
-          room = rw e d.room;
-          left = record { more = λ g. rw p' hx; none = λ g. absurd (omega (arith, d.left)) };
-          right = record { more = λ g. rw q' hb; none = λ g. absurd (omega (arith, d.right)) };
-        }
+        let k : hs.h ≡ suc (hs.h - 1) = omega (arith, d.left) in
+        let j : hs.m ≡ suc (hs.m - 1) = omega (arith, d.right) in
+        let p : word w1 hs.top ∷ words w1 (suc hs.top) (hs.h - 1) ≡ word w hs.lo ∷ words w (suc hs.lo) (hs.h - 1) = rw k at c.copied in
+        let q : word w1 (hs.lo + hs.h) ∷ words w1 (suc (hs.lo + hs.h)) (hs.m - 1) ≡ word w (hs.lo + hs.h) ∷ words w (suc (hs.lo + hs.h)) (hs.m - 1) = rw j at right_copied in
+        let p' : word w1 hs.top ≡ word w hs.lo = cc in
+        let q' : word w1 (hs.lo + hs.h) ≡ word w (hs.lo + hs.h) = cc in
+        record { halves = record { left = d.left; right = d.right; room = rw e d.room }; left = rw p' hx; right = rw q' hb }
 
-    pub joins_merged : (u : List ℕ) → Merges l lo h m top w1 u → Joins l lo h m top w u
+    pub joins_merged : (u : List ℕ) → Merges l hs w1 u → Joins l hs w u
     joins_merged u g = record {
       joined = λ p q s r. g.merged ∙ rw (c.copied, right_copied) (merged_all p q s r);
-      kept = record { same = λ j p q. g.kept.same j p q ∙ (c.kept top).same j p (inl (omega arith)) };
+      kept = record { same = λ j p q. g.kept.same j p q ∙ (c.kept hs.top).same j p (inl (omega arith)) };
     }
 
   -- they are wholly the wrong way round
-  pub joins_turned : (a b : Head) (t : Bool) (u : List ℕ) → HeadOf l (word w lo) a → HeadOf l (word w (lo + h + m - 1)) b → t ≡ first_of l a b → t ≡ false → Rotates lo h m top w u → Joins l lo h m top w u
+  pub joins_turned : (a b : Head) (t : Bool) (u : List ℕ) → HeadOf l (word w hs.lo) a → HeadOf l (word w (hs.lo + hs.h + hs.m - 1)) b → t ≡ first_of l a b → t ≡ false → Rotates hs w u → Joins l hs w u
   joins_turned a b t u ha hb f g c =
-      let k : m ≡ m - 1 + 1 = omega (arith, d.right) in
-      let i : lo + h + (m - 1) ≡ lo + h + m - 1 = omega (arith, d.right) in
-      let j : h ≡ suc (h - 1) = omega (arith, d.left) in
-      let n : h + m ≡ m + h = omega arith in
-      let x : ℕ = word w lo in
-      let e : ℕ = word w (lo + h + m - 1) in
-      let v : words w (lo + h) m ≡ words w (lo + h) (m - 1) ++ (e ∷ []) = ap (words w (lo + h)) k ∙ words_snoc w (lo + h) (m - 1) ∙ rw i in
-      let y : words w lo h ≡ x ∷ words w (suc lo) (h - 1) = ap (words w lo) j in
+      let k : hs.m ≡ hs.m - 1 + 1 = omega (arith, d.right) in
+      let i : hs.lo + hs.h + (hs.m - 1) ≡ hs.lo + hs.h + hs.m - 1 = omega (arith, d.right) in
+      let j : hs.h ≡ suc (hs.h - 1) = omega (arith, d.left) in
+      let n : hs.h + hs.m ≡ hs.m + hs.h = omega arith in
+      let x : ℕ = word w hs.lo in
+      let e : ℕ = word w (hs.lo + hs.h + hs.m - 1) in
+      let v : words w (hs.lo + hs.h) hs.m ≡ words w (hs.lo + hs.h) (hs.m - 1) ++ (e ∷ []) = ap (words w (hs.lo + hs.h)) k ∙ words_snoc w (hs.lo + hs.h) (hs.m - 1) ∙ rw i in
+      let y : words w hs.lo hs.h ≡ x ∷ words w (suc hs.lo) (hs.h - 1) = ap (words w hs.lo) j in
       let z : le_at l x e ≡ false = sym (first_is l x e a b ha hb) ∙ sym f ∙ g in
       record {
         joined = λ p q s r.
-            ap (words u lo) n
+            ap (words u hs.lo) n
             ∙ c.turned
-            ∙ rw (y, r) (sym (merge_turned (le_at l) (at_trans l) (at_total l) q (words w (lo + h) (m - 1)) x e (words w (suc lo) (h - 1)) (sym r ∙ v) z))
+            ∙ rw (y, r) (sym (merge_turned (le_at l) (at_trans l) (at_total l) q (words w (hs.lo + hs.h) (hs.m - 1)) x e (words w (suc hs.lo) (hs.h - 1)) (sym r ∙ v) z))
             ∙ merged_all p q s r;
         kept = c.kept;
       }
@@ -380,9 +401,6 @@ sorts_few l lo zero top w h = record { sorted = refl; kept = kept_none lo (lo + 
 sorts_few l lo (suc zero) top w h = record { sorted = refl; kept = kept_none lo (lo + 1) top w }
 sorts_few l lo (suc (suc n)) top w h = absurd (omega arith)
 
-pub sorts_pair : (l : List ℕ) (lo n top : ℕ) (w u : List ℕ) → n ≡ 2 → Pairs l lo w u → Sorts l lo n top w u
-sorts_pair l lo n top w u e p = rw e (record { sorted = p.sorted; kept = p.kept top })
-
 -- the two halves are sorted, one after the other
 module _ (l : List ℕ) (lo n h m top : ℕ) (w0 w1 w2 : List ℕ) (whole : n ≡ h + m) (apart : lo + n ≤ top) (s : Sorts l lo h top w0 w1) (t : Sorts l (lo + h) m top w1 w2) where
   left_half : words w2 lo h ≡ isort (le_at l) (words w0 lo h)
@@ -398,12 +416,16 @@ module _ (l : List ℕ) (lo n h m top : ℕ) (w0 w1 w2 : List ℕ) (whole : n �
         ∙ s.kept.same j p (⊎_elim (λ x. inl (omega arith)) (λ x. inr (omega arith)) q);
   }
 
-  joined_all : (w3 : List ℕ) → Joins l lo h m top w2 w3 → Sorts l lo n top w0 w3
-  joined_all w3 g = record {
-    sorted = ap (words w3 lo) whole ∙ g.joined (words w0 lo h) (words w0 (lo + h) m) left_half right_half ∙ ap (isort (le_at l)) (sym (words_append w0 lo h m) ∙ ap (words w0 lo) (sym whole));
-    kept = record { same = λ j p q. g.kept.same j p (⊎_elim (λ x. inl (omega arith)) (λ x. inr (omega arith)) q) ∙ stays.same j p q };
-  }
+  joined_all : (w3 : List ℕ) (hs : Halves) → hs.lo ≡ lo → hs.h ≡ h → hs.m ≡ m → hs.top ≡ top → Joins l hs w2 w3 → Sorts l lo n top w0 w3
+  joined_all w3 hs a b c d g =
+      let left : words w2 hs.lo hs.h ≡ isort (le_at l) (words w0 lo h) = rw (a, b) left_half in
+      let right : words w2 (hs.lo + hs.h) hs.m ≡ isort (le_at l) (words w0 (lo + h) m) = rw (a, b, c) right_half in
+      let all : words w3 lo (h + m) ≡ isort (le_at l) (words w0 lo h ++ words w0 (lo + h) m) = rw (a, b, c) at (g.joined (words w0 lo h) (words w0 (lo + h) m) left right) in
+      record {
+        sorted = ap (words w3 lo) whole ∙ all ∙ ap (isort (le_at l)) (sym (words_append w0 lo h m) ∙ ap (words w0 lo) (sym whole));
+        kept = record { same = λ j p q. g.kept.same j (omega arith) (⊎_elim (λ x. inl (omega arith)) (λ x. inr (omega arith)) q) ∙ stays.same j p q };
+      }
 
 pub sorts_halves : (l : List ℕ) (lo n top : ℕ) (w0 w1 w2 w3 : List ℕ) → lo + n ≤ top → Sorts l lo (n / 2) top w0 w1 → Sorts l (lo + n / 2) (n - n / 2) top w1 w2
-    → Joins l lo (n / 2) (n - n / 2) top w2 w3 → Sorts l lo n top w0 w3
-sorts_halves l lo n top w0 w1 w2 w3 d s t g = joined_all l lo n (n / 2) (n - n / 2) top w0 w1 w2 (omega arith) d s t w3 g
+    → (hs : Halves) → hs.lo ≡ lo → hs.h ≡ n / 2 → hs.m ≡ n - n / 2 → hs.top ≡ top → Joins l hs w2 w3 → Sorts l lo n top w0 w3
+sorts_halves l lo n top w0 w1 w2 w3 d s t = joined_all l lo n (n / 2) (n - n / 2) top w0 w1 w2 (omega arith) d s t w3

@@ -7,6 +7,7 @@ use Rattle.lexical.specs.Bytes.{le_bytes}
 use Rattle.sorting.specs.Names.{le_name}
 use Rattle.sorting.specs.Sort.{isort, merge}
 use Rattle.sorting.specs.declared.Head.{Head}
+use Rattle.sorting.specs.declared.halves.Halves.{Halves}
 
 -- ---- names compared
 
@@ -38,48 +39,37 @@ words w i (suc n) = word w i ∷ words w (suc i) n
 pub record Kept (lo hi top : ℕ) (w u : List ℕ) : Type 0 where
   pub same : (j : ℕ) → j < top → (j < lo) ⊎ (hi ≤ j) → word u j ≡ word w j
 
--- n words from lo on can be copied to the words from to on, the first first
-unfoldable pub Apart : ℕ → ℕ → ℕ → Type 0
-Apart lo n to = (to ≤ lo) ⊎ (lo + n ≤ to)
-
 -- n words from lo on as they were, from to on
 pub record Copies (lo n to : ℕ) (w u : List ℕ) : Type 0 where
   pub copied : words u to n ≡ words w lo n
   pub kept : (top : ℕ) → Kept to (to + n) top w u
 
--- h words from lo on and m words behind them changed round
-pub record Rotates (lo h m top : ℕ) (w u : List ℕ) : Type 0 where
-  pub turned : words u lo (m + h) ≡ words w (lo + h) m ++ words w lo h
-  pub kept : Kept lo (lo + h + m) top w u
+-- the halves changed round
+pub record Rotates (hs : Halves) (w u : List ℕ) : Type 0 where
+  pub turned : words u hs.lo (hs.m + hs.h) ≡ words w (hs.lo + hs.h) hs.m ++ words w hs.lo hs.h
+  pub kept : Kept hs.lo (hs.lo + hs.h + hs.m) hs.top w u
 
--- a is the name at the place in the word number k of those that end before the word number end, or comes after every name
-pub record HeadIs (l w : List ℕ) (k end : ℕ) (a : Head) : Type 0 where
-  pub more : k < end → HeadOf l (word w k) a
-  pub none : end ≤ k → 4294967296 < a.rank
+-- at least one word in each half, and room for the first from top on
+pub record HalvesIn (hs : Halves) (w : List ℕ) : Type 0 where
+  pub left : 0 < hs.h
+  pub right : 0 < hs.m
+  pub room : 4 * (hs.top + hs.h) ≤ length w
 
--- h words from top on and m words behind h from lo on, and the first name of each
-pub record MergePre (l : List ℕ) (lo h m top : ℕ) (w : List ℕ) (a b : Head) : Type 0 where
-  pub apart : lo + h + m ≤ top
-  pub room : 4 * (top + h) ≤ length w
-  pub left : HeadIs l w top (top + h) a
-  pub right : HeadIs l w (lo + h) (lo + h + m) b
+-- h words from top on and m words behind h from lo on, at least one each, and the first name of each
+pub record MergePre (l : List ℕ) (hs : Halves) (w : List ℕ) (a b : Head) : Type 0 where
+  pub halves : HalvesIn hs w
+  pub left : HeadOf l (word w hs.top) a
+  pub right : HeadOf l (word w (hs.lo + hs.h)) b
 
 -- h words from top on and m words behind h from lo on, merged from lo on
-pub record Merges (l : List ℕ) (lo h m top : ℕ) (w u : List ℕ) : Type 0 where
-  pub merged : words u lo (h + m) ≡ merge (le_at l) (words w top h) (words w (lo + h) m)
-  pub kept : Kept lo (lo + h + m) top w u
+pub record Merges (l : List ℕ) (hs : Halves) (w u : List ℕ) : Type 0 where
+  pub merged : words u hs.lo (hs.h + hs.m) ≡ merge (le_at l) (words w hs.top hs.h) (words w (hs.lo + hs.h) hs.m)
+  pub kept : Kept hs.lo (hs.lo + hs.h + hs.m) hs.top w u
 
--- h words from lo on and m words behind them, at least one of each, and room for h words from top on
-pub record HalvesIn (lo h m top : ℕ) (w : List ℕ) : Type 0 where
-  pub left : 0 < h
-  pub right : 0 < m
-  pub apart : lo + h + m ≤ top
-  pub room : 4 * (top + h) ≤ length w
-
--- h words from lo on and m words behind them, sorted each, are sorted together
-pub record Joins (l : List ℕ) (lo h m top : ℕ) (w u : List ℕ) : Type 0 where
-  pub joined : (p q : List ℕ) → words w lo h ≡ isort (le_at l) p → words w (lo + h) m ≡ isort (le_at l) q → words u lo (h + m) ≡ isort (le_at l) (p ++ q)
-  pub kept : Kept lo (lo + h + m) top w u
+-- halves that are sorted each are sorted together
+pub record Joins (l : List ℕ) (hs : Halves) (w u : List ℕ) : Type 0 where
+  pub joined : (p q : List ℕ) → words w hs.lo hs.h ≡ isort (le_at l) p → words w (hs.lo + hs.h) hs.m ≡ isort (le_at l) q → words u hs.lo (hs.h + hs.m) ≡ isort (le_at l) (p ++ q)
+  pub kept : Kept hs.lo (hs.lo + hs.h + hs.m) hs.top w u
 
 -- two words from lo on sorted
 pub record Pairs (l : List ℕ) (lo : ℕ) (w u : List ℕ) : Type 0 where

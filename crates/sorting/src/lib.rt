@@ -3,15 +3,19 @@
 
 ghost use Rattle.std.specs.Prelude.{◌≡◌, ◌+◌, ◌*◌, ◌/◌, ◌≤◌, length};
 ghost use Rattle.words.specs.Words.{word};
-ghost use Rattle.sorting.specs.Steps.{name_at, HeadOf, first_of, HeadIs, Apart, Copies, Rotates, MergePre, Merges, HalvesIn, Joins, Pairs, Sorts};
+ghost use Rattle.sorting.specs.Steps.{name_at, HeadOf, first_of, Copies, Rotates, MergePre, Merges, HalvesIn, Joins, Pairs, Sorts};
+
+mod halves;
 
 use counter::rank_of;
+use halves::Halves;
 use lexical::bytes_le;
 use words::{get_le32, get32, put32};
 
 // ---- names compared
 
 // The name at a place of a list, as much of it as is there.
+// Stays: by get the length would be an Option of four bytes, and what is left of the names a second slice; the place is tested once here.
 pub fn name_of<'a>(names: &'a [u8], place: u32) -> &'a [u8]
     ensures { result.now ≡ name_at names.now place }
 {
@@ -25,6 +29,9 @@ pub fn name_of<'a>(names: &'a [u8], place: u32) -> &'a [u8]
 }
 
 // A name in a list: its place, and the rank of its counter, which is read once for many comparisons.
+// Stays: the rank as a number, as counter::rank_of gives it, which is public: no counter comes before the counter 0 by one comparison. With
+// the counter as an Option, ordered by std's cmp (tried), an order of 1,000 names takes 13 of a hundred more instructions (shuffled), and
+// 14 (rotated by a third).
 #[derive(Clone, Copy)]
 pub struct Head {
     pub place: u32,
@@ -53,6 +60,7 @@ pub fn is_first(names: &[u8], a: Head, b: Head) -> bool
 
 // ---- places of names, as words in the output, sorted
 
+// Stays: names and output side by side, here and below; a struct of them would hold the output as &mut.
 // The name at the place in a word.
 fn head_at(names: &[u8], out: &[u8], k: usize) -> Head
     requires { 4 * k + 4 ≤ length out.now }
@@ -61,45 +69,20 @@ fn head_at(names: &[u8], out: &[u8], k: usize) -> Head
     head_of(names, get32(out, k))
 }
 
-// The same, or one that comes after every name where the words end before it.
-// Stays: with a rank past every name's for no name, each turn of a merge asks one question; an Option makes it two.
-fn next_head(names: &[u8], out: &[u8], k: usize, end: usize) -> Head
-    requires { 4 * end ≤ length out.now }
-    ensures { HeadIs names.now out.now k end result }
-{
-    if end <= k {
-        return Head {
-            place: 0,
-            rank: 4294967297,
-        };
-    }
-    head_at(names, out, k)
-}
-
-// Copies the n words from lo on to the words from to on. They may overlap if they go down.
+// Copies the n words from lo on to the words from to on. They may overlap.
 fn copy_words(out: &mut [u8], lo: usize, n: usize, to: usize)
-    requires { Apart lo n to × (4 * (lo + n) ≤ length out.old) × (4 * (to + n) ≤ length out.old) }
+    requires { (4 * (lo + n) ≤ length out.old) × (4 * (to + n) ≤ length out.old) }
     ensures { Copies lo n to out.old out.new }
 {
-    for i in 0..n {
-        let place = get32(out, lo + i);
-        put32(out, to + i, place);
-    }
-}
-
-// Two halves: the h words from lo on and the m words behind them. The words from top on are free.
-#[derive(Clone, Copy)]
-struct Halves {
-    lo: usize,
-    h: usize,
-    m: usize,
-    top: usize,
+    out.copy_within(4 * lo..4 * (lo + n), 4 * to);
 }
 
 // Changes two halves round.
+// Stays: three copies. By std's rotate_left on their bytes, orders of 20,000 names take 12 of a hundred more instructions (shuffled), 24
+// (without counters) and three times as many (reversed but for two names, 16.8 to 65.8 million), and 4,096 bytes of stack more.
 fn rotate_words(out: &mut [u8], halves: Halves)
-    requires { (halves.lo + halves.h + halves.m ≤ halves.top) × (4 * (halves.top + halves.h) ≤ length out.old) }
-    ensures { Rotates halves.lo halves.h halves.m halves.top out.old out.new }
+    requires { 4 * (halves.top + halves.h) ≤ length out.old }
+    ensures { Rotates halves out.old out.new }
 {
     let Halves { lo, h, m, top } = halves;
     copy_words(out, lo, h, top);
@@ -109,34 +92,43 @@ fn rotate_words(out: &mut [u8], halves: Halves)
 
 // Merges two halves, of which the first was copied to the free words, to the words from lo on. The first names of both are
 // given; a name is read when its turn comes, and stays read until it is written.
+// Stays: a turn moves one of two indices, by which name comes first, so that no range and no iterator is gone through.
 fn merge_words(names: &[u8], out: &mut [u8], halves: Halves, first: Head, second: Head)
-    requires { MergePre names.now halves.lo halves.h halves.m halves.top out.old first second }
-    ensures { Merges names.now halves.lo halves.h halves.m halves.top out.old out.new }
+    requires { MergePre names.now halves out.old first second }
+    ensures { Merges names.now halves out.old out.new }
 {
     let Halves { lo, h, m, top } = halves;
     let mut i = 0;
     let mut j = 0;
     let mut a = first;
     let mut b = second;
-    // Stays: a turn moves one of two indices, by which name comes first, so that no range and no iterator is gone through.
-    while i < h {
+    loop {
         if is_first(names, a, b) {
             put32(out, lo + i + j, a.place);
             i += 1;
-            a = next_head(names, out, top + i, top + h);
-            continue;
+            // What is left of the second half stands where it belongs.
+            if i == h {
+                return;
+            }
+            a = head_at(names, out, top + i);
+        } else {
+            put32(out, lo + i + j, b.place);
+            j += 1;
+            // What is left of the first half follows as it stands.
+            if j == m {
+                copy_words(out, top + i, h - i, lo + i + j);
+                return;
+            }
+            b = head_at(names, out, lo + h + j);
         }
-        put32(out, lo + i + j, b.place);
-        j += 1;
-        b = next_head(names, out, lo + h + j, lo + h + m);
     }
 }
 
 // Joins two sorted halves. Halves that meet in order stay as they are, and halves that are wholly the wrong way round change
 // places.
 fn join_halves(names: &[u8], out: &mut [u8], halves: Halves)
-    requires { HalvesIn halves.lo halves.h halves.m halves.top out.old }
-    ensures { Joins names.now halves.lo halves.h halves.m halves.top out.old out.new }
+    requires { HalvesIn halves out.old }
+    ensures { Joins names.now halves out.old out.new }
 {
     let Halves { lo, h, m, top } = halves;
     let a = head_at(names, out, lo + h - 1);

@@ -4,11 +4,17 @@ use mathlib.Core.Path.{◌≡◌, refl, sym, ap, ◌∙◌}
 use mathlib.Core.Bool.{Bool, true, false, cond}
 use mathlib.Core.List.{List, [], ◌∷◌, ◌++◌}
 use native.Mathlib.Omega.{arith}
-use lib.ListN.{length, get_or, take, drop, length-append, length-drop}
+use lib.ListN.{length, take, drop, length-append, length-drop}
 use lib.Seq.{length-take-le}
 use lib.Dec.{eqb}
+use lib.Pointwise.{pointwise}
+use denote.Ref.{Bor}
+use Rattle.std.specs.Prelude.{Option, None, Some, MatchOption}
+use Rattle.std.specs.Option.{unwrap_or}
+use Rattle.std.specs.Bool.{Decides}
+use Rattle.std.proofs.lemmas.Slice.Eq.{strip_suffix_is}
 use mir.Val.{bool_byte}
-use borrow.Author.Tests.{eq-eqb, ne_eqb, lt-ltb, le-ltb}
+use borrow.Author.Tests.{eqb-true, eq-eqb, ne_eqb, lt-ltb, le-ltb}
 use Rattle.laws.proofs.Choice.{split_b}
 use Rattle.laws.proofs.Lists.{drop_end}
 use Rattle.mdr.specs.Frame.{unpacks_of}
@@ -20,7 +26,7 @@ use Rattle.spans.specs.Bytewise.{Quiet}
 use Rattle.spans.proofs.Bytewise.{no_end, no_start_law, closes_first}
 use Rattle.spans.specs.Parts.{bit, tally_one, tally_all, CountedIs}
 use Rattle.search.specs.Steps.{Sought}
-use Rattle.spans.specs.Scans.{UpTo, ScanPre, Begins, AddedIs, FirstPre, FirstIs, FromPre, OpenPre, OpenIs, ScannedIs}
+use Rattle.spans.specs.Scans.{ScanPre, Begins, AddedIs, FirstPre, FirstIs, FromPre, OpenPre, OpenIs, ScannedIs}
 use Rattle.spans.specs.declared.Tally.{Tally}
 use Rattle.spans.specs.declared.Counted.{Counted}
 use Rattle.spans.specs.declared.First.{First}
@@ -31,15 +37,22 @@ nil (x ∷ b) e = absurd (omega arith)
 
 -- ---- the first 3C
 
--- what stands before an x says where the first is
-seek_before : (x : ℕ) (l : List ℕ) (m : ℕ) → m < length l → get_or l m 0 ≡ x → seek x (take m l) ≡ seek x l
+-- an x at the end is the first, or another is
+seek_last : (x : ℕ) (l : List ℕ) → seek x (l ++ (x ∷ [])) ≡ seek x l
 unfolding seek
-seek_before x [] m h e = absurd (omega arith)
-seek_before x (y ∷ l) zero h e = rw (eq-eqb y x e)
-seek_before x (y ∷ l) (suc m) h e = rw (seek_before x l m (omega arith) e)
+seek_last x [] = rw (eq-eqb x x refl)
+seek_last x (y ∷ l) = rw (seek_last x l)
 
-pub up_to_last : (l : List ℕ) → 0 < length l → get_or l (length l - 1) 0 ≡ 0x3C → UpTo l (length l - 1)
-up_to_last l h e = record { high = omega arith; same = seek_before 0x3C l (length l - 1) (omega arith) e }
+same_bytes : (a b : ℕ) → Decides (eqb a b) (a ≡ b)
+same_bytes a b = (eqb-true a b, eq-eqb a b)
+
+abbrev pub Stripped : List ℕ → List ℕ → Option (Bor (List ℕ)) → Type 0
+Stripped l p o = MatchOption o (pointwise eqb (drop (length l - length p) l) p ≡ false) (λ x. (pointwise eqb (drop (length l - length p) l) p ≡ true) × (x.now ≡ take (length l - length p) l) × (length x.now + length p ≡ length l))
+
+module _ (s : Bor (List ℕ)) (p : List ℕ) (e : p ≡ 0x3C ∷ []) where
+  pub first_before_last : (o : Option (Bor (List ℕ))) → Stripped s.now p o → (u : Bor (List ℕ)) → u ≡ unwrap_or o s → (r : ℕ) → Sought u.now 0x3C r → r ≡ seek 0x3C s.now
+  first_before_last None m u eu r k = rw eu at k.at
+  first_before_last (Some x) m u eu r k = (rw eu at k.at) ∙ sym (seek_last 0x3C x.now) ∙ ap (seek 0x3C) (rw e at (sym (strip_suffix_is same_bytes s.now p (Some x) m)))
 
 -- ---- one span more
 

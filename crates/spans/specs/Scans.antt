@@ -1,5 +1,5 @@
 -- What the scan of a part behind what is held promises. What is held is any quiet list of so many bytes.
-use Rattle.std.specs.Prelude.{ℕ, ◌+◌, ◌-◌, ◌*◌, ◌<◌, ◌≤◌, ◌≡◌, Bool, true, false, List, ◌++◌, length, get_or, take, drop}
+use Rattle.std.specs.Prelude.{ℕ, ◌+◌, ◌-◌, ◌*◌, ◌<◌, ◌≤◌, ◌≡◌, Bool, true, false, List, ◌++◌, length, get_or, drop}
 use Rattle.spans.specs.Scan.{spans_of, rest_of}
 use Rattle.search.specs.Seek.{seek}
 use Rattle.spans.specs.Bytewise.{Quiet}
@@ -7,11 +7,6 @@ use Rattle.spans.specs.Parts.{tally_one, tally_all, Room}
 use Rattle.spans.specs.declared.Tally.{Tally}
 use Rattle.spans.specs.declared.First.{First}
 use Rattle.spans.specs.declared.Scanned.{Scanned}
-
--- the first 3C, if there is one, is one of the first r bytes or the one behind them
-pub record UpTo (x : List ℕ) (r : ℕ) : Type 0 where
-  pub high : r ≤ length x
-  pub same : seek 0x3C (take r x) ≡ seek 0x3C x
 
 -- behind h bytes held, which closed are counted by their length
 pub record ScanPre (x : List ℕ) (h : ℕ) (t : Tally) : Type 0 where

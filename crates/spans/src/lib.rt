@@ -5,7 +5,7 @@ ghost use Rattle.std.specs.Prelude.{◌≡◌, ◌+◌, ◌*◌, ◌≤◌, ◌<
 ghost use Rattle.items.specs.Items.{rx_of};
 ghost use Rattle.search.specs.Seek.{seek};
 ghost use Rattle.spans.specs.Parts.{NextIs, Room, tally_one, CountedIs, WritePre, WroteIs};
-ghost use Rattle.spans.specs.Scans.{UpTo, Begins, ScanPre, AddedIs, FirstPre, FirstIs, FromPre, OpenPre, OpenIs, ScannedIs};
+ghost use Rattle.spans.specs.Scans.{Begins, ScanPre, AddedIs, FirstPre, FirstIs, FromPre, OpenPre, OpenIs, ScannedIs};
 
 use items::{Direction, put_span};
 use search::{find, find_few, find_soon};
@@ -13,33 +13,24 @@ use unpacking::unpacks;
 
 // ---- the first 3C
 
-// How many bytes are to be searched for the first 3C: not the last, if it is one.
-fn before_end(s: &[u8]) -> usize
-    requires { 0 < length s.now }
-    ensures { UpTo s.now result }
-{
-    let last = s.len() - 1;
-    if s[last] == 0x3C {
-        return last;
-    }
-    last + 1
-}
-
 // The place of the first 3C; the length, if there is none. A piece often ends with its only 3C, and then no place is looked
 // for in a block.
+// Stays: the length for none, as search::find says it and as a word of each piece keeps it: an Option would be made of the one and turned into
+// the other.
 pub fn first_end(s: &[u8]) -> usize
     ensures { result ≡ seek 0x3C s.now }
 {
     if s.len() < 16 {
         return find_few(s, 0x3C);
     }
-    let m = before_end(s);
-    find(&s[0..m], 0x3C)
+    find(s.strip_suffix(&[0x3C]).unwrap_or(s), 0x3C)
 }
 
 // ---- the walk
 
 // The walk through the spans of a buffer: what of it is still to be looked at, and after the last span what is left.
+// Stays: no Iterator, though it proves as one: callers need what is left after the walk, and `for` over `&mut spans` (tried) says nothing of it.
+// trace::Reader is one, since nothing is asked of a reader after `for r in trace.records()`.
 #[derive(Clone, Copy)]
 pub struct Spans<'a> {
     pub rest: &'a [u8],
@@ -66,8 +57,8 @@ impl<'a> Spans<'a> {
 
 // What is counted of spans: how many, the bytes of their list, and how many are known to unpack. Once one does, no other is tried.
 // Stays: frames is a word and no bool, whose padding was copied with it for each piece: import of a typical MiB took 9.90 million
-// instructions and 1,510 us, and takes 9.45 and 1,320.
-#[derive(Clone, Copy)]
+// instructions and 1,510 us, and takes 9.45 and 1,320. The bar is docs/PERFORMANCE.md's 9,913,279 instructions for the typical MiB before.
+#[derive(Clone, Copy, Default)]
 pub struct Tally {
     pub count: usize,
     pub bytes: usize,
@@ -114,6 +105,8 @@ pub fn count_part(buffer: &[u8], t: Tally) -> Counted
 }
 
 // ---- a part behind what is held
+// Stays: part and h side by side: h is a length, of bytes that lie elsewhere; begins and scan are public with the two, and of a struct for the
+// others scan alone would be the maker.
 
 // What a scan of a part finds: the spans counted, the place of its first 3C or its length, and how long the rest is.
 #[derive(Clone, Copy)]
@@ -147,7 +140,7 @@ fn add_behind(t: Tally, h: usize, part: &[u8]) -> Tally
         return Tally {
             count: t.count + 1,
             bytes: t.bytes + 14 + h + part.len(),
-            frames: t.frames,
+            ..t
         };
     }
     add_span(t, part)
@@ -207,11 +200,9 @@ pub fn scan(part: &[u8], h: usize, t: Tally) -> Scanned
         };
     }
     let f = count_first(part, h, t, e);
-    let sum = f.tally;
-    let c = count_from(part, f.skip, sum);
-    let all = c.tally;
+    let c = count_from(part, f.skip, f.tally);
     Scanned {
-        tally: all,
+        tally: c.tally,
         end: e,
         rest: c.rest,
     }
@@ -220,6 +211,7 @@ pub fn scan(part: &[u8], h: usize, t: Tally) -> Scanned
 // ---- writing
 
 // Where the list goes on, and how long the rest of the buffer is.
+// Stays: no code reads rest; write_part is public and promises it, and a public function promises no less than it did.
 #[derive(Clone, Copy)]
 pub struct Wrote {
     pub at: usize,

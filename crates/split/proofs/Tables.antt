@@ -12,9 +12,18 @@ use Rattle.laws.specs.Keys.{Key, eq_k}
 use Rattle.laws.proofs.Keys.{split_k, eq_k_true, eq_eq_k, ne_eq_k}
 use Rattle.words.specs.Words.{word}
 use Rattle.rfcomm.specs.PieceTable.{piece_at, infos_of}
-use Rattle.split.specs.Rows.{piece, tail_at, key_at, len_at, start_at, in_work, bytes_at, stream_of, held_in, held_of, newest_of}
+use Rattle.split.specs.Rows.{piece, tail_at, key_at, len_at, start_at, in_work, bytes_at, stream_of, held_in, held_of, held_at, newest_of}
 use Rattle.split.specs.Walks.{Chained, Lying, Earlier, one_more}
 use Rattle.split.specs.declared.Plan.{Plan}
+use Rattle.split.specs.declared.pieces.Pieces.{Pieces}
+use Rattle.split.specs.declared.pieces.Table.{Table}
+use Rattle.split.specs.Views.{SameTable}
+
+-- ---- what the table of the pieces says, they say
+
+module _ (s : Pieces) (t : Table) (e : SameTable s t) (r i : ℕ) where
+  pub held_same : r ≡ held_at t.w.now t.plan i → r ≡ held_at s.w.now s.plan i
+  held_same h = rw (e.words, e.plan) at h
 
 -- ---- the newest piece of a key
 

@@ -34,6 +34,13 @@ len_at w p i = word w (row_of p i + 5) % 65536
 abbrev pub start_at : List ℕ → Plan → ℕ → ℕ
 start_at w p i = word w (row_of p i + 4)
 
+-- what its key holds after it, and the place of its first 3C, which counting stores
+abbrev pub held_at : List ℕ → Plan → ℕ → ℕ
+held_at w p i = word w (p.held + i)
+
+abbrev pub end_at : List ℕ → Plan → ℕ → ℕ
+end_at w p i = word w (p.ends + i)
+
 abbrev pub in_work : List ℕ → Plan → ℕ → Bool
 in_work w p i = eqb (word w (row_of p i + 5) / 65536) 1
 

@@ -1,7 +1,18 @@
 -- The pieces as the struct has them.
-use Rattle.std.specs.Prelude.{ℕ, List}
-use Rattle.split.specs.Rows.{bytes_at, stream_to}
+use Rattle.std.specs.Prelude.{ℕ, ◌≡◌, List}
+use Rattle.rfcomm.specs.Pieces.{Piece}
+use Rattle.split.specs.Rows.{piece, bytes_at, stream_to}
 use Rattle.split.specs.declared.pieces.Pieces.{Pieces}
+use Rattle.split.specs.declared.pieces.Table.{Table}
+
+-- a piece by the definitions
+abbrev pub piece_of : Pieces → ℕ → Piece
+piece_of s i = piece s.file.now s.w.now s.plan i
+
+-- its table alone
+pub record SameTable (s : Pieces) (t : Table) : Type 0 where
+  pub words : t.w.now ≡ s.w.now
+  pub plan : t.plan ≡ s.plan
 
 -- the bytes of a piece
 abbrev pub bytes_of : Pieces → ℕ → List ℕ

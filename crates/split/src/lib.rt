@@ -18,6 +18,7 @@ use words::get32;
 
 // Where the tables lie in work: the pieces, what links them, the lengths held and the places of 3C by words, the area by
 // bytes. And the DLCI.
+// Stays: places and a count, and no slices: the tables lie side by side in the lent work, which is written; there is no heap.
 #[derive(Clone, Copy)]
 pub struct Plan {
     pub rows: usize,
@@ -44,14 +45,12 @@ pub fn link_pieces(w: &mut [u8], p: Plan, links: usize)
     requires { LinkRoom w.old p links }
     ensures { LinkedTo w.old p w.new }
 {
-    let n = p.n;
-    let chain = p.chain;
     let x = Rows {
         at: p.rows,
-        n,
+        n: p.n,
         links,
     };
-    link_all(w, x, chain, links + 2 * n);
+    link_all(w, x, p.chain);
 }
 
 // ---- the buffer of a key

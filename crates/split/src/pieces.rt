@@ -4,7 +4,8 @@
 ghost use Rattle.split.specs.Walks.{Chained, Lying};
 
 use crate::{Plan, length_of};
-use words::{copy_to, get32, part};
+use items::Direction;
+use words::{copy_to, get32, get64, part};
 
 // The table of pieces in work, and the words that link them.
 #[derive(Clone, Copy)]
@@ -16,8 +17,16 @@ pub struct Table<'a> {
 
 impl<'a> Table<'a> {
     ghost use Rattle.std.specs.Prelude.{◌≡◌, ◌<◌};
-    ghost use Rattle.split.specs.Rows.{held_of};
+    ghost use Rattle.split.specs.Rows.{dlci_at, held_of, held_at};
     ghost use Rattle.split.specs.Walks.{Earlier, one_more};
+
+    // The DLCI of piece i.
+    pub fn dlci_of(self, i: usize) -> u32
+        requires { i < self.plan.n }
+        ensures { result ≡ dlci_at self.entry.w.now self.entry.plan i }
+    {
+        get32(self.w, self.plan.rows + 8 * i)
+    }
 
     // The piece of its key before piece i, if there is one. The word has one more than its number.
     pub fn earlier(self, i: usize) -> Option<usize>
@@ -32,10 +41,19 @@ impl<'a> Table<'a> {
         requires { i < self.plan.n }
         ensures { result ≡ held_of self.entry.w.now self.entry.plan i }
     {
+        // Stays: in `map_or` (tried) the closure needs a clause of its own for the word that it reads.
         match self.earlier(i) {
-            Some(j) => get32(self.w, self.plan.held + j) as usize,
+            Some(j) => self.held_after(j) as usize,
             None => 0,
         }
+    }
+
+    // The length held after piece i, as it is stored.
+    pub fn held_after(self, i: usize) -> u32
+        requires { i < self.plan.n }
+        ensures { result ≡ held_at self.entry.w.now self.entry.plan i }
+    {
+        get32(self.w, self.plan.held + i)
     }
 }
 
@@ -52,9 +70,28 @@ impl<'a> Pieces<'a> {
     ghost use Rattle.std.specs.Prelude.{◌≡◌, ◌<◌, take, drop};
     ghost use Rattle.std.proofs.lemmas.List.Edits.{sets};
     ghost use Rattle.split.specs.Last.{lastn};
-    ghost use Rattle.split.specs.Rows.{len_at, in_work, held_of};
+    ghost use Rattle.items.specs.Items.{rx_of};
+    ghost use Rattle.split.specs.Rows.{len_at, in_work, held_of, held_at, end_at};
     ghost use Rattle.split.specs.Walks.{Earlier, one_more, StartIs, PutPre, GatherPre};
-    ghost use Rattle.split.specs.Views.{bytes_of, stream_before};
+    ghost use Rattle.split.specs.Views.{piece_of, bytes_of, stream_before, SameTable};
+
+    // The direction of piece i.
+    #[tactic(auto, unfolding(rfcomm::specs::PieceTable::piece_at))]
+    pub fn direction_of(self, i: usize) -> Direction
+        requires { i < self.plan.n }
+        ensures { rx_of result ≡ (piece_of self.entry i).rx }
+    {
+        Direction::in_side(get32(self.w, self.plan.rows + 8 * i + 1))
+    }
+
+    // The time of piece i.
+    #[tactic(auto, unfolding(rfcomm::specs::PieceTable::piece_at))]
+    pub fn time_of(self, i: usize) -> u64
+        requires { i < self.plan.n }
+        ensures { result ≡ (piece_of self.entry i).time }
+    {
+        get64(self.w, self.plan.rows + 8 * i + 6)
+    }
 
     // The length of piece i.
     pub fn length_of(self, i: usize) -> usize
@@ -93,16 +130,22 @@ impl<'a> Pieces<'a> {
         part(self.file, start, n)
     }
 
+    // Their table alone.
+    fn table(self) -> Table<'a>
+        ensures { SameTable self.entry result }
+    {
+        Table {
+            w: self.w,
+            plan: self.plan,
+        }
+    }
+
     // The piece of its key before piece i, if there is one.
     fn earlier(self, i: usize) -> Option<usize>
         requires { i < self.plan.n }
         ensures { Earlier self.entry.w.now self.entry.plan i (one_more result) }
     {
-        let table = Table {
-            w: self.w,
-            plan: self.plan,
-        };
-        table.earlier(i)
+        self.table().earlier(i)
     }
 
     // The length held after the newest piece before i that has the key of i.
@@ -110,11 +153,24 @@ impl<'a> Pieces<'a> {
         requires { i < self.plan.n }
         ensures { result ≡ held_of self.entry.w.now self.entry.plan i }
     {
-        let table = Table {
-            w: self.w,
-            plan: self.plan,
-        };
-        table.held_before(i)
+        self.table().held_before(i)
+    }
+
+    // The length held after piece i, as it is stored.
+    pub fn held_after(self, i: usize) -> usize
+        requires { i < self.plan.n }
+        ensures { result ≡ held_at self.entry.w.now self.entry.plan i }
+    {
+        self.table().held_after(i) as usize
+    }
+
+    // The place of the first 3C of piece i, as it is stored; the length, if there is none.
+    // Stays: the length for none, as spans::first_end has it and the word stores it.
+    pub fn end_of(self, i: usize) -> usize
+        requires { i < self.plan.n }
+        ensures { result ≡ end_at self.entry.w.now self.entry.plan i }
+    {
+        get32(self.w, self.plan.ends + i) as usize
     }
 
     // Copies m bytes of piece j, from skip on, to a place in out.

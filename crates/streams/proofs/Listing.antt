@@ -23,8 +23,10 @@ use Rattle.writing.specs.Writing.{ListPre}
 use Rattle.outcome.specs.Import.{chosen, listed, given}
 use Rattle.streams.specs.Streams.{channel_of, plan_of, table_pieces, Tabled, Ready, below, stream_of, choice_of, Chooses, told, Leaves, ListsSpans, Channel, Choice, Listed}
 use Rattle.streams.specs.declared.Stream.{Stream}
+use Rattle.streams.specs.declared.ListError.{ListError}
 use Rattle.streams.specs.declared.ListError.TheVariants.{NoStream, OutShort}
-use Rattle.std.specs.Prelude.{None, Some, Ok, Err}
+use Rattle.std.specs.Prelude.{None, Some, Ok, Err, ok_or}
+use Rattle.std.specs.Result.{result_ok}
 use Rattle.streams.proofs.Choosing.{laid_later, all_same}
 
 low : (f : List ℕ) (n : ℕ) (u w : List ℕ) → Front (below f n) u w → Front (24 * (length f / 4)) u w
@@ -40,21 +42,26 @@ unfolding choice_of stream_of
 choice_some ps none s e = let z : ◌≡◌ {A = ℕ} 0 1 = cc in absurd (omega arith)
 choice_some ps (some d) s e = let z : s ≡ stream_of ps d = cc in (rw z, rw z)
 
-module _ (f w : List ℕ) (n : ℕ) (channel : Channel) (u : List ℕ) (c : Choice) (q : Chooses f w n channel u c) (out : List ℕ) where
-  pub lists_none : c ≡ None → ListsSpans f w n channel out (Err NoStream) u out
+module _ (f w : List ℕ) (n : ℕ) (channel : Channel) (u : List ℕ) (c : Choice) (q : Chooses f w n channel u c) (out : List ℕ) (o : Listed) (z : c ≡ result_ok o) where
+  pub lists_none : o ≡ ok_or c NoStream → (x : ListError) → o ≡ Err x → ListsSpans f w n channel out (Err x) u out
   unfolding listed given told
-  lists_none e =
-      let z : chosen (channel_of channel) (table_pieces f w n) ≡ none = choice_none (table_pieces f w n) (chosen (channel_of channel) (table_pieces f w n)) (sym e ∙ q.chooses) in
-      record {
-        meets = λ tail wrongs. meets_refused (given (listed (table_pieces f w n) wrongs tail (chosen (channel_of channel) (table_pieces f w n)))) out 6 [] (rw z);
+  lists_none v x h =
+      let e : c ≡ None = z ∙ ap result_ok h in
+      let k : ◌≡◌ {A = Listed} (Err x) (Err NoStream) = sym h ∙ v ∙ ap (λ (y : Choice). ok_or y NoStream) e in
+      let y : chosen (channel_of channel) (table_pieces f w n) ≡ none = choice_none (table_pieces f w n) (chosen (channel_of channel) (table_pieces f w n)) (sym e ∙ q.chooses) in
+      rw k (record {
+        meets = λ tail wrongs. meets_refused (given (listed (table_pieces f w n) wrongs tail (chosen (channel_of channel) (table_pieces f w n)))) out 6 [] (rw y);
         front = low f n u w q.front;
         left = λ s g. (let y : ◌≡◌ {A = ℕ} 0 1 = cc in absurd (omega arith));
         small = λ s g. (let y : ◌≡◌ {A = ℕ} 0 1 = cc in absurd (omega arith));
-      }
+      })
 
-  module _ (s : Stream) (e : c ≡ Some s) where
+  module _ (s : Stream) (m : o ≡ Ok s) where
+    chosen_is : c ≡ Some s
+    chosen_is = z ∙ ap result_ok m
+
     of_stream : (chosen (channel_of channel) (table_pieces f w n) ≡ some s.dlci) × (s ≡ stream_of (table_pieces f w n) s.dlci)
-    of_stream = choice_some (table_pieces f w n) (chosen (channel_of channel) (table_pieces f w n)) s (sym e ∙ q.chooses)
+    of_stream = choice_some (table_pieces f w n) (chosen (channel_of channel) (table_pieces f w n)) s (sym chosen_is ∙ q.chooses)
 
     abbrev list : List ℕ
     list = span_list (spans (on_dlci s.dlci (table_pieces f w n)))
@@ -87,7 +94,7 @@ module _ (f w : List ℕ) (n : ℕ) (channel : Channel) (u : List ℕ) (c : Choi
       pub lists_pre : ListPre f u p out
       unfolding plan_of
       lists_pre = record {
-        told = rw ep (q.told s e);
+        told = rw ep (q.told s chosen_is);
         small = (laid_later f w n t u q.front k p s.dlci ep).sum;
         room = rw (all_same f w n t u q.front p s.dlci ep) (omega (arith, needed));
       }
@@ -98,7 +105,7 @@ module _ (f w : List ℕ) (n : ℕ) (channel : Channel) (u : List ℕ) (c : Choi
         is = of_stream.0;
         pieces = rw ep at (all_same f w n t u q.front p s.dlci ep);
         laid = rw ep at (laid_later f w n t u q.front k p s.dlci ep);
-        told = q.told s e;
+        told = q.told s chosen_is;
         few = omega (arith, t.tabled.few);
       }
 
@@ -110,7 +117,7 @@ module _ (f w : List ℕ) (n : ℕ) (channel : Channel) (u : List ℕ) (c : Choi
             meets = λ tail wrongs. meets_wrote _ out _ list r out' (gives_list tail wrongs) (omega (arith, needed)) x;
             front = low f n u w q.front;
             left = λ t g. (let y : t ≡ s = cc in rw y leaves);
-            small = λ t g. (let y : t ≡ s = cc in rw y (q.small s e));
+            small = λ t g. (let y : t ≡ s = cc in rw y (q.small s chosen_is));
           }
 
 -- ---- the pieces linked first

@@ -25,13 +25,11 @@ pub struct Stream {
 }
 
 // Whether the channel, if one is given, is the DLCI divided by 2.
+#[tactic(auto, unfolding(outcome::specs::Import::on_channel, crate::specs::Streams::channel_of))]
 fn on_channel(channel: Option<u8>, dlci: u32) -> bool
     ensures { result ≡ on_channel (channel_of channel) dlci }
 {
-    match channel {
-        None => true,
-        Some(c) => dlci / 2 == c as u32,
-    }
+    channel.is_none_or(|c| dlci / 2 == c as u32)
 }
 
 // Where the tables lie in work, for a file of 4 * q bytes or a little more.
@@ -116,9 +114,7 @@ pub fn list_spans(
     let q = file.len() / 4;
     let all = plan(q, n, 0);
     link_pieces(w, all, 7 * q);
-    let Some(s) = choose_dlci(file, w, n, channel) else {
-        return Err(ListError::NoStream);
-    };
+    let s = choose_dlci(file, w, n, channel).ok_or(ListError::NoStream)?;
     if out.len() < s.bytes {
         return Err(ListError::OutShort(s.bytes));
     }

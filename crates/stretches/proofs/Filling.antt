@@ -4,10 +4,11 @@ use mathlib.Core.Path.{◌≡◌, refl, ap, ◌∙◌}
 use mathlib.Core.List.{List, [], ◌∷◌, ◌++◌}
 use native.Mathlib.Nat.{le_of_suc-le-suc, not-suc-le-zero}
 use native.Mathlib.Omega.{arith}
-use lib.ListN.{length, set, drop, length-append}
+use lib.Seq.{length-take-le}
+use lib.ListN.{length, set, take, drop, length-append}
 use borrow.Author.Tests.{lt-ltb, le-ltb}
 use Rattle.words.specs.Words.{word}
-use Rattle.stretches.specs.Filled.{blank, stretch_at, filled_by, filled, stretches_to}
+use Rattle.stretches.specs.Filled.{stretch_at, filled_by, filled, stretches_to}
 use Rattle.stretches.specs.declared.Stretch.{Stretch}
 
 module _ (w : List ℕ) (i : ℕ) where
@@ -17,9 +18,11 @@ module _ (w : List ℕ) (i : ℕ) where
   unfolding stretch_at
   stretch_there h a b c d e f pa pb pc pd pe pf = rw (lt-ltb i (length w / 24) h, pa, pb, pc, pd, pe, pf)
 
-  pub stretch_none : length w / 24 ≤ i → blank ≡ stretch_at w i
+  pub stretch_none :
+      length w / 24 ≤ i → (a b c d e f : ℕ) → a ≡ 0 → b ≡ 0 → c ≡ 0 → d ≡ 0 → e ≡ 0 → f ≡ 0 →
+      record { way = a; cid = b; dlci = c; sessions = d; links = e; held = f } ≡ stretch_at w i
   unfolding stretch_at
-  stretch_none h = rw (le-ltb i (length w / 24) h)
+  stretch_none h a b c d e f pa pb pc pd pe pf = rw (le-ltb i (length w / 24) h, pa, pb, pc, pd, pe, pf)
 
 pub length_filled : (f : ℕ → Stretch) (n : ℕ) (xs : List Stretch) → length (filled_by f n xs) ≡ length xs
 length_filled f zero xs = refl
@@ -31,6 +34,19 @@ pub filled_more : (f : ℕ → Stretch) (i : ℕ) (xs : List Stretch) → i < le
 filled_more f i [] h = absurd (not-suc-le-zero h)
 filled_more f zero (x ∷ xs) h = refl
 filled_more f (suc i) (x ∷ xs) h = ap (λ (l : List Stretch). f 0 ∷ l) (filled_more (λ j. f (suc j)) i xs (le_of_suc-le-suc h))
+
+-- the first n places of a list, filled by themselves
+filled_front : (f : ℕ → Stretch) (n : ℕ) (xs : List Stretch) → filled_by f n (take n xs) ++ drop n xs ≡ filled_by f n xs
+filled_front f zero xs = refl
+filled_front f (suc n) [] = refl
+filled_front f (suc n) (x ∷ xs) = ap (λ (l : List Stretch). f 0 ∷ l) (filled_front (λ j. f (suc j)) n xs)
+
+pub filled_whole :
+    (w : List ℕ) (n : ℕ) (xs : List Stretch) → n ≤ length xs → (i : ℕ) → i ≤ length (take n xs) → length (take n xs) ≤ i →
+    (l : List Stretch) → l ≡ filled w i (take n xs) → l ++ drop n xs ≡ filled w n xs
+filled_whole w n xs h i a b l e =
+    let k : i ≡ n = omega (arith, length-take-le n xs h) in
+    rw (e, k) (filled_front (stretch_at w) n xs)
 
 -- ---- the places filled are the stretches in words, and those past them stay
 

@@ -12,7 +12,7 @@ use words::{get32, put32};
 // A stretch and direction with bytes held: 2 * link + direction, where a link is 4096 times the adapter's index plus the handle;
 // CID, DLCI, the sessions and links of that link, and the number of bytes held.
 #[repr(C)]
-#[derive(Clone, Copy)]
+#[derive(Clone, Copy, Default)]
 pub struct Stretch {
     pub way: u32,
     pub cid: u32,
@@ -37,14 +37,7 @@ fn stretch_at(w: &[u8], i: usize) -> Stretch
             held: get32(w, at + 5),
         };
     }
-    Stretch {
-        way: 0,
-        cid: 0,
-        dlci: 0,
-        sessions: 0,
-        links: 0,
-        held: 0,
-    }
+    Stretch::default()
 }
 
 // Fills the first count places with the stretches in work.
@@ -52,8 +45,8 @@ pub fn fill(work: &[u8], stretches: &mut [Stretch], count: usize)
     requires { count ≤ length stretches.old }
     ensures { stretches.new ≡ filled work.now count stretches.old }
 {
-    for i in 0..count {
-        stretches[i] = stretch_at(work, i);
+    for (i, stretch) in stretches[..count].iter_mut().enumerate() {
+        *stretch = stretch_at(work, i);
     }
 }
 
@@ -66,13 +59,13 @@ fn hand_back(w: &mut [u8], p: Plan, i: usize)
 {
     let table = Table { w, plan: p };
     if let Some(j) = table.earlier(i) {
-        let h = get32(w, p.held + i);
+        let h = table.held_after(i);
         put32(w, p.held + j, h);
     }
 }
 
 // Tells every piece the length held after the last piece of its key, from the last piece to the first.
-// Stays: SpreadPre is asked here and below, of work that is written, where a view's ghost field has work as it is.
+// Stays: SpreadPre is a clause of three functions and no ghost field, since they write work, and a field would speak of work before the write.
 fn spread_back(w: &mut [u8], p: Plan)
     requires { SpreadPre w.old p }
     ensures { Spread w.old p w.new }
@@ -89,16 +82,17 @@ fn is_open(t: Table, i: usize) -> bool
     requires { i < t.plan.n }
     ensures { result ≡ is_open t.entry.w.now t.entry.plan i }
 {
-    if get32(t.w, t.plan.rows + 8 * i) != t.plan.dlci {
+    if t.dlci_of(i) != t.plan.dlci {
         return false;
     }
     if t.earlier(i).is_some() {
         return false;
     }
-    0 < get32(t.w, t.plan.held + i)
+    0 < t.held_after(i)
 }
 
 // The stretch of piece i, with the length held.
+// Stays: way, CID and counts by their places in the row: they are read only here, and a method for each would be public in split.
 fn stretch_of(t: Table, i: usize) -> Stretch
     requires { i < t.plan.n }
     ensures { result ≡ row_stretch t.entry.w.now t.entry.plan i }
@@ -108,10 +102,10 @@ fn stretch_of(t: Table, i: usize) -> Stretch
     Stretch {
         way: get32(t.w, row + 1),
         cid: get32(t.w, row + 2),
-        dlci: get32(t.w, row),
+        dlci: t.dlci_of(i),
         sessions: counts % 65536,
         links: counts / 65536,
-        held: get32(t.w, t.plan.held + i),
+        held: t.held_after(i),
     }
 }
 

@@ -1,16 +1,21 @@
 -- Values over the front of a list, and from an answer to what a caller gets.
-use Rattle.std.proofs.Common.{ℕ, ◌≡◌, min, List, [], ◌∷◌, ◌++◌, length, take, drop, refl, sym, ap}
-use native.Mathlib.Numerals.{unary_clauses}
+use Rattle.std.proofs.Common.{ℕ, ◌≡◌, ◌<◌, ◌≤◌, List, [], ◌∷◌, ◌++◌, length, take, drop, refl, sym, ap, arith}
 use Rattle.laws.specs.Answers.{Answer, Outcome, Meets}
 use Rattle.telling.specs.Telling.{stored, Told, Calls}
 
--- as many values as there is room for, and then the rest of the list
-pub stored_front : (l d : List ℕ) → take (min (length d) (length l)) l ++ drop (min (length d) (length l)) d ≡ stored l d
+-- all values, where there is room for them, and then the rest of the list
+pub stored_whole : (l d : List ℕ) → length l ≤ length d → l ++ drop (length l) d ≡ stored l d
 unfolding stored
-stored_front [] [] = refl
-stored_front [] (x ∷ d) = simp unary_clauses
-stored_front (v ∷ l) [] = simp unary_clauses
-stored_front (v ∷ l) (x ∷ d) = simp unary_clauses (ap (λ (t : List ℕ). v ∷ t) (stored_front l d))
+stored_whole [] d h = refl
+stored_whole (v ∷ l) [] h = absurd (omega arith)
+stored_whole (v ∷ l) (x ∷ d) h = ap (λ (t : List ℕ). v ∷ t) (stored_whole l d (omega arith))
+
+-- or as many as there is room for
+pub stored_part : (l d : List ℕ) → length d < length l → take (length d) l ≡ stored l d
+unfolding stored
+stored_part [] d h = absurd (omega arith)
+stored_part (v ∷ l) [] h = refl
+stored_part (v ∷ l) (x ∷ d) h = ap (λ (t : List ℕ). v ∷ t) (stored_part l d (omega arith))
 
 pub calls : (o : Outcome) (d : List ℕ) (a : Answer) (e : List ℕ) → Meets o d a e → (v : List ℕ) (r : ℕ) (w : List ℕ) → Told a v r w → Calls o d e v r w
 calls o d a e m v r w t = record { writes = m.writes; tells = rw (sym m.answers) t }

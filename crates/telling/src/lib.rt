@@ -18,15 +18,25 @@ use mdr::{PackError, UnpackError, Unpacked};
 use order::OrderError;
 use trace::{Refusal, Walked};
 
-// Stores the numbers of a list at the front of values, as many as there is room for.
-fn store(values: &mut [u64], list: &[u64])
+// Stores the numbers of a list at the front of values, as many as there is room for. Inlined, so that a few values that fit are
+// stored one by one: how many there are is known where an answer is told.
+// Stays: a branch where they fit, in which the list's length is the copy's. With the lesser of both lengths, which no caller knows before it runs,
+// one copy would be no plainer: both slices would be cut to it.
+#[inline(always)]
+pub fn store(values: &mut [u64], list: &[u64])
     ensures { values.new ≡ stored list.now values.old }
 {
-    let room = values.len().min(list.len());
-    values[..room].copy_from_slice(&list[..room]);
+    let n = list.len();
+    let room = values.len();
+    if n <= room {
+        values[..n].copy_from_slice(list);
+        return;
+    }
+    values.copy_from_slice(&list[..room]);
 }
 
 // Stores the values of an answer, and returns its number.
+#[inline(always)]
 pub fn tell_as(number: u32, list: &[u64], values: &mut [u64]) -> u32
     ensures { TellsAs number list.now values.old result values.new }
 {

@@ -37,7 +37,3 @@ sets_stored (y ∷ l) (x ∷ d) = sets_later l y d 0 ∙ ap (λ (t : List ℕ). 
 pub records_calls :
     (b : Container) (f d : List ℕ) (l : Result Walked Refusal) (d' : List ℕ) → Lists b f d l d' → (v : List ℕ) (r : ℕ) (v' : List ℕ) → Told (told_listed l) v r v' → RecordsCalls b f d v r d' v'
 records_calls b f d l d' m v r v' t = record { tells = rw m.answers at t; starts = m.writes ∙ sets_stored (starts_of (container_of b) f) d }
-
--- by the container in a list of options
-pub records_in_law : (b c : Container) → b ≡ c → (f d v : List ℕ) (r : ℕ) (d' v' : List ℕ) → RecordsCalls b f d v r d' v' → RecordsCalls c f d v r d' v'
-records_in_law b c e f d v r d' v' m = rw (← e) m

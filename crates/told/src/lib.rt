@@ -5,7 +5,6 @@
 ghost use Rattle.std.specs.Prelude.{◌≡◌};
 ghost use Rattle.commands.specs.Commands.{is_command_name};
 ghost use Rattle.fixtures.specs.Plan.{plan_of};
-ghost use Rattle.items.specs.Items.{rx_of};
 ghost use Rattle.mdr.specs.Frame.{unpack_of, pack_of};
 ghost use Rattle.names.specs.Names.{fixture_name};
 ghost use Rattle.order.specs.Order.{capture_order};
@@ -15,6 +14,7 @@ ghost use Rattle.telling.specs.Telling.{Calls};
 ghost use Rattle.told.specs.Numbers.{bit, way_of};
 ghost use Rattle.told.specs.RecordCalls.{RecordsCalls};
 
+use items::Direction;
 use options::container_in;
 use telling::Tell;
 use trace::Container;
@@ -31,17 +31,7 @@ pub fn pack_told(kind: u8, seq: u8, payload: &[u8], out: &mut [u8], values: &mut
     packing::pack(kind, seq, payload, out).tell(values)
 }
 
-// Which way a frame went, by number: 1 is Rx, any other Tx.
-fn direction_of(way: u8) -> items::Direction
-    ensures { rx_of result ≡ way_of way }
-{
-    if way == 1 {
-        items::Direction::Rx
-    } else {
-        items::Direction::Tx
-    }
-}
-
+// The way is a number: 1 is Rx, any other Tx.
 pub fn name_told(
     ms: u64,
     counter: u32,
@@ -52,7 +42,7 @@ pub fn name_told(
 ) -> u32
     ensures { Calls (fixture_name ms counter (way_of way) wire.now) out.old out.new values.old result values.new }
 {
-    let direction = direction_of(way);
+    let direction = Direction::of_kind(u16::from(way));
     names::fixture_name(ms, counter, direction, wire, out).tell(values)
 }
 

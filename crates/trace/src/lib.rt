@@ -77,7 +77,7 @@ pub fn read_header(file: &[u8], container: Container) -> Result<Format, Refusal>
 }
 
 // How many bytes the file header has, after which the first record starts.
-fn file_head(format: Format) -> usize
+pub fn file_head(format: Format) -> usize
     ensures { (result ≡ file_head format) × (result ≤ 24) }
 {
     match format {
@@ -86,7 +86,7 @@ fn file_head(format: Format) -> usize
     }
 }
 
-// How many bytes a record has before its packet.
+// How many bytes a record has before its packet's bytes.
 pub fn record_head(format: Format) -> usize
     ensures { (result ≡ record_head format) × (result ≤ 24) }
 {
@@ -104,6 +104,7 @@ pub struct Trace<'a> {
 }
 
 // What stands at an offset.
+// Stays: no Option of the end, though no code here tells Cut from End: step_at and next_step are public and promise step_of, which tells them.
 #[derive(Clone, Copy)]
 pub enum Step {
     // a whole record: where it ends
@@ -122,7 +123,7 @@ impl<'a> Trace<'a> {
     {
         match self.format {
             Format::Btsnoop(_) => btsnoop::record_size(self.file, at),
-            Format::Pcap(e) => pcap::record_size(self.file, at, e.big),
+            Format::Pcap(e) => pcap::record_size(self.file, at, e),
         }
     }
 
@@ -164,6 +165,7 @@ pub struct Walked {
 }
 
 // Stores an offset at a place, if there is one.
+// Stays: a test and a store: by `get_mut` (tried) neither case is proved, since std says nothing of what the slice is when the borrow has ended.
 fn put_start(starts: &mut [u64], i: usize, at: usize)
     ensures { starts.new ≡ set starts.old i at }
 {
@@ -178,6 +180,7 @@ fn walk_records(trace: Trace, starts: &mut [u64]) -> Walked
     ensures { WalkedTo trace.entry.format trace.entry.file.now starts.old starts.new result }
 {
     let mut records = trace.records();
+    // Stays: counted by hand, since the count is told after the walk too, and enumerate would keep it.
     let mut count = 0;
     while let Some(r) = records.next() {
         put_start(starts, count, r.at);

@@ -9,7 +9,7 @@ use Rattle.laws.specs.Lists.{All, all_nil, all_cons}
 use Rattle.laws.specs.Answers.{Answer, accepted, Outcome, gives, answer, Meets}
 use Rattle.items.specs.Items.{Item, item, name_item, wire_item, Listed, well_formed, ill_formed, Span, read_items, passing, spans_in, names_in}
 use Rattle.items.specs.Reading.{Fits, item_list}
-use Rattle.items.specs.Walks.{Walks, Good, items_from, check_of, held}
+use Rattle.items.specs.Walks.{any_item, Walks, Good, items_from, check_of, held}
 use Rattle.items.proofs.Reading.{items_back}
 use Rattle.items.proofs.Walks.{checked_good}
 use Rattle.trace.specs.Formats.{container_of}
@@ -31,7 +31,7 @@ use Rattle.capture.specs.declared.ImportError.{ImportError}
 use Rattle.capture.specs.declared.ImportError.TheVariants.{Refused, NoStream, OutShort}
 use Rattle.traceprint.specs.declared.Refused.{Refused as Line}
 use Rattle.traceprint.specs.Refusals.{values_of as values_in, told, refused_text}
-use Rattle.traceprint.specs.Lines.{spaced, lines_or, refusal_of, counts_line, any_item, name_lines, fixture_lines, fixtures_in, spans_lines, import_text, trace_lines}
+use Rattle.traceprint.specs.Lines.{spaced, lines_or, refusal_of, counts_line, name_lines, fixture_lines, fixtures_in, spans_lines, import_text, trace_lines}
 use Rattle.traceprint.proofs.Within.{accepts, not_given, plans_last, values_of, imported_written}
 
 -- what was printed is the text, and what was printed before it stands in front

@@ -1,16 +1,12 @@
--- What lies within a list: an item that is read there, and the bytes that a call says it wrote.
-use Rattle.std.proofs.Common.{ℕ, ◌+◌, ◌-◌, ◌<◌, ◌≤◌, ◌≡◌, refl, sym, List, [], ◌∷◌, ◌++◌, length, take, drop, arith}
+-- What lies within a list: the bytes that a call says it wrote.
+use Rattle.std.proofs.Common.{ℕ, ◌≤◌, ◌≡◌, refl, List, [], ◌∷◌, ◌++◌, length, take, drop, arith}
 use lib.Dec.{leb}
 use lib.ListN.{length-append}
 use lib.Seq.{take-append_seam}
-use borrow.Author.Tests.{leb-true}
 use Rattle.laws.proofs.Choice.{split_b}
 use Rattle.laws.specs.Answers.{accepted, refused, Outcome, gives, refuses, answer, output, Meets}
 use Rattle.laws.specs.Stores.{filled}
-use Rattle.items.specs.Items.{Listed, well_formed, ill_formed, Span, spans_in, names_in, item_at, end_at}
-use Rattle.items.specs.Walks.{step_at}
-use Rattle.items.proofs.Walks.{end_past}
-use Rattle.items.specs.declared.Step.TheVariants.{Whole, Passes, End}
+use Rattle.items.specs.Items.{Listed, well_formed, ill_formed, Span, spans_in, names_in}
 use Rattle.fixtures.specs.Plan.{plans, plan_of}
 use Rattle.fixtures.specs.Plan as plan
 use Rattle.container.specs.Container as container
@@ -22,38 +18,6 @@ use Rattle.capture.specs.Calls.{Imported, Imports}
 use Rattle.capture.specs.declared.Summary.{Summary}
 use Rattle.std.specs.Prelude.{Ok}
 use Rattle.traceprint.specs.Lies.{Lies}
-
--- ---- an item
-
-record Within (l : List ℕ) (at start end : ℕ) : Type 0 where
-  past : at + 6 ≤ end
-  order : start ≤ end
-  last : end ≤ length l
-
-module _ (l : List ℕ) (at kind start end : ℕ) (p : Whole kind start end ≡ step_at l at) where
-  whole : Within l at start end
-  unfolding step_at
-  whole =
-      split_b (leb (length l) at)
-      (λ h. let q : End ≡ Whole kind start end = rw h at (sym p) in let z : ◌≡◌ {A = ℕ} 0 1 = cc in absurd (omega arith))
-      (λ h. split_b (leb (end_at l at) (length l))
-      (λ g.
-      let q : Whole (item_at l at).kind (at + 6) (end_at l at) ≡ Whole kind start end = rw (h, g) at (sym p) in
-      let a : at + 6 ≡ start = cc in
-      let b : end_at l at ≡ end = cc in
-      let o = end_past l at in
-      let m = leb-true (end_at l at) (length l) g in
-      record { past = omega arith; order = omega arith; last = omega arith })
-      (λ g. let q : Passes ≡ Whole kind start end = rw (h, g) at (sym p) in let z : ◌≡◌ {A = ℕ} 0 1 = cc in absurd (omega arith)))
-
-  pub whole_order : start ≤ end
-  whole_order = whole.order
-
-  pub whole_last : end ≤ length l
-  whole_last = whole.last
-
-  pub whole_less : at < length l → length l - end < length l - at
-  whole_less h = let w = whole in omega arith
 
 -- ---- the bytes that a call wrote
 

@@ -1,8 +1,8 @@
 -- What the program prints.
-use Rattle.std.specs.Prelude.{ℕ, true, cond, List, [], ◌∷◌, ◌++◌, eqb, codes, decimal}
+use Rattle.std.specs.Prelude.{ℕ, cond, List, [], ◌∷◌, ◌++◌, eqb, codes, decimal}
 use Rattle.std.proofs.Math.Option.{none}
 use Rattle.laws.specs.Answers.{Answer, accepted, refused, Outcome, gives, refuses, answer}
-use Rattle.items.specs.Items.{Item, Test, spans_in}
+use Rattle.items.specs.Items.{Item, spans_in}
 use Rattle.items.specs.Walks.{held}
 use Rattle.trace.specs.Formats.{container_of}
 use Rattle.trace.specs.declared.Container.TheVariants.{Btsnoop}
@@ -33,10 +33,6 @@ abbrev pub counts_line : ℕ → ℕ → ℕ → List ℕ
 counts_line d f u = codes "dlci " ++ (decimal d ++ (codes " frames " ++ (decimal f ++ (codes " unfinished " ++ (decimal u ++ codes "\n")))))
 
 -- ---- names
-
--- any item may stand in a list
-abbrev pub any_item : Test
-any_item kind body = true
 
 -- the names among the items, one to a line
 abbrev pub name_lines : List Item → List ℕ

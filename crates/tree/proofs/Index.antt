@@ -1,5 +1,5 @@
 -- Laws of specs/Tree: the search, one row more, an index that begins.
-use Rattle.std.specs.Prelude.{Some, None}
+use Rattle.std.specs.Prelude.{Option, Some, None, SomeIff}
 use mathlib.Core.Path.{◌≡◌, refl, sym, ap, ◌∙◌}
 use mathlib.Core.List.{List}
 use mathlib.Core.Logic.{inl, inr, ∥∥₁_elim, ∥∥₁_map}
@@ -111,7 +111,7 @@ module _ (w : List ℕ) (t : Table) (k : ℕ) (p : SeekPre w t) where
     here : path_to w t.at k q.depth ≡ v
     here = q.reads w (record { same = λ at a b o. refl }) ∙ sym (ev ∙ ec)
 
-    pub seeking_end : v ≡ 0 → SpotIs w t k (Free at)
+    seeking_end : v ≡ 0 → SpotIs w t k (Free at)
     seeking_end z = record {
       taken = λ a f. let h : ◌≡◌ {A = ℕ} 0 1 = cc in absurd (omega arith);
       free = λ a f. let h : at ≡ a = cc in rw (← h) vacant;
@@ -127,37 +127,41 @@ module _ (w : List ℕ) (t : Table) (k : ℕ) (p : SeekPre w t) where
       vacant : Vacant w t k at
       vacant = record { none = find_no w t.at.rows k t.count gone; low = q.low; high = q.high; empty = sym (ev ∙ ec) ∙ z; depth = q.depth; reads = q.reads }
 
-    module _ (z : v ≡ 0 → ⊥) where
-      some : 0 < v
-      some = split≡ v 0 (λ h. absurd (z h)) (λ h. omega arith)
+    module _ (o : Option ℕ) (eo : SomeIff o (1 ≤ v) (v - 1)) where
+      pub seeking_none : o ≡ None → SpotIs w t k (Free at)
+      seeking_none e = seeking_end (split≡ v 0 (λ h. h) (λ h. absurd ((rw e at eo) (omega arith))))
 
-      pub seeking_row : v ≤ t.count
-      seeking_row = omega (arith, ec, ev, s.slots.below at q.low q.high)
+      module _ (i : ℕ) (ei : o ≡ Some i) where
+        row : suc i ≡ v
+        row = let h : (1 ≤ v) × (i ≡ v - 1) = rw ei at eo in omega (arith, h.0, h.1)
 
-      row : suc (v - 1) ≡ v
-      row = omega (arith, some)
+        some : 0 < v
+        some = omega (arith, row)
 
-      module _ (y : ℕ) (e : y ≡ long w (t.at.rows + 4 * (v - 1))) where
-        module _ (d : y ≡ k → ⊥) (bit : ℕ) (eb : bit ≡ rest % 2) where
-          pub seeking_turn : Seeking w t k (links_in t.at + 2 * (v - 1) + bit) (rest / 2)
-          unfolding rest_at
-          seeking_turn = record {
-            low = omega arith;
-            high = omega (arith, eb, seeking_row, some);
-            depth = suc q.depth;
-            reads = λ u a. node_step u (links_in t.at) (root_in t.at k) (rest_at (mix_of k)) q.depth (v - 1) (leads u a) ∙ rw (eb, q.bits);
-            bits = rw q.bits;
-            met = λ a l. split≡ a q.depth (λ o. rw (o, here) some) (λ o. q.met a (earlier a q.depth (omega arith) o));
-            others = passed;
-          } where
-            leads : (u : List ℕ) → Keeps w t.at.links (links_in t.at) t.count u → path_to u t.at k q.depth ≡ suc (v - 1)
-            leads u a = q.reads u a ∙ a.same at q.low q.high (omega (arith, ec, ev, some)) ∙ sym (ev ∙ ec) ∙ sym row
+        pub seeking_row : i < t.count
+        seeking_row = omega (arith, row, ec, ev, s.slots.below at q.low q.high)
 
-            passed : (a r : ℕ) → a < suc q.depth → path_to w t.at k a ≡ suc r → key_at w t.at r ≡ k → ⊥
-            passed a r l h z =
-                split≡ a q.depth
-                (λ o. let g : suc r ≡ v = sym h ∙ rw o here in let f : r ≡ v - 1 = omega (arith, g) in d (e ∙ rw f at z))
-                (λ o. q.others a r (earlier a q.depth (omega arith) o) h z)
+        module _ (y : ℕ) (e : y ≡ long w (t.at.rows + 4 * i)) where
+          module _ (d : y ≡ k → ⊥) (bit : ℕ) (eb : bit ≡ rest % 2) where
+            pub seeking_turn : Seeking w t k (links_in t.at + 2 * i + bit) (rest / 2)
+            unfolding rest_at
+            seeking_turn = record {
+              low = omega arith;
+              high = omega (arith, eb, seeking_row, some);
+              depth = suc q.depth;
+              reads = λ u a. node_step u (links_in t.at) (root_in t.at k) (rest_at (mix_of k)) q.depth i (leads u a) ∙ rw (eb, q.bits);
+              bits = rw q.bits;
+              met = λ a l. split≡ a q.depth (λ o. rw (o, here) some) (λ o. q.met a (earlier a q.depth (omega arith) o));
+              others = passed;
+            } where
+              leads : (u : List ℕ) → Keeps w t.at.links (links_in t.at) t.count u → path_to u t.at k q.depth ≡ suc i
+              leads u a = q.reads u a ∙ a.same at q.low q.high (omega (arith, ec, ev, some)) ∙ sym (ev ∙ ec) ∙ sym row
+
+              passed : (a r : ℕ) → a < suc q.depth → path_to w t.at k a ≡ suc r → key_at w t.at r ≡ k → ⊥
+              passed a r l h z =
+                  split≡ a q.depth
+                  (λ o. let g : suc r ≡ v = sym h ∙ rw o here in let f : r ≡ i = omega (arith, g, row) in d (e ∙ rw f at z))
+                  (λ o. q.others a r (earlier a q.depth (omega arith) o) h z)
 
 module _ (w : List ℕ) (t : Table) (k : ℕ) where
   pub seek_none : t.count ≡ 0 → None ≡ find_in w t.at.rows k t.count

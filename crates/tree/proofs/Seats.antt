@@ -129,17 +129,6 @@ module _ (w : List ℕ) (t : Table) (k i : ℕ) (p : SeekPre w t) (e : find_in w
       (front_put (4 * t.at.rows) w (t.at.rows + 4 * i + 2) y (omega arith))
       (length_put w (t.at.rows + 4 * i + 2) y))
 
-  -- both
-  pub valued_both : (y z : ℕ) (m u : List ℕ) → m ≡ put_word w (t.at.rows + 4 * i + 2) y → u ≡ put_word m (t.at.rows + 4 * i + 3) z → Valued w t k i y z u
-  valued_both y z m u em eu = rw (eu, em) (valued y z (put_word v (t.at.rows + 4 * i + 3) z)
-      (word_put_other v (t.at.rows + 4 * i + 3) z (t.at.rows + 4 * i + 2) (λ q. omega arith) ∙ word_put_same w (t.at.rows + 4 * i + 2) y (omega (arith, less, p.stands.rows, p.stands.room)))
-      (word_put_same v (t.at.rows + 4 * i + 3) z (rw (length_put w (t.at.rows + 4 * i + 2) y) (omega (arith, less, p.stands.rows, p.stands.room))))
-      (λ j a b. word_put_other v (t.at.rows + 4 * i + 3) z j b ∙ word_put_other w (t.at.rows + 4 * i + 2) y j a)
-      (front_then (4 * t.at.rows) _ v w (front_put (4 * t.at.rows) v (t.at.rows + 4 * i + 3) z (omega arith)) (front_put (4 * t.at.rows) w (t.at.rows + 4 * i + 2) y (omega arith)))
-      (length_put v (t.at.rows + 4 * i + 3) z ∙ length_put w (t.at.rows + 4 * i + 2) y)) where
-        v : List ℕ
-        v = put_word w (t.at.rows + 4 * i + 2) y
-
 -- ---- after seat
 
 module _ (w : List ℕ) (t : Table) (row : Row) (u : List ℕ) (r : Seating) (s : Seated w t row u r) where
@@ -182,6 +171,3 @@ module _ (w : List ℕ) (t : Table) (row : Row) (u : List ℕ) (r : Seating) (s 
 
     pub seat_first : (y : ℕ) (v : List ℕ) → v ≡ put_word u (t.at.rows + 4 * r.at + 2) y → Entered w t (record { key = row.key; a = y; b = word u (t.at.rows + 4 * r.at + 3) }) v r.rows
     seat_first y v e = seated_valued y (word u (t.at.rows + 4 * r.at + 3)) v (valued_first u (record { at = t.at; count = r.rows }) row.key r.at seated_seek s.own y v e)
-
-    pub seat_both : (m v : List ℕ) → m ≡ put_word u (t.at.rows + 4 * r.at + 2) row.a → v ≡ put_word m (t.at.rows + 4 * r.at + 3) row.b → Entered w t row v r.rows
-    seat_both m v em ev = seated_valued row.a row.b v (valued_both u (record { at = t.at; count = r.rows }) row.key r.at seated_seek s.own row.a row.b m v em ev)

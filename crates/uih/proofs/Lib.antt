@@ -1,2 +1,1 @@
 pub mod Fcs
-pub mod Reading

@@ -14,7 +14,7 @@ pub struct Uih {
     pub len: usize,
 }
 
-// Reading a UIH frame tells three things apart: good, wrong FCS, not UIH (SABM, or other).
+// What a frame is: SABM, UIH, UIH with a wrong FCS where it is checked, or another.
 #[derive(Clone, Copy)]
 pub enum Frame {
     // the DLCI
@@ -25,6 +25,7 @@ pub enum Frame {
 }
 
 // 0x2F, or 0x3F with the P/F bit.
+#[tactic(auto, unfolding(crate::specs::Frames::is_sabm))]
 fn is_sabm(control: u8) -> bool
     ensures { result ≡ is_sabm control }
 {
@@ -32,6 +33,7 @@ fn is_sabm(control: u8) -> bool
 }
 
 // 0xEF, or 0xFF with the P/F bit.
+#[tactic(auto, unfolding(crate::specs::Frames::is_uih))]
 fn is_uih(control: u8) -> bool
     ensures { result ≡ is_uih control }
 {
@@ -46,6 +48,7 @@ struct Length {
 }
 
 // The length field, of one byte or two.
+#[tactic(auto, unfolding(crate::specs::Frames::info_length, crate::specs::Frames::short_length))]
 fn read_length(p: &[u8]) -> Length
     requires { 4 ≤ length p.now }
     ensures { LengthIs p.now result }
@@ -74,7 +77,7 @@ fn dlci_of(address: u8) -> u32
 fn credit_width(control: u8) -> usize
     ensures { (result ≡ cond (eqb control 0xFF) 1 0) × (result ≤ 1) }
 {
-    if control == 0xFF { 1 } else { 0 }
+    usize::from(control == 0xFF)
 }
 
 // The check over an address and the control of UIH. Bits are powers of x, the highest bit the first: the address goes on by 16
@@ -95,6 +98,8 @@ fn fcs_of(address: u8, control: u8) -> usize
 }
 
 // Reads a UIH frame, whose information and FCS must be there. Unchecked, a wrong FCS is not told.
+#[tactic(auto, unfolding(crate::specs::Frames::frame_of, crate::specs::Frames::info_start, crate::specs::Frames::is_right, crate::specs::Reading::frame_shown, crate::specs::Reading::seen, crate::specs::Reading::uih_at))]
+// Stays: the FCS byte by its place: that it is there is tested before, since a frame without it is none, whether it is checked or not.
 fn read_uih(p: &[u8], fcs: bool) -> Frame
     requires { UihPre p.now }
     ensures { FrameIs fcs p.now result }
@@ -123,6 +128,7 @@ fn read_uih(p: &[u8], fcs: bool) -> Frame
 }
 
 // Reads an RFCOMM frame, with FCS checked or not.
+#[tactic(auto, unfolding(crate::specs::Frames::frame_of, crate::specs::Reading::frame_shown, crate::specs::Reading::seen))]
 pub fn read_frame(p: &[u8], fcs: bool) -> Frame
     ensures { FrameIs fcs p.now result }
 {

@@ -22,6 +22,8 @@ fn breaks(b: u8, e: u8) -> bool
 
 // How many 3D before the last byte are not followed by 2C, 2D or 2E. There is no early way out, so that the loop runs
 // on many bytes at once.
+// Stays: by two indices, here and by one in is_paired and unpair. windows(2) gives slices, of which two bytes would be read by index again; a zip
+// would go through the part and the part after its first byte, and pairs would be cut by chunks: no index less, and a slice more.
 fn count_breaks(part: &[u8]) -> u8
     requires in_bounds { 1 ≤ length part.now }
     requires part_len_bound { length part.now ≤ 256 }
@@ -100,7 +102,8 @@ pub fn scan(s: &[u8]) -> Scanned
     let mut sum: u8 = 0;
     let mut hits: usize = 0;
     let mut rest = s;
-    // Stays: each part is looked at with the byte after it, so that parts overlap; chunks do not.
+    // Stays: each part is looked at with the byte after it, so that parts overlap; chunks do not, and windows(193).step_by(192) would not
+    // say what is left, which the last part and the answer need.
     while 192 < rest.len() {
         let t = tally_few::<0x3D, 0x3D>(&rest[..192]);
         if !is_kept(&rest[..193], t.hits) {
@@ -130,7 +133,8 @@ pub struct Got {
 }
 
 // The byte at a place.
-// Stays: with the rest in place of a place fill_few takes 6 instructions a byte, with the size of a byte 8; so it takes 5.
+// Stays: get answers a place: if it answers the rest of the slice, fill_few takes 6 instructions a byte; how many bytes were used, 8;
+// by the place, 5. Mixed bytes, 32,760 of which take 10,150 ns and took 11,200 at the beginning (PERFORMANCE), would miss that by a fifth more.
 pub fn get(s: &[u8], i: usize) -> Got
     requires { 1 ≤ length (ahead (drop i s.now)) }
     ensures { GotIs s.now i result }

@@ -18,7 +18,7 @@ use Rattle.mdr.specs.Escape.{unescape}
 use Rattle.mdr.specs.Frame.{declared_of, last_of, computed_of, judged, bodied, unpack_of}
 use Rattle.mdr.proofs.Escaping.{count_append}
 use Rattle.mdr.proofs.Wire.{judged_whole, wire_body}
-use Rattle.blocks.specs.Blocks.{Minus, Bare}
+use Rattle.blocks.specs.Blocks.{Bare}
 use Rattle.unescaping.specs.Flaws.{sentries, Measured, flaw_of, ScannedIs}
 use Rattle.unescaping.specs.Places.{ahead, Sound, Filled}
 use Rattle.unpacking.specs.Readings.{HeaderIs, Summed, RefusedBy, Reads}
@@ -42,7 +42,7 @@ header_front s d e used h n v =
     v.writes ∙ sets-eq w d 0 (omega arith) ∙ rw (drop_end d (0 + length w) (omega arith)) (append-nil w)
 
 pub header_is : (s d e : List ℕ) (used : ℕ) → 6 ≤ length (ahead s) → length d ≡ 6 → Filled s d 0 6 used e
-    → (h : Header) → h.kind ≡ get_or e 0 0 → h.seq ≡ get_or e 1 0 → h.declared ≡ 16777216 * get_or e 2 0 + 65536 * get_or e 3 0 + 256 * get_or e 4 0 + get_or e 5 0
+    → (h : Header) → h.kind ≡ get_or e 0 0 → h.seq ≡ get_or e 1 0 → h.declared ≡ be32 e 2
     → h.rest.bytes.now ≡ take (length s - used) (drop used s) → HeaderIs s h
 unfolding be32
 header_is s d e used l n v h p q r t =
@@ -59,7 +59,7 @@ module _ (s : List ℕ) (t : Bool) (v : Bare 0x3D 0x3D s t) (y : t ≡ true) whe
   pub rest_bare : (k : ℕ) → Bare 0x3D 0x3D (take (length s - k) (drop k s)) true
   rest_bare k = rw take_rest (record { none = λ e. omega (arith, v.none y, ap sentries (take-append-drop k s), count_append 0x3D 0x3D (take k s) (drop k s)) })
 
-  pub header_bare : (h : Header) → h.kind ≡ get_or s 0 0 → h.seq ≡ get_or s 1 0 → h.declared ≡ 16777216 * get_or s 2 0 + 65536 * get_or s 3 0 + 256 * get_or s 4 0 + get_or s 5 0
+  pub header_bare : (h : Header) → h.kind ≡ get_or s 0 0 → h.seq ≡ get_or s 1 0 → h.declared ≡ be32 s 2
       → h.rest.bytes.now ≡ take (length s - 6) (drop 6 s) → HeaderIs s h
   unfolding be32
   header_bare h p q r e =
@@ -122,17 +122,17 @@ module _ (s : List ℕ) (raw hits : ℕ) (m : Measured s raw hits) (v : Sound s)
   pub sound_few : hits ≤ length s
   sound_few = omega (arith, m.found, (weighed false s (ahead s) v.is).long)
 
-  pub sound_summed : (last off all sum : ℕ) → last ≡ last_of (ahead s) → off ≡ hits % 256 * 45 % 256 → Minus raw off all → Minus all last sum → Summed (ahead s) (length s - hits) sum last
-  sound_summed last off all sum q p a b =
+  pub sound_summed : (last sum : ℕ) → last ≡ last_of (ahead s) → ((sum + last) % 256 + hits % 256 * 45 % 256) % 256 ≡ raw → sum < 256 → Summed (ahead s) (length s - hits) sum last
+  sound_summed last sum q p l =
       let w = weighed false s (ahead s) v.is in
       let k : total (ahead s) + 45 * hits ≡ total s = omega (arith, w.heavy, m.found) in
-      let y : all ≡ total (ahead s) % 256 = taken_off all (45 * hits) (total (ahead s)) (rw (sym (off_is hits), sym p, k) (a.back ∙ m.summed)) a.small in
+      let y : (sum + last) % 256 ≡ total (ahead s) % 256 = taken_off ((sum + last) % 256) (45 * hits) (total (ahead s)) (rw (sym (off_is hits), k) (p ∙ m.summed)) (omega arith) in
       sums (ahead s) (length s - hits) sum last
       (omega (arith, w.long, m.found))
       (ends_last _ _ _ (sound_ends s v (omega (arith, m.long)))).0
       q
-      (b.back ∙ y)
-      b.small
+      y
+      l
 
 -- ---- what the body says
 

@@ -2,19 +2,14 @@
 #![tactic(auto)]
 
 ghost use Rattle.std.specs.Prelude.{◌<◌, length};
-ghost use Rattle.blocks.specs.Blocks.{Bare};
 ghost use Rattle.unescaping.specs.Places.{ahead};
 
+use blocks::Part;
 use unescaping::{fill, get};
 use words::copy_to;
 
 // An escaped part, and whether it is known that nothing in it is escaped.
-#[derive(Clone, Copy)]
-pub struct Escaped<'a> {
-    pub bytes: &'a [u8],
-    pub bare: bool,
-    pub ghost unescaped: { Bare 0x3D 0x3D bytes.now bare },
-}
+pub type Escaped<'a> = Part<'a, 0x3D, 0x3D>;
 
 // A frame that was found sound. Its payload is the first len bytes that an escaped part stands for; the sum follows it.
 #[derive(Clone, Copy)]
@@ -46,6 +41,7 @@ impl<'a> Head<'a> {
     }
 
     // The payload's first byte, 0 if it has none, as in mdr's Frame.
+    // Stays: 0 and no Option, for the reason at mdr's Frame.
     pub fn first_byte(self) -> u8
         ensures { result ≡ get_or (payload self.entry) 0 0 }
     {

@@ -1,7 +1,7 @@
 // Unpacking: what a wire says, its payload, and a look at it without an output.
 #![tactic(auto)]
 
-ghost use Rattle.std.specs.Prelude.{◌≡◌, ◌+◌, ◌*◌, ◌≤◌, length};
+ghost use Rattle.std.specs.Prelude.{◌≡◌, ◌≤◌, length};
 ghost use Rattle.laws.specs.Answers.{Meets};
 ghost use Rattle.mdr.specs.Escape.{unescape};
 ghost use Rattle.mdr.specs.Frame.{judged, bodied, last_of, unpack_of, unpacks_of};
@@ -12,19 +12,12 @@ ghost use Rattle.unpacking.specs.Readings.{HeaderIs, Summed, Reads};
 
 mod head;
 
-use blocks::minus;
 use head::{Escaped, Head};
 use mdr::{Frame, UnpackError, Unpacked};
 use unescaping::{fill_few, first_flaw, scan};
+use words::get_be32;
 
 // ---- the first six bytes, and the last
-
-// The number that four bytes are, the highest first.
-fn join(a: u8, b: u8, c: u8, d: u8) -> u64
-    ensures { result ≡ 16777216 * a + 65536 * b + 256 * c + d }
-{
-    u64::from(u32::from_be_bytes([a, b, c, d]))
-}
 
 // The first six bytes, and the escaped part after them.
 #[derive(Clone, Copy)]
@@ -41,11 +34,10 @@ fn escaped_header(s: &[u8]) -> Header
 {
     let mut head = [0u8; 6];
     let used = fill_few(s, &mut head, 0, 6);
-    let [kind, seq, a, b, c, d] = head;
     Header {
-        kind,
-        seq,
-        declared: join(a, b, c, d),
+        kind: head[0],
+        seq: head[1],
+        declared: u64::from(get_be32(&head, 2)),
         rest: Escaped {
             bytes: &s[used..],
             bare: false,
@@ -63,7 +55,7 @@ fn read_header(part: Escaped) -> Header
         return Header {
             kind: s[0],
             seq: s[1],
-            declared: join(s[2], s[3], s[4], s[5]),
+            declared: u64::from(get_be32(s, 2)),
             rest: Escaped {
                 bytes: &s[6..],
                 bare: true,
@@ -123,8 +115,7 @@ fn read_counted(s: &[u8], raw: u8, sentries: usize) -> Result<Head, UnpackError>
     let n = s.len() - sentries;
     let last = last_byte(s);
     let off = (sentries % 256 * 45 % 256) as u8;
-    let all = minus(raw, off);
-    let sum = minus(all, last);
+    let sum = raw.wrapping_sub(off).wrapping_sub(last);
     let part = Escaped {
         bytes: s,
         bare: sentries == 0,

@@ -1,5 +1,5 @@
 -- The walk that writes.
-use Prim.Native.Nat.{ℕ, suc, ◌+◌, ◌-◌, ◌*◌, ◌%◌, ◌<◌, ◌≤◌}
+use Prim.Native.Nat.{ℕ, suc, ◌+◌, ◌-◌, ◌*◌, ◌<◌, ◌≤◌}
 use mathlib.Core.Path.{◌≡◌, refl, sym, ap, ◌∙◌}
 use mathlib.Core.Bool.{Bool, true, false}
 use mathlib.Core.List.{List, [], ◌∷◌, ◌++◌}
@@ -11,11 +11,10 @@ use Rattle.laws.specs.Numbers.{le}
 use Rattle.laws.specs.Keyed.{run}
 use Rattle.laws.specs.Stores.{Writes, Emitting}
 use Rattle.laws.proofs.Stores.{sets_append, writes_then, writes_long, emit_start, emit_turn, emit_room, emit_end}
-use Rattle.words.specs.Words.{word, long}
+use Rattle.words.specs.Words.{word}
 use Rattle.words.proofs.Front.{front_refl}
 use Rattle.items.specs.Items.{Span, span, item, item_head, span_item, span_list}
 use Rattle.items.proofs.Writing.{spans_none, spans_more, spans_append, length_head, length_span}
-use Rattle.rfcomm.specs.PieceTable.{piece_at}
 use Rattle.spans.specs.Scan.{spans_of, rest_of}
 use Rattle.search.specs.Seek.{seek}
 use Rattle.search.proofs.Searching.{seek_le}
@@ -27,7 +26,7 @@ use Rattle.spans.proofs.Bytewise.{quiet_emptied, closes_first}
 use Rattle.spans.proofs.Scans.{silent, rest_le, all_left}
 use Rattle.spans.specs.declared.Wrote.{Wrote}
 use Rattle.split.specs.Last.{lastn}
-use Rattle.split.specs.Rows.{row_of, piece, dlci_at, tail_at, len_at, bytes_at, held_in, held_of, stream_to, opened, Fits, joined, capped_length, ahead, all}
+use Rattle.split.specs.Rows.{piece, dlci_at, tail_at, len_at, bytes_at, held_in, held_of, stream_to, opened, Fits, joined, capped_length, ahead, all}
 use Rattle.split.specs.Walks.{Lying, PutPre, GatherPre, Told, Moved}
 use Rattle.split.specs.declared.Plan.{Plan}
 use Rattle.split.proofs.Lasts.{length_lastn, lastn_zero, capped_small}
@@ -117,23 +116,15 @@ module _ (f w : List ℕ) (p : Plan) (l : Lying f w p) (i : ℕ) (out : List ℕ
     pub rest_part : skip + (m - skip) ≤ length x
     rest_part = omega (arith, q.within, ap length ex, length_bytes f w p l i q.row)
 
-    module _ (y : List ℕ) (ey : y ≡ take (m - skip) (drop skip x)) (v rx time : ℕ) (ev : v ≡ word w (row_of p i + 1)) (er : rx ≡ v % 2) (et : time ≡ long w (row_of p i + 6)) where
+    module _ (y : List ℕ) (ey : y ≡ take (m - skip) (drop skip x)) (rx time : ℕ) (er : rx ≡ (piece f w p i).rx) (et : time ≡ (piece f w p i).time) where
       whole : y ≡ tail
       whole = ey ∙ rw ex (take_all (m - skip) tail (omega (arith, tail_long)))
 
-      rx_is : rx ≡ (piece f w p i).rx
-      unfolding piece_at
-      rx_is = rw (er, ev)
-
-      time_is : time ≡ (piece f w p i).time
-      unfolding piece_at
-      time_is = et
-
       pub rest_pre : PartPre y rx time out at
-      rest_pre = rw (whole, rx_is, time_is) (record { room = q.room })
+      rest_pre = rw (whole, er, et) (record { room = q.room })
 
       pub rest_wrote : (c : Wrote) (out' : List ℕ) → WroteIs y rx time out at c out' → Writes out at (items_from f w p i skip) c.at out'
-      rest_wrote c out' k = rw (whole, rx_is, time_is) at k.written
+      rest_wrote c out' k = rw (whole, er, et) at k.written
 
 module _ (f w : List ℕ) (p : Plan) (l : Lying f w p) (i : ℕ) (out : List ℕ) (at : ℕ) (q : WritePre f w p i out at) (e : ℕ) (ee : e ≡ word w (p.ends + i)) (m : ℕ) (em : m ≡ len_at w p i) where
   own_long : length (bytes_at f w p i) ≡ len_at w p i
@@ -187,7 +178,7 @@ module _ (f w : List ℕ) (p : Plan) (l : Lying f w p) (i : ℕ) (out : List ℕ
       pub close_put : (d₃ : List ℕ) → d₃ ≡ sets d₂ b (lastn h (stream_to f w p i)) → PutPre w p i 0 k d₃ (b + h)
       close_put d₃ e = record { row = q.row; part = omega (arith, q.part); fits = omega (arith, close_sum, ap length e ∙ length-sets d₂ b (lastn h (stream_to f w p i)), body_long) }
 
-  module _ (x kind time : ℕ) (ex : x ≡ word w (row_of p i + 1)) (ek : kind ≡ 2 - x % 2) (et : time ≡ long w (row_of p i + 6)) where
+  module _ (rx kind time : ℕ) (er : rx ≡ (piece f w p i).rx) (ek : kind ≡ 2 - rx) (et : time ≡ (piece f w p i).time) where
     abbrev wire : List ℕ
     wire = lastn h (stream_to f w p i) ++ take k (bytes_at f w p i)
 
@@ -195,10 +186,10 @@ module _ (f w : List ℕ) (p : Plan) (l : Lying f w p) (i : ℕ) (out : List ℕ
     wire_size = length-append (lastn h (stream_to f w p i)) (take k (bytes_at f w p i)) ∙ rw (length_lastn h (stream_to f w p i) q.come, length-take-le k (bytes_at f w p i) (omega (arith, q.part, length_bytes f w p l i q.row)))
 
     item_is : closed_item f w p i h k ≡ item_head kind (8 + h + k) ++ (le 8 time ++ wire)
-    unfolding closed_item span_item item item_head piece_at
+    unfolding closed_item span_item item item_head
     item_is =
-        let z : length (le 8 (long w (row_of p i + 6)) ++ wire) ≡ 8 + h + k = omega (arith, wire_size) in
-        rw (et, ek, ex, z)
+        let z : length (le 8 (piece f w p i).time ++ wire) ≡ 8 + h + k = omega (arith, wire_size) in
+        rw (et, ek, er, z)
 
     pub close_written : (a : ℕ) (d₁ : List ℕ) → Writes out at (item_head kind (8 + h + k)) a d₁ → (b : ℕ) (d₂ : List ℕ) → Writes d₁ a (le 8 time) b d₂ → (d₃ : List ℕ) → d₃ ≡ sets d₂ b (lastn h (stream_to f w p i)) → (d₄ : List ℕ) → d₄ ≡ sets d₃ (b + h) (take k (drop 0 (bytes_at f w p i))) → Writes out at (closed_item f w p i h k) (b + h + k) d₄
     close_written a d₁ w₁ b d₂ w₂ d₃ e₃ d₄ e₄ =

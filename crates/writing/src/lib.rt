@@ -10,22 +10,20 @@ ghost use Rattle.split.specs.Last.{lastn};
 ghost use Rattle.split.specs.Rows.{bytes_at, stream_to, all};
 ghost use Rattle.writing.specs.Writing.{items_of, items_from, WritePre, FirstOut, FirstWrote, RestPre, ClosePre, closed_item, ListPre};
 
-use items::{Direction, put_head};
+use items::put_head;
 use spans::{begins, write_part};
-use split::Pieces;
-use words::{get32, get64, part, put_le};
+use split::{Pieces, Table};
+use words::{part, put_le};
 
 // Writes the span of the h bytes held and the first k bytes of piece i.
-// Stays: piece, output and place side by side here and below, since each step gives the next another place.
+// Stays: piece, output and place side by side here and below, since each step gives the next another place. The piece is its number beside the view:
+// in a view of one piece it would be taken out again for each of the view's methods, which go to other pieces of the key too.
 fn write_closed(s: Pieces, i: usize, out: &mut [u8], at: usize, h: usize, k: usize) -> usize
     requires { ClosePre s.file.now s.w.now s.plan i out.old at h k }
     ensures { Writes out.old at (closed_item s.entry.file.now s.entry.w.now s.entry.plan i h k) result out.new }
 {
-    let row = s.plan.rows + 8 * i;
-    let direction = Direction::in_side(get32(s.w, row + 1));
-    let ms = get64(s.w, row + 6);
-    let time = put_head(out, at, direction.kind(), 8 + h + k);
-    let body = put_le(out, time, ms, 8);
+    let time = put_head(out, at, s.direction_of(i).kind(), 8 + h + k);
+    let body = put_le(out, time, s.time_of(i), 8);
     s.gather(i, h, out, body);
     let rest = body + h;
     s.put_part(i, 0, k, out, rest);
@@ -59,12 +57,11 @@ fn write_rest(s: Pieces, i: usize, out: &mut [u8], at: usize, skip: usize) -> us
     ensures { Writes out.old at (items_from s.entry.file.now s.entry.w.now s.entry.plan i skip) result out.new }
 {
     let n = s.length_of(i) - skip;
-    if n == get32(s.w, s.plan.held + i) as usize {
+    if n == s.held_after(i) {
         return at;
     }
-    let row = s.plan.rows + 8 * i;
-    let direction = Direction::in_side(get32(s.w, row + 1));
-    let ms = get64(s.w, row + 6);
+    let direction = s.direction_of(i);
+    let ms = s.time_of(i);
     let c = write_part(part(s.piece(i), skip, n), direction, ms, out, at);
     c.at
 }
@@ -74,7 +71,7 @@ fn write_piece(s: Pieces, i: usize, out: &mut [u8], at: usize) -> usize
     requires { WritePre s.file.now s.w.now s.plan i out.old at }
     ensures { Writes out.old at (items_of s.entry.file.now s.entry.w.now s.entry.plan i) result out.new }
 {
-    let e = get32(s.w, s.plan.ends + i) as usize;
+    let e = s.end_of(i);
     if e == s.length_of(i) {
         return at;
     }
@@ -87,9 +84,13 @@ pub fn write_spans(s: Pieces, out: &mut [u8]) -> usize
     requires { ListPre s.file.now s.w.now s.plan out.old }
     ensures { Writes out.old 0 (span_list (spans (all s.entry.file.now s.entry.w.now s.entry.plan))) result out.new }
 {
+    let table = Table {
+        w: s.w,
+        plan: s.plan,
+    };
     let mut at = 0;
     for i in 0..s.plan.n {
-        if get32(s.w, s.plan.rows + 8 * i) == s.plan.dlci {
+        if table.dlci_of(i) == s.plan.dlci {
             at = write_piece(s, i, out, at);
         }
     }

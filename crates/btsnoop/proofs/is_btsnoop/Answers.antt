@@ -1,7 +1,4 @@
-use mathlib.Core.Path.{sym}
-use lib.Seq.{length-take-le}
 use Rattle.btsnoop.proofs.Headers.{begins_short, begins_not, begins_version}
-use native.Mathlib.Omega.{arith}
 use Rattle.btsnoop.proofs.is_btsnoop.Goals as goal
 
 pub returns-then-file-lt16 : goal.returns-then-file-lt16

@@ -1,4 +1,4 @@
-use Rattle.btsnoop.proofs.Headers.{header_room, header_not, header_datalink, header_other}
+use Rattle.btsnoop.proofs.Headers.{header_room, header_not, header_other, header_read}
 use native.Mathlib.Omega.{arith}
 use Rattle.btsnoop.proofs.read_header.Goals as goal
 
@@ -8,8 +8,8 @@ returns-then-not-is_btsnoop c = search header_not
 pub get_be32-n-requires : goal.get_be32-n-requires
 get_be32-n-requires c = omega (arith, header_room c.args.file.now _ c.is_btsnoop.ensures c.if-not-is_btsnoop.false)
 
-pub returns-in_default : goal.returns-in_default
-returns-in_default c = search header_other
+pub returns-then-not-is_datalink : goal.returns-then-not-is_datalink
+returns-then-not-is_datalink c = search header_other
 
 pub returns : goal.returns
-returns c = search header_datalink
+returns c = search header_read

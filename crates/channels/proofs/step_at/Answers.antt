@@ -1,4 +1,4 @@
-use Rattle.channels.proofs.Commands.{command_within}
+use Rattle.channels.proofs.Payloads.{command_within}
 use Rattle.channels.proofs.Walk.{step_is}
 use native.Mathlib.Omega.{arith}
 use Rattle.channels.proofs.step_at.Goals as goal

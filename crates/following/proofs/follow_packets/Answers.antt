@@ -1,5 +1,4 @@
 use Rattle.following.proofs.Walking.{follow_start, follow_pre, follow_again, follow_end}
-use Rattle.l2cap.proofs.Running.{link_room}
 use Rattle.following.proofs.follow_packets.Goals as goal
 
 pub loop-r-init : goal.loop-r-init

@@ -1,4 +1,4 @@
-use Rattle.gaps.proofs.Finding.{find_readable, find_followed, find_all}
+use Rattle.gaps.proofs.Finding.{find_followed, find_all}
 use Rattle.gaps.proofs.find_signs.Goals as goal
 
 pub left_open-left-requires : goal.left_open-left-requires

@@ -1,11 +1,11 @@
-use lib.ListN.{length}
-use Prim.Native.Nat.{◌-◌}
 use Rattle.items.specs.Walks.{test_of}
+use Rattle.items.specs.Entries.{Over}
 use Rattle.items.proofs.Steps.{Checking}
 use Rattle.items.proofs.walk.Given as goal
 
-abbrev pub invariant-loop-at : goal.invariant-loop-at
-invariant-loop-at l = Checking (test_of l.which) l.list l.at l.n
-
-abbrev pub decreases-loop-at : goal.decreases-loop-at
-decreases-loop-at l = length l.list - l.at
+abbrev pub invariant-loop-entry : goal.invariant-loop-entry
+invariant-loop-entry l =
+    (goal.iterator-loop-entry).can_next l.entry-iterator ×
+    (goal.iterator-loop-entry).is_finite l.entry-iterator ×
+    Over l.list l.fn.which l.entry-iterator ×
+    Checking (test_of l.fn.which) l.list (l.entry-iterator).at l.n

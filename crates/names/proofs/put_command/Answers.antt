@@ -1,5 +1,4 @@
-use Rattle.names.proofs.Writing.{command_written, command_long}
-use native.Mathlib.Omega.{arith}
+use Rattle.names.proofs.Writing.{command_written}
 use Rattle.names.proofs.put_command.Goals as goal
 
 pub returns : goal.returns

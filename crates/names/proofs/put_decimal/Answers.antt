@@ -1,12 +1,11 @@
-use Rattle.names.proofs.Counting.{backward_start, backward_past, backward_turn, backward_end}
-use native.Mathlib.Omega.{arith}
+use Rattle.names.proofs.Counting.{backward_start, backward_turn, backward_end}
 use Rattle.names.proofs.put_decimal.Goals as goal
 
-pub overflow_sub-to : goal.overflow_sub-to
-overflow_sub-to c = omega (arith, backward_past _ _ _ _ _ _ c.loop-rest.invariant)
+pub loop-to-init : goal.loop-to-init
+loop-to-init c = search backward_start
 
-pub loop-rest-preserved : goal.loop-rest-preserved
-loop-rest-preserved c = search backward_turn
+pub loop-to-preserved : goal.loop-to-preserved
+loop-to-preserved c = search backward_turn
 
 pub returns : goal.returns
 returns c = search backward_end

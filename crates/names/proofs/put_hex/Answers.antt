@@ -1,6 +1,4 @@
 use Rattle.names.proofs.Counting.{hex_written}
-use lib.ListN.{length-set}
-use native.Mathlib.Omega.{arith}
 use Rattle.names.proofs.put_hex.Goals as goal
 
 pub returns : goal.returns

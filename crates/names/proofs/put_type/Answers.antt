@@ -1,5 +1,4 @@
-use Rattle.names.proofs.Writing.{type_written, type_long}
-use native.Mathlib.Omega.{arith}
+use Rattle.names.proofs.Writing.{type_written}
 use Rattle.names.proofs.put_type.Goals as goal
 
 pub returns : goal.returns

@@ -1,5 +1,4 @@
-use Rattle.names.proofs.Counting.{zeros_long, zeros_written}
-use native.Mathlib.Omega.{arith}
+use Rattle.names.proofs.Counting.{zeros_written}
 use Rattle.names.proofs.put_zeros.Goals as goal
 
 pub returns : goal.returns

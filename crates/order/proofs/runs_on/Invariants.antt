@@ -1,10 +1,11 @@
+use Rattle.items.specs.Entries.{Over}
+use Rattle.items.specs.declared.Listing.TheVariants.{Names}
 use Rattle.order.proofs.Running.{Running}
-use lib.ListN.{length}
-use Prim.Native.Nat.{◌-◌}
 use Rattle.order.proofs.runs_on.Given as goal
 
-abbrev pub invariant-loop-at : goal.invariant-loop-at
-invariant-loop-at l = Running l.names l.start l.at l.initial.a l.a l.up
-
-abbrev pub decreases-loop-at : goal.decreases-loop-at
-decreases-loop-at l = length l.names - l.at
+abbrev pub invariant-loop-name : goal.invariant-loop-name
+invariant-loop-name l =
+    (goal.iterator-loop-name).can_next l.name-iterator ×
+    (goal.iterator-loop-name).is_finite l.name-iterator ×
+    Over l.names Names l.name-iterator ×
+    Running l.names l.fn.rest.at (l.name-iterator).at l.initial.a l.a l.up

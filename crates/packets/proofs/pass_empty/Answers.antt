@@ -1,4 +1,4 @@
-use Rattle.packets.proofs.Adding.{pass_start, pass_less, pass_turn}
+use Rattle.packets.proofs.Adding.{pass_less, pass_turn}
 use Rattle.packets.proofs.pass_empty.Goals as goal
 
 pub loop-i-smaller : goal.loop-i-smaller

@@ -1,4 +1,4 @@
-use Rattle.packing.proofs.Escapes.{first_room, more_room, first_only, first_more}
+use Rattle.packing.proofs.Escapes.{first_more}
 use Rattle.packing.proofs.escape_mixed.Goals as goal
 
 pub returns-then-at-from-eq32 : goal.returns-then-at-from-eq32

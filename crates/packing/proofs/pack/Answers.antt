@@ -1,5 +1,5 @@
 use Rattle.std.proofs.Common.{refl}
-use Rattle.packing.proofs.Escapes.{bare_if, frame_room, pack_long, pack_short, pack_wrote}
+use Rattle.packing.proofs.Escapes.{frame_room, pack_long, pack_short, pack_wrote}
 use Rattle.packing.proofs.pack.Goals as goal
 
 pub returns-then-n-gt32760 : goal.returns-then-n-gt32760

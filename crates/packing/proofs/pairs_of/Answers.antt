@@ -1,4 +1,4 @@
-use Rattle.packing.proofs.Twins.{twin_start, full_least, twin_turn, twin_end}
+use Rattle.packing.proofs.Twins.{full_least, twin_turn, twin_end}
 use native.Mathlib.Omega.{arith}
 use Rattle.packing.proofs.pairs_of.Goals as goal
 

@@ -1,5 +1,5 @@
-use Rattle.std.proofs.Common.{arith, length-set}
-use Rattle.packing.proofs.Escapes.{put_least, put_room, put_space, put_special, put_plain}
+use Rattle.std.proofs.Common.{arith}
+use Rattle.packing.proofs.Escapes.{put_least}
 use Rattle.packing.proofs.put.Goals as goal
 
 pub overflow_sub-out : goal.overflow_sub-out

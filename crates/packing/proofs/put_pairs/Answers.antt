@@ -1,4 +1,4 @@
-use Rattle.packing.proofs.Twins.{low_high, part_start, part_second, part_turn, part_end}
+use Rattle.packing.proofs.Twins.{low_high, part_turn, part_end}
 use native.Mathlib.Omega.{arith}
 use Rattle.packing.proofs.put_pairs.Goals as goal
 

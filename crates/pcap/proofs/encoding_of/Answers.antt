@@ -1,20 +1,21 @@
+use native.Mathlib.Omega.{arith}
 use Rattle.pcap.proofs.Headers.{encoding_short, big_micro_is, big_nano_is, little_micro_is, little_nano_is, no_magic}
 use Rattle.pcap.proofs.encoding_of.Goals as goal
 
 pub returns-then-file-lt24 : goal.returns-then-file-lt24
 returns-then-file-lt24 c = search encoding_short
 
-pub returns-then-same : goal.returns-then-same
-returns-then-same c = search big_micro_is
+pub returns-in_default : goal.returns-in_default
+returns-in_default c = search no_magic
 
-pub returns-then-same-2 : goal.returns-then-same-2
-returns-then-same-2 c = search big_nano_is
+pub returns-in-2712847316 : goal.returns-in-2712847316
+returns-in-2712847316 c = big_micro_is _ (omega arith) _ c.get_be32.ensures (λ k. omega (arith, c.type_inv.file k)) (omega arith)
 
-pub returns-then-same-3 : goal.returns-then-same-3
-returns-then-same-3 c = search little_micro_is
+pub returns-in-2712812621 : goal.returns-in-2712812621
+returns-in-2712812621 c = big_nano_is _ (omega arith) _ c.get_be32.ensures (λ k. omega (arith, c.type_inv.file k)) (omega arith)
 
-pub returns-then-same-4 : goal.returns-then-same-4
-returns-then-same-4 c = search little_nano_is
+pub returns-in-3569595041 : goal.returns-in-3569595041
+returns-in-3569595041 c = little_micro_is _ (omega arith) _ c.get_be32.ensures (λ k. omega (arith, c.type_inv.file k)) (omega arith)
 
-pub returns-else-same-4 : goal.returns-else-same-4
-returns-else-same-4 c = search no_magic
+pub returns-in-1295823521 : goal.returns-in-1295823521
+returns-in-1295823521 c = little_nano_is _ (omega arith) _ c.get_be32.ensures (λ k. omega (arith, c.type_inv.file k)) (omega arith)

@@ -1,9 +1,6 @@
 -- Each turn takes a case, and a case is a byte at least.
-use Rattle.std.proofs.Common.{◌≤◌, ◌-◌, length}
+use Rattle.std.proofs.Common.{◌≡◌, ◌≤◌, length}
 use Rattle.replay.proofs.replay.Given as goal
 
-abbrev pub invariant-loop-at : goal.invariant-loop-at
-invariant-loop-at l = (l.at ≤ length l.s) × (l.cases ≤ l.at) × (l.differences ≤ l.cases)
-
-abbrev pub decreases-loop-at : goal.decreases-loop-at
-decreases-loop-at l = length l.s - l.at
+abbrev pub invariant-loop-case : goal.invariant-loop-case
+invariant-loop-case l = (l.case-iterator.sample.now ≡ l.s) × (l.cases ≤ l.case-iterator.at) × (l.cases ≤ length l.s) × (l.differences ≤ l.cases)

@@ -1,5 +1,4 @@
 use Rattle.trace.proofs.Finding.{bytes_btsnoop}
-use Rattle.signs.proofs.Acl.{acl_flagged, acl_directed}
 use Rattle.signs.proofs.is_acl.Goals as goal
 
 pub is_flagged_acl-requires : goal.is_flagged_acl-requires

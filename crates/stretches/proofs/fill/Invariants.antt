@@ -3,4 +3,4 @@ use Rattle.stretches.specs.Filled.{filled}
 use Rattle.stretches.proofs.fill.Given as goal
 
 abbrev pub invariant-loop-i : goal.invariant-loop-i
-invariant-loop-i l = l.stretches ≡ filled l.work l.i l.initial.stretches
+invariant-loop-i l = l.stretch-items ≡ filled l.work l.i l.initial.stretch-items

@@ -9,17 +9,8 @@ bounds-s-0 c = omega (arith, ahead_most c.args.part.bytes.now)
 pub bounds-s-1 : goal.bounds-s-1
 bounds-s-1 c = omega (arith, ahead_most c.args.part.bytes.now)
 
-pub bounds-s-2 : goal.bounds-s-2
-bounds-s-2 c = omega (arith, ahead_most c.args.part.bytes.now)
-
-pub bounds-s-3 : goal.bounds-s-3
-bounds-s-3 c = omega (arith, ahead_most c.args.part.bytes.now)
-
-pub bounds-s-4 : goal.bounds-s-4
-bounds-s-4 c = omega (arith, ahead_most c.args.part.bytes.now)
-
-pub bounds-s-5 : goal.bounds-s-5
-bounds-s-5 c = omega (arith, ahead_most c.args.part.bytes.now)
+pub get_be32-requires : goal.get_be32-requires
+get_be32-requires c = omega (arith, ahead_most c.args.part.bytes.now)
 
 pub slice_bounds-result-count : goal.slice_bounds-result-count
 slice_bounds-result-count c = omega (arith, ahead_most c.args.part.bytes.now)
@@ -28,4 +19,4 @@ pub slice_bounds-result-start : goal.slice_bounds-result-start
 slice_bounds-result-start c = omega (arith, ahead_most c.args.part.bytes.now)
 
 pub returns-then-part : goal.returns-then-part
-returns-then-part c = header_bare _ _ c.args.part.unescaped c.if-part.true _ refl refl c.join.ensures refl
+returns-then-part c = header_bare _ _ c.args.part.unescaped c.if-part.true _ refl refl (cc) refl

@@ -18,4 +18,4 @@ pub overflow_add-result : goal.overflow_add-result
 overflow_add-result c = omega (arith, c.well_formed, c.ranges, close_sum _ _ _ c.args.s.lying _ _ _ _ _ c.requires _ _ _ c.put_head-time.ensures _ _ _ c.put_le-body.ensures)
 
 pub returns : goal.returns
-returns c = close_written _ _ _ c.args.s.lying _ _ _ _ _ c.requires _ _ _ c.get32.ensures (rw c.in_side-direction.ensures at c.kind.ensures) c.get64-ms.ensures _ _ c.put_head-time.ensures _ _ c.put_le-body.ensures _ c.gather.ensures _ c.put_part.ensures
+returns c = close_written _ _ _ c.args.s.lying _ _ _ _ _ c.requires _ _ _ c.direction_of.ensures c.kind.ensures c.time_of.ensures _ _ c.put_head-time.ensures _ _ c.put_le-body.ensures _ c.gather.ensures _ c.put_part.ensures

@@ -1,4 +1,4 @@
-use Rattle.writing.proofs.Writing.{write_none, write_first, write_rest, write_wrote}
+use Rattle.writing.proofs.Writing.{write_none, write_first, write_wrote}
 use Rattle.writing.proofs.write_piece.Goals as goal
 
 pub returns-then-e-length_of : goal.returns-then-e-length_of

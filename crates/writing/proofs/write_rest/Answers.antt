@@ -1,8 +1,8 @@
 use Rattle.writing.proofs.Writing.{rest_none, rest_part, rest_pre, rest_wrote}
 use Rattle.writing.proofs.write_rest.Goals as goal
 
-pub returns-then-n-get32 : goal.returns-then-n-get32
-returns-then-n-get32 c = search rest_none
+pub returns-then-n-held_after : goal.returns-then-n-held_after
+returns-then-n-held_after c = search rest_none
 
 pub part-requires : goal.part-requires
 part-requires c = search rest_part

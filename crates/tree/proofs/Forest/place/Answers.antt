@@ -1,11 +1,11 @@
-use Rattle.tree.proofs.Index.{seeking_start, seeking_end, seeking_turn}
+use Rattle.tree.proofs.Index.{seeking_start, seeking_none, seeking_turn}
 use Rattle.tree.proofs.Forest.place.Goals as goal
 
-pub loop-x-init : goal.loop-x-init
-loop-x-init c = search seeking_start
+pub loop-i-init : goal.loop-i-init
+loop-i-init c = search seeking_start
 
-pub returns-then-v-eq0 : goal.returns-then-v-eq0
-returns-then-v-eq0 c = search seeking_end
+pub returns-in_default : goal.returns-in_default
+returns-in_default c = search seeking_none
 
-pub loop-x-preserved : goal.loop-x-preserved
-loop-x-preserved c = search seeking_turn
+pub loop-i-preserved : goal.loop-i-preserved
+loop-i-preserved c = search seeking_turn

@@ -1,13 +1,13 @@
-use Rattle.acl.proofs.Reading.{h4_none, h4_other, h4_acl}
+use mathlib.Core.Path.{refl, ◌∙◌, ap}
+use mathlib.Core.Bool.{not}
+use Rattle.acl.proofs.Reading.{first_is, h4_other, h4_acl, h4_some}
 use Rattle.acl.proofs.excerpt.Excerpt.read_h4.Goals as goal
-use Rattle.acl.proofs.excerpt.Excerpt.read_h4.Goals.{else-not-is_empty-via-then-not-is_empty+else-self-eq2, else-not-is_empty-via-else-not-is_empty}
 
-pub returns-then-self-eq2 : goal.returns-then-self-eq2
-returns-then-self-eq2 c = search h4_acl
+pub returns-then-ne : goal.returns-then-ne
+returns-then-ne c = h4_other c.args.self c.args.rx _ (c.ne.ensures ∙ ap not (first_is _ _ c.first.ensures.value _ refl)) c.if-ne.true
+
+pub after-requires : goal.after-requires
+after-requires c = h4_some c.args.self c.args.rx _ (c.ne.ensures ∙ ap not (first_is _ _ c.first.ensures.value _ refl)) c.if-ne.false
 
 pub returns : goal.returns
-returns c =
-    elim c.else-not-is_empty.branch [
-      | else-not-is_empty-via-then-not-is_empty+else-self-eq2 w ↦ search h4_other
-      | else-not-is_empty-via-else-not-is_empty w ↦ search h4_none
-    ]
+returns c = h4_acl c.args.self c.args.rx _ (c.ne.ensures ∙ ap not (first_is _ _ c.first.ensures.value _ refl)) c.if-ne.false _ c.after.ensures _ c.read_fragment.ensures

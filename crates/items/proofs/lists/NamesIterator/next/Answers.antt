@@ -1,20 +1,20 @@
 use Rattle.std.proofs.Common.{refl}
-use native.Mathlib.Omega.{arith}
-use Rattle.items.proofs.Walks.{name_room, name_next}
+use Rattle.items.specs.Items.{name_test}
+use Rattle.items.proofs.Entries.{read_fits, read_next}
 use Rattle.items.proofs.Checked.{names_none, name_gave, name_goes}
 use Rattle.items.proofs.lists.NamesIterator.next.Goals as goal
 
-pub returns-then-list-at-clause-steps : goal.returns-then-list-at-clause-steps
-returns-then-list-at-clause-steps c = let e = names_none c.args.self.now c.if-list-at.true in (e, e)
+pub entry_in-requires : goal.entry_in-requires
+entry_in-requires c = read_fits name_test _ _ c.args.self.now.walks
 
-pub get_le32-requires : goal.get_le32-requires
-get_le32-requires c = omega (arith, name_room _ _ c.args.self.now.walks c.if-list-at.false)
+pub returns-in_err-entry-clause-steps : goal.returns-in_err-entry-clause-steps
+returns-in_err-entry-clause-steps c = let e = names_none c.args.self.now c.in_err-entry.ensures in rw c.from_residual.ensures (e, e)
 
 pub invariant_of-self : goal.invariant_of-self
-invariant_of-self c = record { walks = name_next _ _ c.args.self.now.walks c.if-list-at.false _ c.get_le32.ensures }
+invariant_of-self c = record { walks = rw c.in_ok-entry.ensures.2 (read_next name_test _ _ c.args.self.now.walks c.in_ok-entry.ensures.0 _ c.in_ok-entry.ensures.1) }
 
 pub returns-clause-steps : goal.returns-clause-steps
-returns-clause-steps c = name_gave _ _ _ _ c.if-list-at.false c.get_le32.ensures refl refl refl
+returns-clause-steps c = name_gave _ _ _ c.in_ok-entry.ensures.0 c.in_ok-entry.ensures.1 refl c.in_ok-entry.ensures.2
 
 pub returns-clause-goes : goal.returns-clause-goes
-returns-clause-goes c = name_goes _ _ _ (name_gave _ _ _ _ c.if-list-at.false c.get_le32.ensures refl refl refl)
+returns-clause-goes c = name_goes _ _ _ (name_gave _ _ _ c.in_ok-entry.ensures.0 c.in_ok-entry.ensures.1 refl c.in_ok-entry.ensures.2)

@@ -1,23 +1,23 @@
-use Rattle.std.proofs.Common.{◌+◌, ap, refl}
-use native.Mathlib.Omega.{arith}
-use Rattle.items.proofs.Walks.{span_fits, span_next}
+use Rattle.std.proofs.Common.{refl}
+use Rattle.items.specs.Items.{span_test}
+use Rattle.items.proofs.Entries.{read_fits, read_next, read_test}
 use Rattle.items.proofs.Checked.{spans_none, span_gave, span_goes}
 use Rattle.items.proofs.lists.SpansIterator.next.Goals as goal
 
-pub returns-then-list-at-clause-steps : goal.returns-then-list-at-clause-steps
-returns-then-list-at-clause-steps c = let e = spans_none c.args.self.now c.if-list-at.true in (e, e)
+pub entry_in-requires : goal.entry_in-requires
+entry_in-requires c = read_fits span_test _ _ c.args.self.now.walks
 
-pub get_le32-size-requires : goal.get_le32-size-requires
-get_le32-size-requires c = let f = span_fits _ _ c.args.self.now.walks c.if-list-at.false _ refl in omega (arith, f.0, f.1)
+pub returns-in_err-entry-clause-steps : goal.returns-in_err-entry-clause-steps
+returns-in_err-entry-clause-steps c = let e = spans_none c.args.self.now c.in_err-entry.ensures in rw c.from_residual.ensures (e, e)
 
 pub invariant_of-self : goal.invariant_of-self
-invariant_of-self c = record { walks = span_next _ _ c.args.self.now.walks c.if-list-at.false _ c.get_le32-size.ensures }
+invariant_of-self c = record { walks = rw c.in_ok-entry.ensures.2 (read_next span_test _ _ c.args.self.now.walks c.in_ok-entry.ensures.0 _ c.in_ok-entry.ensures.1) }
 
-pub span_to-requires-clause-long : goal.span_to-requires-clause-long
-span_to-requires-clause-long c = (span_fits _ _ c.args.self.now.walks c.if-list-at.false _ (ap (λ n. c.args.self.now.at + 6 + n) c.get_le32-size.ensures)).0
+pub span-requires : goal.span-requires
+span-requires c = read_test span_test _ _ c.args.self.now.walks c.in_ok-entry.ensures.0 _ c.in_ok-entry.ensures.1
 
 pub returns-clause-steps : goal.returns-clause-steps
-returns-clause-steps c = span_gave _ _ _ _ c.if-list-at.false c.get_le32-size.ensures c.span_to.ensures refl refl
+returns-clause-steps c = span_gave _ _ _ _ c.in_ok-entry.ensures.0 c.in_ok-entry.ensures.1 c.span.ensures refl c.in_ok-entry.ensures.2
 
 pub returns-clause-goes : goal.returns-clause-goes
-returns-clause-goes c = span_goes _ _ _ (span_gave _ _ _ _ c.if-list-at.false c.get_le32-size.ensures c.span_to.ensures refl refl)
+returns-clause-goes c = span_goes _ _ _ (span_gave _ _ _ _ c.in_ok-entry.ensures.0 c.in_ok-entry.ensures.1 c.span.ensures refl c.in_ok-entry.ensures.2)

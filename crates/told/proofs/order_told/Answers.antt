@@ -1,5 +1,0 @@
-use Rattle.telling.proofs.TellLaws.{calls}
-use Rattle.told.proofs.order_told.Goals as goal
-
-pub returns : goal.returns
-returns c = search calls
