@@ -11,5 +11,7 @@ examples :
     × (is_command_name (ascii "UNKNOWN") ≡ true)
     × (is_command_name (ascii "NO_COMMAND") ≡ false)
     × (is_command_name (ascii "GENERAL_SETTING_NTFY_PARAM") ≡ false)
+    × (is_command_name (ascii "LOG_GET_PARAM") ≡ false)
+    × (is_command_name (ascii "DATA_MDR") ≡ false)
 unfolding is_command_name has_name t1 t2 eq_k
-examples = (refl, refl, refl, refl, refl)
+examples = (refl, refl, refl, refl, refl, refl, refl)

@@ -1,4 +1,4 @@
--- Searching a table's codes, and comparing names.
+-- Searching a table's codes, and the number of the name that is found.
 use Rattle.std.specs.Prelude.{Option, Some, None, Result, Ok, Err}
 use Rattle.std.specs.Ordering.{nat_cmp}
 use Rattle.std.specs.List.Sorted.{IsBinarySearchResult}
@@ -8,19 +8,17 @@ use mathlib.Core.Bool.{Bool, true, false, cond}
 use mathlib.Core.List.{List, [], ◌∷◌, ◌++◌, map}
 use Prim.Native.Nat.{ℕ, zero, suc, ◌+◌, ◌-◌, ◌<◌, ◌≤◌}
 use native.Mathlib.Omega.{arith}
-use native.Mathlib.Numerals.{add-one}
 use lib.Dec.{ltb, eqb, lit<, lit≤}
-use lib.ListN.{length, get_or, take, drop, get_or-append, drop_of_length-le, length-drop}
-use lib.Seq.{get_or-append-add, drop-cons, length-take-le}
+use lib.ListN.{length, get_or, take, drop, get_or-append, length-drop}
+use lib.Seq.{get_or-append-add, length-take-le}
 use borrow.Author.Tests.{ltb-true, eq-eqb, ne_eqb, lt-ltb, le-ltb}
 use Rattle.laws.proofs.Choice.{split_b, split≡, split≤, no_way}
-use Rattle.laws.specs.Keys.{eq_k}
 use Rattle.mdr.specs.declared.DataType.TheVariants.{Unknown}
 use Rattle.mdr.specs.Types.{kinds}
 use Rattle.commands.specs.Text.{ascii}
-use Rattle.commands.specs.Commands.{Entry, t1, t2, name_in, has_name, is_command_name}
+use Rattle.commands.specs.Commands.{Entry, t1, t2, name_in}
 use Rattle.commands.specs.Labels.{type_name, table_of, command_name}
-use Rattle.commands.specs.Run.{codes_of, names_of, all_codes, commands, others, all_names, name_at, Spot, rising, index_in, spot_in, SpotIn, entries_of}
+use Rattle.commands.specs.Numbers.{codes_of, names_of, all_codes, commands, others, all_names, name_at, Spot, rising, index_in, spot_in, SpotIn, entries_of}
 use Rattle.mdr.specs.declared.Frame.{Frame}
 use Rattle.commands.specs.declared.Table.{Table}
 
@@ -223,46 +221,3 @@ module _ (f : Frame) where
   pub command_some : (t : Option Table) (r : ℕ) → (f.size ≡ 0 → ⊥) → entries_of t ≡ table_of f.kind → Spot r (name_in (entries_of t) f.first) → Spot r (command_name f)
   unfolding command_name
   command_some t r h e s = rw (ne_eqb f.size 0 h) (rw e at s)
-
-pub command_same : (f : Frame) (i : ℕ) (t : Bool) (name : List ℕ) → Spot i (command_name f) → t ≡ eq_k (name_at i) name → t ≡ eq_k (command_name f) name
-command_same f i t name s e = rw s.is at e
-
--- ---- asking name by name: the tables' names from i on have it as the tables have it
-
-unfoldable pub any_of : List (List ℕ) → List ℕ → Bool
-any_of [] n = false
-any_of (l ∷ ls) n = cond (eq_k l n) true (any_of ls n)
-
-any_append : (es : List Entry) (ls : List (List ℕ)) (n : List ℕ) → any_of (names_of es ++ ls) n ≡ cond (has_name es n) true (any_of ls n)
-unfolding any_of has_name
-any_append [] ls n = refl
-any_append (e ∷ es) ls n = split_b (eq_k e.name n) (λ q. rw q) (λ q. rw q (any_append es ls n))
-
-any_names : (es : List Entry) (n : List ℕ) → any_of (names_of es) n ≡ has_name es n
-unfolding any_of has_name
-any_names [] n = refl
-any_names (e ∷ es) n = rw (any_names es n)
-
-pub record Asking (name : List ℕ) (i : ℕ) : Type 0 where
-  pub within : i ≤ 229
-  pub same : any_of (drop i commands) name ≡ is_command_name name
-
-pub asking_start : (name : List ℕ) → Asking name 0
-unfolding commands is_command_name
-asking_start name = record { within = omega arith; same = any_append t1 (names_of t2) name ∙ rw (any_names t2 name) }
-
-module _ (name : List ℕ) (i : ℕ) (a : Asking name i) (t : Bool) (e : t ≡ eq_k (name_at i) name) (h : i < 229) where
-  here : drop i commands ≡ name_at i ∷ drop (i + 1) commands
-  here = rw (add-one i, drop-cons commands i [] (omega (arith, commands_count)), command_at i h)
-
-  pub asking_yes : t ≡ true → true ≡ is_command_name name
-  unfolding any_of
-  asking_yes q = rw (here, ← e, q) at a.same
-
-  pub asking_turn : t ≡ false → Asking name (i + 1)
-  unfolding any_of
-  asking_turn q = record { within = omega arith; same = rw (here, ← e, q) at a.same }
-
-pub asking_end : (name : List ℕ) (i : ℕ) → Asking name i → 229 ≤ i → false ≡ is_command_name name
-unfolding any_of
-asking_end name i a h = rw (drop_of_length-le commands (let g : length commands ≤ i = omega (arith, commands_count) in g)) at a.same

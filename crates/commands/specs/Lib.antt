@@ -1,4 +1,4 @@
 pub mod Text
 pub mod Commands
 pub mod Labels
-pub mod Run
+pub mod Numbers

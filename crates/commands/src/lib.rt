@@ -1,86 +1,28 @@
-// Both command tables, and the names of the types: the number of a name, the name with a number.
+// Which name a command or a type has, by its number.
 #![tactic(auto)]
 
-ghost use Rattle.std.specs.Prelude.{◌≡◌, true, ◌+◌, ◌≤◌, ◌<◌, length, take, drop};
-ghost use Rattle.laws.specs.Keys.{eq_k};
-ghost use Rattle.laws.specs.Stores.{Writes};
-ghost use Rattle.commands.specs.Run.{all_letters, all_starts, all_codes, name_at, Spot, NameIs, rising, SpotIn, entries_of};
-ghost use Rattle.commands.specs.Commands.{name_in, is_command_name};
+ghost use Rattle.std.specs.Prelude.{◌≡◌, true, ◌+◌, ◌≤◌, ◌<◌, take, drop};
+ghost use Rattle.commands.specs.Numbers.{all_codes, Spot, rising, SpotIn, entries_of};
+ghost use Rattle.commands.specs.Commands.{name_in};
 ghost use Rattle.commands.specs.Labels.{type_name, table_of, command_name};
 
 use mdr::{DataType, Frame};
 
-// ---- all names in one run of letters: those of table 1, of table 2, of the types, UNKNOWN and NO_COMMAND
+// ---- the names: those of table 1, of table 2, of the types, UNKNOWN and NO_COMMAND
 
-// Stays: three tables and no table of codes and names. A &str of each name takes 16 bytes of fixed memory beside its letters, where a start takes
-// two; and codes that stand together are sought by binary_search as they stand.
+// A name, by its number in this order. Its letters are in letters.
+#[derive(Clone, Copy)]
+pub struct Name {
+    pub number: usize,
+    pub ghost known: { number < 246 },
+}
 
-static LETTERS: [u8; 4406] = *b"\
-    CONNECT_GET_PROTOCOL_INFOCONNECT_RET_PROTOCOL_INFOCONNECT_GET_CAPABILITY_INFOCONNECT_RET_CAPABILITY_INFO\
-    CONNECT_GET_DEVICE_INFOCONNECT_RET_DEVICE_INFOCONNECT_GET_SUPPORT_FUNCTIONCONNECT_RET_SUPPORT_FUNCTION\
-    GET_TESTCOMMON_GET_CAPABILITYCOMMON_RET_CAPABILITYCOMMON_GET_STATUSCOMMON_RET_STATUSCOMMON_NTFY_STATUS\
-    COMMON_SET_PARAMCOMMON_NTFY_PARAMPOWER_GET_CAPABILITYPOWER_RET_CAPABILITYPOWER_GET_STATUSPOWER_RET_STATUS\
-    POWER_SET_STATUSPOWER_NTFY_STATUSPOWER_GET_PARAMPOWER_RET_PARAMPOWER_SET_PARAMPOWER_NTFY_PARAM\
-    UPDT_GET_CAPABILITYUPDT_RET_CAPABILITYUPDT_GET_STATUSUPDT_RET_STATUSUPDT_SET_STATUSUPDT_NTFY_STATUS\
-    UPDT_GET_PARAMUPDT_RET_PARAMUPDT_SET_PARAMUPDT_NTFY_PARAMUPDT_TRANSFER_DATAUPDT_NTFY_MESSAGE\
-    LEA_GET_CAPABILITYLEA_RET_CAPABILITYLEA_GET_STATUSLEA_RET_STATUSLEA_NTFY_STATUSLEA_GET_PARAMLEA_RET_PARAM\
-    LEA_SET_PARAMLEA_NTFY_PARAMLEA_GET_EXTENDED_PARAMLEA_RET_EXTENDED_PARAMLEA_SET_EXTENDED_PARAM\
-    LEA_NTFY_EXTENDED_PARAMEQEBB_GET_CAPABILITYEQEBB_RET_CAPABILITYEQEBB_GET_STATUSEQEBB_RET_STATUS\
-    EQEBB_NTFY_STATUSEQEBB_GET_PARAMEQEBB_RET_PARAMEQEBB_SET_PARAMEQEBB_NTFY_PARAMEQEBB_GET_EXTENDED_INFO\
-    EQEBB_RET_EXTENDED_INFONCASM_GET_CAPABILITYNCASM_RET_CAPABILITYNCASM_GET_STATUSNCASM_RET_STATUS\
-    NCASM_SET_STATUSNCASM_NTFY_STATUSNCASM_GET_PARAMNCASM_RET_PARAMNCASM_SET_PARAMNCASM_NTFY_PARAM\
-    SENSE_GET_CAPABILITYSENSE_RET_CAPABILITYSENSE_SET_STATUSSENSE_NTFY_STATUSSENSE_SET_PARAMSENSE_NTFY_PARAM\
-    SENSE_GET_EXT_INFOSENSE_RET_EXT_INFOOPT_GET_CAPABILITYOPT_RET_CAPABILITYOPT_GET_STATUSOPT_RET_STATUS\
-    OPT_SET_STATUSOPT_NTFY_STATUSOPT_GET_PARAMOPT_RET_PARAMOPT_SET_PARAMOPT_NTFY_PARAMALERT_GET_CAPABILITY\
-    ALERT_RET_CAPABILITYALERT_GET_STATUSALERT_RET_STATUSALERT_SET_STATUSALERT_NTFY_STATUSALERT_SET_PARAM\
-    ALERT_NTFY_PARAMPLAY_GET_CAPABILITYPLAY_RET_CAPABILITYPLAY_GET_STATUSPLAY_RET_STATUSPLAY_SET_STATUS\
-    PLAY_NTFY_STATUSPLAY_GET_PARAMPLAY_RET_PARAMPLAY_SET_PARAMPLAY_NTFY_PARAMSAR_AUTO_PLAY_GET_CAPABILITY\
-    SAR_AUTO_PLAY_RET_CAPABILITYSAR_AUTO_PLAY_GET_STATUSSAR_AUTO_PLAY_RET_STATUSSAR_AUTO_PLAY_NTFY_STATUS\
-    SAR_AUTO_PLAY_GET_PARAMSAR_AUTO_PLAY_RET_PARAMSAR_AUTO_PLAY_SET_PARAMSAR_AUTO_PLAY_NTFY_PARAMLOG_SET_STATUS\
-    LOG_NTFY_PARAMGENERAL_SETTING_GET_CAPABILITYGENERAL_SETTING_RET_CAPABILITYGENERAL_SETTING_GET_STATUS\
-    GENERAL_SETTING_RET_STATUSGENERAL_SETTING_NTFY_STATUSGENERAL_SETTING_GET_PARAMGENERAL_SETTING_RET_PARAM\
-    GENERAL_SETTING_SET_PARAMGENERAL_SETTING_NTNY_PARAMAUDIO_GET_CAPABILITYAUDIO_RET_CAPABILITYAUDIO_GET_STATUS\
-    AUDIO_RET_STATUSAUDIO_NTFY_STATUSAUDIO_GET_PARAMAUDIO_RET_PARAMAUDIO_SET_PARAMAUDIO_NTFY_PARAM\
-    SYSTEM_GET_CAPABILITYSYSTEM_RET_CAPABILITYSYSTEM_GET_STATUSSYSTEM_RET_STATUSSYSTEM_SET_STATUS\
-    SYSTEM_NTFY_STATUSSYSTEM_GET_PARAMSYSTEM_RET_PARAMSYSTEM_SET_PARAMSYSTEM_NTFY_PARAMSYSTEM_GET_EXT_PARAM\
-    SYSTEM_RET_EXT_PARAMSYSTEM_SET_EXT_PARAMSYSTEM_NTFY_EXT_PARAMUNKNOWN\
-    CONNECT_GET_SUPPORT_FUNCTIONCONNECT_RET_SUPPORT_FUNCTIONPOWER_GET_CAPABILITYPOWER_RET_CAPABILITY\
-    POWER_GET_STATUSPOWER_RET_STATUSPOWER_SET_STATUSPOWER_NTFY_STATUSPOWER_GET_PARAMPOWER_RET_PARAM\
-    POWER_SET_PARAMPOWER_NTFY_PARAMPERI_GET_CAPABILITYPERI_RET_CAPABILITYPERI_GET_STATUSPERI_RET_STATUS\
-    PERI_SET_STATUSPERI_NTFY_STATUSPERI_GET_PARAMPERI_RET_PARAMPERI_SET_PARAMPERI_NTFY_PARAM\
-    PERI_SET_EXTENDED_PARAMPERI_NTFY_EXTENDED_PARAMVOICE_GUIDANCE_GET_CAPABILITYVOICE_GUIDANCE_RET_CAPABILITY\
-    VOICE_GUIDANCE_GET_STATUSVOICE_GUIDANCE_RET_STATUSVOICE_GUIDANCE_SET_STATUSVOICE_GUIDANCE_NTFY_STATUS\
-    VOICE_GUIDANCE_GET_PARAMVOICE_GUIDANCE_RET_PARAMVOICE_GUIDANCE_SET_PARAMSAFE_LISTENING_RET_STATUS\
-    SAFE_LISTENING_SET_STATUSSAFE_LISTENING_NTFY_STATUSSAFE_LISTENING_GET_PARAMSAFE_LISTENING_RET_PARAM\
-    SAFE_LISTENING_SET_PARAMSAFE_LISTENING_NTFY_PARAMSAFE_LISTENING_GET_EXTENDED_PARAM\
-    SAFE_LISTENING_RET_EXTENDED_PARAMLEA_GET_CAPABILITYLEA_RET_CAPABILITYLEA_GET_STATUSLEA_RET_STATUS\
-    LEA_NTFY_STATUSLEA_GET_PARAMLEA_RET_PARAMLEA_SET_PARAMLEA_NTFY_PARAMPARTY_GET_CAPABILITYPARTY_RET_CAPABILITY\
-    PARTY_GET_STATUSPARTY_RET_STATUSPARTY_SET_STATUSPARTY_NTFY_STATUSPARTY_GET_PARAMPARTY_RET_PARAM\
-    PARTY_SET_PARAMPARTY_NTFY_PARAMPARTY_SET_EXTENDED_PARAMSYSTEM_GET_CAPABILITYSYSTEM_RET_CAPABILITY\
-    SYSTEM_GET_STATUSSYSTEM_RET_STATUSSYSTEM_SET_STATUSSYSTEM_NTFY_STATUSSYSTEM_GET_PARAMSYSTEM_RET_PARAM\
-    SYSTEM_SET_PARAMSYSTEM_NTFY_PARAMSYSTEM_GET_EXTENDED_PARAMSYSTEM_RET_EXTENDED_PARAMSYSTEM_SET_EXTENDED_PARAM\
-    SYSTEM_NTFY_EXTENDED_PARAMUNKNOWN\
-    DATAACKDATA_MC_NO1DATA_ICDDATA_EVDATA_MDRDATA_COMMONDATA_MDR_NO2SHOTSHOT_MC_NO1SHOT_ICDSHOT_EVSHOT_MDR\
-    SHOT_COMMONSHOT_MDR_NO2UNKNOWNNO_COMMAND";
+// The numbers of UNKNOWN and of NO_COMMAND.
+const UNKNOWN: usize = 244;
 
-// Where each name starts, and where the last ends.
-static STARTS: [u16; 247] = [
-    0, 25, 50, 77, 104, 127, 150, 178, 206, 214, 235, 256, 273, 290, 308, 324, 341, 361, 381, 397,
-    413, 429, 446, 461, 476, 491, 507, 526, 545, 560, 575, 590, 606, 620, 634, 648, 663, 681, 698,
-    716, 734, 748, 762, 777, 790, 803, 816, 830, 852, 874, 896, 919, 939, 959, 975, 991, 1008,
-    1023, 1038, 1053, 1069, 1092, 1115, 1135, 1155, 1171, 1187, 1203, 1220, 1235, 1250, 1265, 1281,
-    1301, 1321, 1337, 1354, 1369, 1385, 1403, 1421, 1439, 1457, 1471, 1485, 1499, 1514, 1527, 1540,
-    1553, 1567, 1587, 1607, 1623, 1639, 1655, 1672, 1687, 1703, 1722, 1741, 1756, 1771, 1786, 1802,
-    1816, 1830, 1844, 1859, 1887, 1915, 1939, 1963, 1988, 2011, 2034, 2057, 2081, 2095, 2109, 2139,
-    2169, 2195, 2221, 2248, 2273, 2298, 2323, 2349, 2369, 2389, 2405, 2421, 2438, 2453, 2468, 2483,
-    2499, 2520, 2541, 2558, 2575, 2592, 2610, 2626, 2642, 2658, 2675, 2695, 2715, 2735, 2756, 2763,
-    2791, 2819, 2839, 2859, 2875, 2891, 2907, 2924, 2939, 2954, 2969, 2985, 3004, 3023, 3038, 3053,
-    3068, 3084, 3098, 3112, 3126, 3141, 3164, 3188, 3217, 3246, 3271, 3296, 3321, 3347, 3371, 3395,
-    3419, 3444, 3469, 3495, 3519, 3543, 3567, 3592, 3625, 3658, 3676, 3694, 3708, 3722, 3737, 3750,
-    3763, 3776, 3790, 3810, 3830, 3846, 3862, 3878, 3895, 3910, 3925, 3940, 3956, 3980, 4001, 4022,
-    4039, 4056, 4073, 4091, 4107, 4123, 4139, 4156, 4181, 4206, 4231, 4257, 4264, 4268, 4271, 4282,
-    4290, 4297, 4305, 4316, 4328, 4332, 4343, 4351, 4358, 4366, 4377, 4389, 4396, 4406,
-];
+const NO_COMMAND: usize = 245;
+
+// ---- the number of a name
 
 // The codes of table 1, then those of table 2.
 static CODES: [u8; 229] = *b"\
@@ -95,73 +37,12 @@ static CODES: [u8; 229] = *b"\
     \x5A\x5B\x60\x61\x62\x63\x65\x66\x67\x68\x69\x70\x71\x72\x73\x74\x75\x76\x77\x78\x79\x7C\xF0\xF1\
     \xF2\xF3\xF4\xF5\xF6\xF7\xF8\xF9\xFA\xFB\xFC\xFD\xFF";
 
-// Stays: each of these gives a table the name that definitions have. Read in place (tried in name_of), a static stands in the goals with all
-// its numbers: three bounds closed only with eight definitions opened, and those of the second start and of the answer did not close.
-fn all_letters() -> &'static [u8]
-    ensures { result.now ≡ all_letters }
-{
-    &LETTERS
-}
-
-fn all_starts() -> &'static [u16]
-    ensures { result.now ≡ all_starts }
-{
-    &STARTS
-}
-
+// Stays: this gives the table the name that definitions have; letters has more on that.
 fn all_codes() -> &'static [u8]
     ensures { result.now ≡ all_codes }
 {
     &CODES
 }
-
-// ---- the name with a number
-
-// A name, by its number in the run.
-#[derive(Clone, Copy)]
-pub struct Name {
-    pub number: usize,
-    pub ghost known: { number < 246 },
-}
-
-// The numbers of UNKNOWN and of NO_COMMAND.
-const UNKNOWN: usize = 244;
-
-const NO_COMMAND: usize = 245;
-
-// A name's letters.
-fn name_of(n: Name) -> &'static [u8]
-    ensures { NameIs n.number result.now }
-{
-    let starts = all_starts();
-    let start = starts[n.number] as usize;
-    let end = starts[n.number + 1] as usize;
-    &all_letters()[start..end]
-}
-
-// How long a name is.
-pub fn name_len(n: Name) -> usize
-    ensures { (result ≡ length (name_at n.number)) × (result ≤ 4406) }
-{
-    name_of(n).len()
-}
-
-// Writes a name at a place, and returns the place after it.
-pub fn put_name(out: &mut [u8], at: usize, n: Name) -> usize
-    requires { at + length (name_at n.number) ≤ length out.old }
-    ensures { Writes out.old at (name_at n.number) result out.new }
-{
-    words::copy_to(name_of(n), out, at)
-}
-
-// Whether a name is this one.
-fn is_name(n: Name, name: &[u8]) -> bool
-    ensures { result ≡ eq_k (name_at n.number) name.now }
-{
-    words::same(name_of(n), name)
-}
-
-// ---- the number of a name
 
 // The number of a byte's name, where a table's codes and names stand from a place on.
 // Stays: by match: in ok().map(..) the sum stands in a closure, of which nothing says that its place is below the count.
@@ -224,28 +105,6 @@ pub fn command_name(f: Frame) -> Name
     Name {
         number: command_number(f),
     }
-}
-
-// Whether the command of a frame has this name.
-// Stays: letters has name_len, put_name, is_name, is_command and is_command_name too, from fewer bytes; nothing calls it yet, and its note
-// (docs/notes/05-less-memory-for-names.md) lacks its figures. By it is_command_name takes 221 instructions for the first name where this takes
-// 68 (its row of PERFORMANCE is at 1.07), for the last 924 where this takes 2,146, and a name is written in 148 where this takes 111.
-pub fn is_command(f: Frame, name: &[u8]) -> bool
-    ensures { result ≡ eq_k (command_name f) name.now }
-{
-    is_name(command_name(f), name)
-}
-
-// Whether either table has this name.
-pub fn is_command_name(name: &[u8]) -> bool
-    ensures { result ≡ is_command_name name.now }
-{
-    for i in 0..229 {
-        if is_name(Name { number: i }, name) {
-            return true;
-        }
-    }
-    false
 }
 
 // The number of the name of a type.

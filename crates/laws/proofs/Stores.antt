@@ -6,7 +6,7 @@ use native.Mathlib.Nat.{add-zero, zero-add}
 use native.Mathlib.Omega.{arith}
 use borrow.Author.Tests.{le-leb, lt-leb}
 use lib.ListN.{length, set, take, drop, length-append}
-use lib.Seq.{sets, sets-eq, length-sets, drop-drop}
+use lib.Seq.{sets, sets-eq, set_comm, length-sets, drop-drop}
 use Rattle.std.proofs.Common.{append_assoc}
 use borrow.Rule.Slice.PartMut.{put_mid}
 use Rattle.laws.specs.Stores.{Writes, Emitting, filled}
@@ -15,10 +15,33 @@ pub sets_append : (l : List ℕ) (i : ℕ) (a b : List ℕ) → sets l i (a ++ b
 sets_append l i [] b = rw add-zero
 sets_append l i (x ∷ a) b = sets_append (set l i x) (suc i) a b ∙ ap (λ (n : ℕ). sets (sets (set l i x) (suc i) a) n b) (omega arith)
 
+-- ---- of two parts, the back part may be stored first
+
+-- one store below a run of stores
+set_sets : (vs l : List ℕ) (i j x : ℕ) → i < j → set (sets l j vs) i x ≡ sets (set l i x) j vs
+set_sets [] l i j x h = refl
+set_sets (v ∷ vs) l i j x h = set_sets vs (set l j v) i (suc j) x (omega arith) ∙ ap (λ (m : List ℕ). sets m (suc j) vs) (set_comm l j i v x (λ e. omega arith))
+
+pub sets_swap : (a b l : List ℕ) (i j : ℕ) → i + length a ≤ j → sets (sets l j b) i a ≡ sets (sets l i a) j b
+sets_swap [] b l i j h = refl
+sets_swap (x ∷ a) b l i j h = ap (λ (m : List ℕ). sets m (suc i) a) (set_sets b l i j x (omega arith)) ∙ sets_swap a b (set l i x) (suc i) j (omega arith)
+
+pub sets_back : (l : List ℕ) (i : ℕ) (a b : List ℕ) → sets l i (a ++ b) ≡ sets (sets l (i + length a) b) i a
+sets_back l i a b = sets_append l i a b ∙ sym (sets_swap a b l i (i + length a) (omega arith))
+
+-- ---- what is written
+
 pub writes_then : (d : List ℕ) (at : ℕ) (a : List ℕ) (r : ℕ) (e : List ℕ) (b : List ℕ) (s : ℕ) (g : List ℕ) → Writes d at a r e → Writes e r b s g → Writes d at (a ++ b) s g
 writes_then d at a r e b s g p q = record {
   next = omega (arith, p.next, q.next, length-append a b);
   writes = q.writes ∙ rw (p.writes, p.next) (sym (sets_append d at a b));
+}
+
+-- a part, and then what stands before it
+pub writes_before : (d : List ℕ) (at k : ℕ) (b : List ℕ) (r : ℕ) (e a : List ℕ) (s : ℕ) (g : List ℕ) → k ≡ length a → Writes d (at + k) b r e → Writes e at a s g → Writes d at (a ++ b) r g
+writes_before d at k b r e a s g n p q = record {
+  next = omega (arith, n, p.next, length-append a b);
+  writes = q.writes ∙ rw (p.writes, n) (sym (sets_back d at a b));
 }
 
 pub writes_long : (d : List ℕ) (at : ℕ) (w : List ℕ) (r : ℕ) (e : List ℕ) → Writes d at w r e → length e ≡ length d

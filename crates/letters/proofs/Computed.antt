@@ -10,7 +10,7 @@ use Rattle.laws.specs.Keys.{eq_k}
 use Rattle.laws.specs.Lists.{flat}
 use Rattle.commands.specs.Commands.{t1, t2}
 use Rattle.commands.specs.Labels.{type_name}
-use Rattle.commands.specs.Run.{all_codes, commands, others, all_names}
+use Rattle.commands.specs.Numbers.{all_codes, commands, others, all_names}
 use Rattle.letters.specs.Run.{endings, stems, parts, inner, part_at, is_among, begins, ending_in, all_letters, all_starts, all_lens, joined, all_pairs}
 
 -- two lists of numbers, place by place

@@ -1,29 +1,32 @@
 -- A name as its two parts, joined.
-use Rattle.std.specs.Prelude.{Option, Some, None}
-use Rattle.std.specs.Option.{MatchOption}
+use Rattle.std.specs.Prelude.{Some, None}
+use Rattle.std.specs.Bool.{then_some}
 use denote.Bor.{Bor}
-use lib.Pointwise.{pointwise}
 use Rattle.letters.specs.Search.{RestIs}
 use mathlib.Core.Path.{◌≡◌, refl, sym, ap, ◌∙◌}
 use mathlib.Core.Bool.{Bool, true, false}
-use mathlib.Core.List.{List, [], ◌∷◌, ◌++◌, map}
+use mathlib.Core.List.{List, [], ◌∷◌, ◌++◌, map, append-nil}
 use Prim.Native.Nat.{ℕ, zero, suc, ◌+◌, ◌/◌, ◌%◌, ◌<◌, ◌≤◌}
 use native.Mathlib.Omega.{arith}
-use lib.Dec.{leb, ltb, eqb}
+use lib.Dec.{leb, ltb}
 use lib.ListN.{length, get_or, take, drop, length-append, length-map, take-append-drop}
 use lib.Seq.{take_all, take-append_seam}
-use borrow.Author.Tests.{eq-eqb, ne_eqb, leb-true, ltb-true}
-use Rattle.laws.proofs.Choice.{split_b, split≡, split≤, no_way}
+use borrow.Author.Tests.{eq-eqb, leb-true, ltb-true}
+use Rattle.laws.proofs.Choice.{split_b, split≤, no_way}
 use Rattle.laws.proofs.Keys.{eq_k_true, eq_eq_k, ne_eq_k}
 use Rattle.laws.proofs.Stores.{writes_then, writes_long}
 use Rattle.laws.specs.Keys.{eq_k}
 use Rattle.laws.specs.Stores.{Writes}
-use Rattle.commands.specs.Run.{all_names, name_at}
-use Rattle.letters.specs.Run.{NameLong, part_at, begins, joined, all_pairs, PartIs, HalvesAre}
+use Rattle.commands.specs.Numbers.{all_names, name_at}
+use Rattle.letters.specs.Run.{NameLong, endings, parts, part_at, begins, joined, all_pairs, PartIs, HalvesAre}
 use Rattle.letters.specs.declared.Halves.{Halves}
 use Rattle.letters.proofs.Computed.{names_joined, passes, is_below, all_below, names_count}
 
 -- ---- the parts of a name by number
+
+no_letters : get_or parts 4 [] ≡ []
+unfolding parts endings
+no_letters = refl
 
 pub pairs_count : length all_pairs ≡ 246
 unfolding all_pairs
@@ -91,6 +94,11 @@ module _ (i : ℕ) (r : Halves) (is : HalvesAre i r) where
   pub ending_room : (d : List ℕ) (at then : ℕ) (e : List ℕ) → at + length (name_at i) ≤ length d → Writes d at (part_at r.stem) then e → then + length (part_at r.ending) ≤ length e
   ending_room d at then e h w = omega (arith, long, w.next, writes_long d at (part_at r.stem) then e w)
 
+  -- where the ending has no letters
+  pub stem_written : (d : List ℕ) (at n : ℕ) (e : List ℕ) → r.ending ≡ 4 → Writes d at (part_at r.stem) n e → Writes d at (name_at i) n e
+  unfolding part_at
+  stem_written d at n e h v = rw (← is.joins, h, no_letters, append-nil) v
+
   pub name_written : (d : List ℕ) (at then : ℕ) (e : List ℕ) (n : ℕ) (g : List ℕ) → Writes d at (part_at r.stem) then e → Writes e then (part_at r.ending) n g → Writes d at (name_at i) n g
   name_written d at then e n g v w = rw (← is.joins) (writes_then d at (part_at r.stem) then e (part_at r.ending) n g v w)
 
@@ -116,26 +124,19 @@ module _ (p n : List ℕ) where
   pub begins_joins : begins p n ≡ true → p ++ drop (length p) n ≡ n
   begins_joins e = ap (λ (l : List ℕ). l ++ drop (length p) n) (front e) ∙ take-append-drop (length p) n
 
+  -- a shorter one does not begin with it
+  pub begins_short : length n < length p → begins p n ≡ false
+  begins_short h = split_b (begins p n) (λ e. absurd (omega (arith, begins_fits e))) (λ e. e)
+
 -- as the code has it
-strips : (p n : List ℕ) → pointwise eqb (take (length p) n) p ≡ begins p n
-unfolding begins
-strips [] n = refl
-strips (x ∷ p) [] = refl
-strips (x ∷ p) (y ∷ n) =
-    split≡ x y
-    (λ e. rw (eq-eqb x y e, eq-eqb y x (sym e), strips p n))
-    (λ d. rw (ne_eqb x y d, ne_eqb y x (λ e. d (sym e))))
-
 module _ (p : ℕ) (l : List ℕ) (q : PartIs p l) (n : List ℕ) where
-  rest_none : pointwise eqb (take (length l) n) l ≡ false → RestIs p n None
-  rest_none e = record { is = rw (← q.is) (sym (strips l n) ∙ e) }
+  pub rest_short : length n < length l → RestIs p n None
+  rest_short h = record { is = rw (← q.is) (begins_short l n h) }
 
-  rest_some : (r : Bor (List ℕ)) → pointwise eqb (take (length l) n) l ≡ true → r.now ≡ drop (length l) n → RestIs p n (Some r)
-  rest_some r e d = record { is = (rw (← q.is) (sym (strips l n) ∙ e), rw (← q.is) d) }
-
-  pub rest_by : (r : Option (Bor (List ℕ))) → MatchOption r (pointwise eqb (take (length l) n) l ≡ false) (λ x. (pointwise eqb (take (length l) n) l ≡ true) × (x.now ≡ drop (length l) n) × (length x.now + length l ≡ length n)) → RestIs p n r
-  rest_by None m = rest_none m
-  rest_by (Some r) m = rest_some r m.0 m.1
+  pub rest_by : (b : Bool) (f r : Bor (List ℕ)) → b ≡ eq_k l f.now → f.now ≡ take (length l) n → r.now ≡ drop (length l) n → RestIs p n (then_some b r)
+  rest_by true f r e t d =
+      let g : true ≡ eq_k l (take (length l) n) = rw t at e in record { is = (rw (← q.is) (begins_is l n ∙ sym g), rw (← q.is) d) }
+  rest_by false f r e t d = let g : false ≡ eq_k l (take (length l) n) = rw t at e in record { is = rw (← q.is) (begins_is l n ∙ sym g) }
 
 pub joined_begins : (p q : List ℕ) → begins p (p ++ q) ≡ true
 joined_begins p q = begins_is p (p ++ q) ∙ eq_eq_k p (take (length p) (p ++ q)) (sym (take-append_seam p q))
@@ -144,6 +145,10 @@ eq_k_append : (p a b : List ℕ) → eq_k (p ++ a) (p ++ b) ≡ eq_k a b
 unfolding eq_k
 eq_k_append [] a b = refl
 eq_k_append (x ∷ p) a b = rw (eq-eqb x x refl) (eq_k_append p a b)
+
+-- a name of another length is another
+pub name_unlike : (i k : ℕ) (n : List ℕ) → NameLong i k → (length n ≡ k → ⊥) → false ≡ eq_k (name_at i) n
+name_unlike i k n l d = sym (ne_eq_k (name_at i) n (λ e. d (rw l.is (ap length (sym e)))))
 
 module _ (i : ℕ) (r : Halves) (is : HalvesAre i r) (n : List ℕ) where
   pub name_same : (m : Bor (List ℕ)) → RestIs r.stem n (Some m) → (l : List ℕ) → PartIs r.ending l → (b : Bool) → b ≡ eq_k l m.now → b ≡ eq_k (name_at i) n

@@ -15,7 +15,7 @@ use Rattle.laws.proofs.Choice.{split_b, split≡, no_way}
 use Rattle.laws.proofs.Keys.{eq_k_true, eq_eq_k, ne_eq_k}
 use Rattle.laws.specs.Keys.{eq_k}
 use Rattle.commands.specs.Commands.{Entry, t1, t2, has_name, is_command_name}
-use Rattle.commands.specs.Run.{names_of, commands, name_at}
+use Rattle.commands.specs.Numbers.{names_of, commands, name_at}
 use Rattle.letters.specs.Run.{endings, stems, parts, part_at, is_among, begins, first_of, ending_in, all_pairs}
 use Rattle.letters.specs.Search.{RestIs, EndingIs, is_in, is_pair, named_from}
 use Rattle.letters.proofs.Computed.{distinct, parts_distinct, commands_below, endings_count}

@@ -2,7 +2,7 @@
 use Rattle.std.specs.Prelude.{◌≡◌, Bool, true, false, cond, List, [], ◌∷◌, ◌++◌, map, ℕ, suc, ◌+◌, ◌*◌, ◌/◌, ◌%◌, ◌<◌, eqb, length, get_or, drop}
 use Rattle.laws.specs.Keys.{eq_k}
 use Rattle.commands.specs.Text.{ascii}
-use Rattle.commands.specs.Run.{all_names, name_at}
+use Rattle.commands.specs.Numbers.{all_names, name_at}
 use Rattle.letters.specs.declared.Halves.{Halves}
 
 unfoldable pub endings : List (List ℕ)

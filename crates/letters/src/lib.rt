@@ -5,14 +5,12 @@ ghost use Rattle.std.specs.Prelude.{◌≡◌, ◌+◌, ◌*◌, ◌≤◌, ◌<
 ghost use Rattle.laws.specs.Keys.{eq_k};
 ghost use Rattle.laws.specs.Stores.{Writes};
 ghost use Rattle.commands.specs.Commands.{is_command_name};
-ghost use Rattle.commands.specs.Labels.{command_name};
-ghost use Rattle.commands.specs.Run.{name_at};
-ghost use Rattle.letters.specs.Run.{NameLong, all_letters, all_starts, all_lens, all_pairs, PartIs, HalvesAre};
+ghost use Rattle.commands.specs.Numbers.{name_at};
+ghost use Rattle.letters.specs.Run.{NameLong, part_at, all_letters, all_starts, all_lens, all_pairs, PartIs, HalvesAre};
 ghost use Rattle.letters.specs.Search.{RestIs, EndingIs, is_pair, named_from};
 
-use commands::{Name, command_name};
-use mdr::Frame;
-use words::{copy_to, same};
+use commands::Name;
+use words::same;
 
 // ---- a name is a stem and an ending; stems and endings are parts of one run of letters, none of which stands twice
 
@@ -34,9 +32,9 @@ static STARTS: [u16; 63] = [
 ];
 
 // How long each is.
-// Stays: names in little fixed memory are what this crate is for: starts and lengths apart take 189 bytes, an array of structs 252. One number
-// for each part would take 126; docs/notes/05-less-memory-for-names.md keeps two lists, as the form is named there. Parts share letters (PLAY_
-// lies in SAR_AUTO_PLAY_), so that the next start does not end one.
+// Stays: names in little fixed memory are what is asked for here: starts and lengths apart take 189 bytes, an array of structs 252. One number
+// for each part would take 126; two lists are the form that is asked for. Parts share letters (PLAY_ lies in SAR_AUTO_PLAY_), so that the next
+// start does not end one.
 static LENS: [u8; 63] = *b"\
     \x0D\x0F\x0B\x10\x00\x0E\x0E\x0A\x0A\x0A\x0B\x09\x09\x09\x0A\x0A\x0D\x0D\x0D\x0E\x12\x12\x12\x13\
     \x0C\x0C\x11\x11\x0D\x0C\x07\x04\x03\x07\x08\x04\x0C\x0C\x08\x07\x06\x05\x04\x06\x06\x06\x04\x06\
@@ -68,8 +66,8 @@ static PAIRS: [u16; 246] = [
     0x3D20, 0x3D23, 0x3D21, 0x3D22, 0x3604, 0x3E04,
 ];
 
-// Stays: each of these gives a table the name that definitions have. Read in place (tried in commands::name_of), a static stands in the goals
-// with all its numbers: three bounds closed only with eight definitions opened, and those of the second start and of the answer did not close.
+// Stays: each of these gives a table the name that definitions have. Read in place (tried), a static stands in the goals with all its numbers,
+// and bounds that go by it close only with its definitions opened, some not at all.
 fn all_letters() -> &'static [u8]
     ensures { result.now ≡ all_letters }
 {
@@ -131,45 +129,60 @@ pub fn name_len(n: Name) -> usize
     part(h.stem).len() + part(h.ending).len()
 }
 
+// Writes a part at a place, and returns the place after it.
+// Stays: words::copy_to tells copies of up to three bytes apart, which few parts are; with it a frame's name takes 52 to 91 instructions
+// more.
+fn put_part(out: &mut [u8], at: usize, p: usize) -> usize
+    requires { (p < 63) × (at + length (part_at p) ≤ length out.old) }
+    ensures { Writes out.old at (part_at p) result out.new }
+{
+    let part = part(p);
+    let end = at + part.len();
+    out[at..end].copy_from_slice(part);
+    end
+}
+
+// The number of the ending that has no letters.
+const NONE: usize = 4;
+
 // Writes a name at a place, its stem and then its ending, and returns the place after it.
 pub fn put_name(out: &mut [u8], at: usize, n: Name) -> usize
     requires { at + length (name_at n.number) ≤ length out.old }
     ensures { Writes out.old at (name_at n.number) result out.new }
 {
     let h = halves_of(n);
-    let then = copy_to(part(h.stem), out, at);
-    copy_to(part(h.ending), out, then)
+    let then = put_part(out, at, h.stem);
+    if h.ending == NONE {
+        return then;
+    }
+    put_part(out, then, h.ending)
 }
 
 // What follows a part, where these letters begin with it.
+// Stays: `strip_prefix` compares byte by byte, by a call. With it a name that no table has takes 1.01 of the Rust's time.
 fn rest_after(p: usize, name: &[u8]) -> Option<&[u8]>
     requires { p < 63 }
     ensures { RestIs p name.now result }
 {
-    name.strip_prefix(part(p))
+    let part = part(p);
+    let (front, rest) = name.split_at_checked(part.len())?;
+    same(part, front).then_some(rest)
 }
 
-// Whether a name is this one.
+// Whether a name is this one. Few names are as long as another.
 // Stays: `is_some_and` (tried) is not proved: what its closure says of the rest would need a clause. `== Some(..)` compares by std's ==, which
 // is slower than `same` (words).
-fn is_name(n: Name, name: &[u8]) -> bool
+pub fn is_name(n: Name, name: &[u8]) -> bool
     ensures { result ≡ eq_k (name_at n.number) name.now }
 {
+    if name.len() != name_len(n) {
+        return false;
+    }
     let h = halves_of(n);
     match rest_after(h.stem, name) {
         Some(rest) => same(part(h.ending), rest),
         None => false,
     }
-}
-
-// Whether the command of a frame has this name.
-// Stays: the twin of commands' is_command. This crate is the table of names in less memory that is asked for beside commands, and nothing
-// calls it yet: the figures of its note (docs/notes/05-less-memory-for-names.md) are not taken, and the first name takes is_command_name 68
-// instructions in commands and 221 here, the last 2,146 and 924.
-pub fn is_command(f: Frame, name: &[u8]) -> bool
-    ensures { result ≡ eq_k (command_name f) name.now }
-{
-    is_name(command_name(f), name)
 }
 
 // ---- whether a table has a name

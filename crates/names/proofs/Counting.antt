@@ -7,10 +7,10 @@ use native.Mathlib.Omega.{arith}
 use native.Mathlib.Numerals.{add-one}
 use Rattle.std.specs.Prelude.{max}
 use lib.ListN.{length, length-append, set, take, length-set, replicate, length-replicate}
-use lib.Seq.{sets, set_comm}
+use lib.Seq.{sets}
 use Rattle.laws.proofs.Choice.{split≤}
 use Rattle.laws.specs.Stores.{Writes}
-use Rattle.laws.proofs.Stores.{writes_then, sets_append}
+use Rattle.laws.proofs.Stores.{writes_then, sets_append, sets_swap}
 use Rattle.names.specs.Digits.{hex_digit, hex2, decimal, decimal6, DigitCount}
 use Rattle.names.proofs.Digits.{decimal_small, decimal_more, length_small, length_more, decimal_some}
 
@@ -68,13 +68,8 @@ pub record Backward (n : ℕ) (out₀ : List ℕ) (at : ℕ) (out : List ℕ) (t
   pub room : to ≤ length out
   pub done : sets out at (last_digits (to - at) rest) ≡ sets out₀ at (decimal n)
 
--- a store behind a run may come before it
-sets_late : (xs d : List ℕ) (at k x : ℕ) → at + length xs ≤ k → sets (set d k x) at xs ≡ set (sets d at xs) k x
-sets_late [] d at k x h = refl
-sets_late (y ∷ xs) d at k x h = rw (set_comm d k at x y (λ e. omega arith)) (sets_late xs (set d at y) (suc at) k x (omega arith))
-
 sets_last : (xs d : List ℕ) (at x : ℕ) → sets (set d (at + length xs) x) at xs ≡ sets d at (xs ++ (x ∷ []))
-sets_last xs d at x = sets_late xs d at (at + length xs) x (omega arith) ∙ sym (sets_append d at xs (x ∷ []))
+sets_last xs d at x = sets_swap xs (x ∷ []) d at (at + length xs) (omega arith) ∙ sym (sets_append d at xs (x ∷ []))
 
 pub backward_start : (n : ℕ) (out : List ℕ) (at k : ℕ) → at + length (decimal n) ≤ length out → DigitCount n k → Backward n out at out (at + k) n
 backward_start n out at k h c = record {

@@ -1,22 +1,23 @@
 -- A name written part by part.
-use mathlib.Core.Path.{◌≡◌}
+use mathlib.Core.Path.{◌≡◌, ap}
 use mathlib.Core.List.{List}
 use Rattle.std.proofs.Common.{max}
-use Prim.Native.Nat.{ℕ, ◌+◌, ◌≤◌}
+use Prim.Native.Nat.{ℕ, ◌+◌}
 use native.Mathlib.Omega.{arith}
 use lib.ListN.{length}
 use Rattle.laws.specs.Stores.{Writes}
 use Rattle.laws.proofs.Stores.{writes_then}
 use Rattle.mdr.specs.Types.{type_of}
 use Rattle.commands.specs.Text.{ascii}
+use Rattle.commands.specs.Labels.{type_name, command_name}
 use Rattle.names.specs.Digits.{decimal, decimal6, hex2, DigitCount}
 use Rattle.names.proofs.Digits.{length_six}
-use Rattle.commands.specs.Labels.{type_name, command_name}
 use Rattle.names.specs.Names.{way_name, frame_name, name_len}
 use Rattle.names.specs.Parts.{head_of, part_of, type_part, seq_part, command_part, NameLen}
 use Rattle.names.proofs.Parts.{name_parts}
-use Rattle.commands.specs.Run.{name_at, Spot}
+use Rattle.commands.specs.Numbers.{name_at, Spot}
 use Rattle.mdr.specs.declared.DataType.{DataType}
+use Rattle.letters.specs.Run.{NameLong}
 use Rattle.mdr.specs.declared.Frame.{Frame}
 
 module _ (d₀ : List ℕ) (at : ℕ) where
@@ -52,17 +53,14 @@ module _ (d₀ : List ℕ) (at : ℕ) where
       (writes_then d₀ at _ b d₂ (seq_part f.seq) c d₃
       (writes_then d₀ at (head_of ms counter rx) a d₁ (type_part f.kind) b d₂ p q) s) t) u)
 
-pub type_long : (kind i : ℕ) (t : DataType) → t ≡ type_of kind → Spot i (type_name t) → length (name_at i) ≡ length (type_name (type_of kind))
-type_long kind i t p s = rw (← p, ← s.is)
-
-pub command_long : (f : Frame) (i : ℕ) → Spot i (command_name f) → length (name_at i) ≡ length (command_name f)
-command_long f i s = rw (← s.is)
-
 -- ---- its length
 
-pub name_length : (ms counter : ℕ) (f : Frame) (t : DataType) (i j k m z x y : ℕ) → t ≡ type_of f.kind → Spot i (type_name t) → Spot j (command_name f) → DigitCount counter k → DigitCount ms m → z ≡ max k 6 → (x ≡ length (name_at i)) × (x ≤ 4406) → (y ≡ length (name_at j)) × (y ≤ 4406) → NameLen ms counter f (43 + m + z + x + y)
+type_long : (kind i : ℕ) (t : DataType) → t ≡ type_of kind → Spot i (type_name t) → length (name_at i) ≡ length (type_name (type_of kind))
+type_long kind i t p s = rw (← p, ← s.is)
+
+pub name_length : (ms counter : ℕ) (f : Frame) (t : DataType) (i j k m z x y : ℕ) → t ≡ type_of f.kind → Spot i (type_name t) → Spot j (command_name f) → DigitCount counter k → DigitCount ms m → z ≡ max k 6 → NameLong i x → NameLong j y → NameLen ms counter f (43 + m + z + x + y)
 unfolding name_len
 name_length ms counter f t i j k m z x y p s u c d q v w = record {
-  is = omega (arith, type_long f.kind i t p s, command_long f j u, length_six counter);
-  small = omega arith;
+  is = omega (arith, type_long f.kind i t p s, ap length u.is, length_six counter, v.is, w.is);
+  small = omega (arith, v.small, w.small);
 }

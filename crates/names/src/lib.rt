@@ -5,15 +5,17 @@ ghost use Rattle.std.specs.Prelude.{◌≡◌, ◌+◌, ◌-◌, ◌≤◌, ◌<
 ghost use Rattle.laws.specs.Answers.{Meets};
 ghost use Rattle.laws.specs.Stores.{Writes};
 ghost use Rattle.items.specs.Items.{rx_of};
-ghost use Rattle.commands.specs.Run.{name_at};
+ghost use Rattle.commands.specs.Labels.{command_name};
+ghost use Rattle.commands.specs.Numbers.{name_at, Spot};
 ghost use Rattle.names.specs.Names.{way_name, name_len, given, look_at, fixture_name};
 ghost use Rattle.names.specs.Told.{told_named};
 ghost use Rattle.names.specs.Stamps.{name_with};
 ghost use Rattle.names.specs.Parts.{head_of, head_len, part_of, part_len, type_part, type_len, seq_part, command_part, command_len, NameLen};
 ghost use Rattle.names.specs.Digits.{hex_digit, hex2, decimal, decimal6, DigitCount};
 
-use commands::{Name, command_name, data_type_name, name_len, put_name};
+use commands::{Name, command_name, data_type_name};
 use items::Direction;
+use letters::{name_len, put_name};
 use mdr::{DataType, Frame, UnpackError};
 
 // Stays: output and place side by side, here and below; a struct of them would hold the output as &mut, and speak of its old and new bytes too.
@@ -86,6 +88,14 @@ fn put_counter(out: &mut [u8], at: usize, n: u32) -> usize
 
 // ---- the name of a frame
 
+// A frame with the name of its command, which is looked up once for all that is asked of the frame's name.
+#[derive(Clone, Copy)]
+pub struct Named {
+    pub frame: Frame,
+    pub command: Name,
+    pub ghost known: { Spot command.number (command_name frame) },
+}
+
 // What a name says of a frame beside its bytes: when it crossed the link, its number among the frames (the counter), and which way it went.
 #[derive(Clone, Copy)]
 pub struct Stamp {
@@ -143,40 +153,38 @@ fn put_seq(out: &mut [u8], at: usize, seq: u8) -> usize
     put_hex(out, p, seq)
 }
 
-fn put_command(out: &mut [u8], at: usize, f: Frame) -> usize
-    requires { at + command_len f ≤ length out.old }
-    ensures { Writes out.old at (command_part f) result out.new }
+fn put_command(out: &mut [u8], at: usize, f: Named) -> usize
+    requires { at + command_len f.frame ≤ length out.old }
+    ensures { Writes out.old at (command_part f.frame) result out.new }
 {
-    let n = command_name(f);
-    put_part(out, at, b".cmd-", n, f.first)
+    put_part(out, at, b".cmd-", f.command, f.frame.first)
 }
 
 // Writes a frame's name at a place, and returns the place after it.
-pub fn put_frame_name(out: &mut [u8], at: usize, stamp: Stamp, f: Frame) -> usize
-    requires { at + name_len stamp.ms stamp.counter f ≤ length out.old }
-    ensures { Writes out.old at (name_with stamp f) result out.new }
+pub fn put_frame_name(out: &mut [u8], at: usize, stamp: Stamp, f: Named) -> usize
+    requires { at + name_len stamp.ms stamp.counter f.frame ≤ length out.old }
+    ensures { Writes out.old at (name_with stamp f.frame) result out.new }
 {
     let a = put_head(out, at, stamp);
-    let b = put_type(out, a, f.kind);
-    let c = put_seq(out, b, f.seq);
+    let b = put_type(out, a, f.frame.kind);
+    let c = put_seq(out, b, f.frame.seq);
     let d = put_command(out, c, f);
     words::copy_to(b".bin", out, d)
 }
 
 // How long a frame's name is.
-pub fn frame_name_len(stamp: Stamp, f: Frame) -> usize
-    ensures { NameLen stamp.ms stamp.counter f result }
+pub fn frame_name_len(stamp: Stamp, f: Named) -> usize
+    ensures { NameLen stamp.ms stamp.counter f.frame result }
 {
-    let kind = data_type_name(DataType::from(f.kind));
-    let command = command_name(f);
+    let kind = data_type_name(DataType::from(f.frame.kind));
     let k = decimal_len(stamp.counter as u64);
-    43 + decimal_len(stamp.ms) + k.max(6) + name_len(kind) + name_len(command)
+    43 + decimal_len(stamp.ms) + k.max(6) + name_len(kind) + name_len(f.command)
 }
 
 // ---- naming
 
-fn name_frame(stamp: Stamp, f: Frame, out: &mut [u8]) -> Result<usize, UnpackError>
-    ensures { Meets (given (name_with stamp f)) out.old (told_named result) out.new }
+fn name_frame(stamp: Stamp, f: Named, out: &mut [u8]) -> Result<usize, UnpackError>
+    ensures { Meets (given (name_with stamp f.frame)) out.old (told_named result) out.new }
 {
     let needed = frame_name_len(stamp, f);
     if out.len() < needed {
@@ -203,11 +211,12 @@ pub fn fixture_name(
 ) -> Result<usize, UnpackError>
     ensures { Meets (fixture_name ms counter (rx_of direction) wire.now) out.old (told_named result) out.new }
 {
-    let f = unpacking::inspect(wire)?;
+    let frame = unpacking::inspect(wire)?;
     let stamp = Stamp {
         ms,
         counter,
         direction,
     };
-    name_frame(stamp, f, out)
+    let command = command_name(frame);
+    name_frame(stamp, Named { frame, command }, out)
 }

@@ -12,7 +12,7 @@ use Rattle.split.specs.Last.{lastn}
 use Rattle.split.specs.Rows.{key_at, len_at, start_at, in_work, bytes_at, stream_of, stream_to}
 use Rattle.split.specs.Walks.{Lying, Earlier, one_more, PutPre, GatherPre}
 use Rattle.split.specs.declared.Plan.{Plan}
-use Rattle.split.proofs.Backs.{sets_back}
+use Rattle.laws.proofs.Stores.{sets_back}
 use Rattle.split.proofs.Lasts.{length_lastn, lastn_zero, lastn_append}
 use Rattle.split.proofs.Tables.{stream_mine, stream_back, length_bytes}
 

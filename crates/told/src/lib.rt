@@ -51,7 +51,7 @@ pub fn name_told(
 pub fn command_told(name: &[u8]) -> u32
     ensures { result ≡ bit (is_command_name name.now) }
 {
-    u32::from(commands::is_command_name(name))
+    u32::from(letters::is_command_name(name))
 }
 
 pub fn plan_told(spans: &[u8], excluded: &[u8], out: &mut [u8], values: &mut [u64]) -> u32

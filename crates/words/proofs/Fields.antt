@@ -55,6 +55,9 @@ module _ (a b : List ℕ) where
   pub other_byte : (i : ℕ) → (get_or a i 0 ≡ get_or b i 0 → ⊥) → false ≡ eq_k a b
   other_byte i n = split_b (eq_k a b) (λ e. absurd (n (ap (λ (l : List ℕ). get_or l i 0) (eq_k_true a b e)))) (λ e. sym e)
 
+  pub other_four : (i x y : ℕ) → x ≡ le32 a i → y ≡ le32 b i → (x ≡ y → ⊥) → false ≡ eq_k a b
+  other_four i x y p q n = split_b (eq_k a b) (λ e. absurd (n (p ∙ ap (λ (l : List ℕ). le32 l i) (eq_k_true a b e) ∙ sym q))) (λ e. sym e)
+
   pub other_eight : (i x y : ℕ) → x ≡ le64 a i → y ≡ le64 b i → (x ≡ y → ⊥) → false ≡ eq_k a b
   other_eight i x y p q n = split_b (eq_k a b) (λ e. absurd (n (p ∙ ap (λ (l : List ℕ). le64 l i) (eq_k_true a b e) ∙ sym q))) (λ e. sym e)
 
@@ -85,6 +88,19 @@ module _ (a b : List ℕ) (bytes : (k : ℕ) → get_or a k 0 < 256) (bytes' : (
       let s2 : Alike a b (i + 2) = rw n2 at (alike_one a b (i + 1) s1 (omega arith)) in
       let s3 : Alike a b (i + 3) = rw n3 at (alike_one a b (i + 2) s2 (omega arith)) in
       rw n4 at (alike_one a b (i + 3) s3 (omega arith))
+
+  -- four, and the last four
+  module _ (l : length a ≡ length b) (h : 4 ≤ length a) (g : length a ≤ 8) (x y : ℕ) (p : x ≡ le32 a 0) (q : y ≡ le32 b 0) where
+    pub other_first : (x ≡ y → ⊥) → eqb x y ≡ eq_k a b
+    other_first n = rw (ne_eqb x y n) (other_four a b 0 x y p q n)
+
+    pub last_four : x ≡ y → (j z w : ℕ) → j + 4 ≡ length a → z ≡ le32 a j → w ≡ le32 b j → eqb z w ≡ eq_k a b
+    last_four e j z w r u v =
+        let s : Alike a b 4 = four 0 (alike_start a b) (sym p ∙ e ∙ q) in
+        let t : Alike a b j = record { each = λ k m. s.each k (omega arith) } in
+        split≡ z w
+        (λ n. rw (eq-eqb z w n) (alike_end a b (j + 4) (four j t (sym u ∙ n ∙ v)) l (omega arith)))
+        (λ n. rw (ne_eqb z w n) (other_four a b j z w u v n))
 
   small : (l : List ℕ) (i : ℕ) → ((k : ℕ) → get_or l k 0 < 256) → le32 l i < 4294967296
   unfolding le32

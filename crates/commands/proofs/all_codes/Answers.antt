@@ -1,4 +1,4 @@
-use Rattle.commands.specs.Run.{all_codes}
+use Rattle.commands.specs.Numbers.{all_codes}
 use Rattle.commands.specs.Commands.{t1, t2}
 use mathlib.Core.Path.{refl}
 use Rattle.commands.proofs.all_codes.Goals as goal

@@ -1,5 +1,5 @@
 use Rattle.letters.specs.Run.{all_pairs, parts, part_at, ending_in, endings, stems, begins}
-use Rattle.commands.specs.Run.{all_names, commands, others}
+use Rattle.commands.specs.Numbers.{all_names, commands, others}
 use Rattle.commands.specs.Labels.{type_name}
 use Rattle.commands.specs.Commands.{t1, t2}
 use Rattle.laws.specs.Keys.{eq_k}

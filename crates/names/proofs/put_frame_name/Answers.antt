@@ -15,15 +15,15 @@ put_type-b-requires c = omega (arith, length_head c.args.stamp.ms c.args.stamp.c
 
 pub put_seq-c-requires : goal.put_seq-c-requires
 unfolding name_len
-put_seq-c-requires c = omega (arith, length_head c.args.stamp.ms c.args.stamp.counter (rx_of c.args.stamp.direction), length_type c.args.f.kind)
+put_seq-c-requires c = omega (arith, length_head c.args.stamp.ms c.args.stamp.counter (rx_of c.args.stamp.direction), length_type c.args.f.frame.kind)
 
 pub put_command-d-requires : goal.put_command-d-requires
 unfolding name_len
-put_command-d-requires c = omega (arith, length_head c.args.stamp.ms c.args.stamp.counter (rx_of c.args.stamp.direction), length_type c.args.f.kind, length_seq c.args.f.seq)
+put_command-d-requires c = omega (arith, length_head c.args.stamp.ms c.args.stamp.counter (rx_of c.args.stamp.direction), length_type c.args.f.frame.kind, length_seq c.args.f.frame.seq)
 
 pub copy_to-requires : goal.copy_to-requires
 unfolding name_len
-copy_to-requires c = omega (arith, length_head c.args.stamp.ms c.args.stamp.counter (rx_of c.args.stamp.direction), length_type c.args.f.kind, length_seq c.args.f.seq, length_command c.args.f)
+copy_to-requires c = omega (arith, length_head c.args.stamp.ms c.args.stamp.counter (rx_of c.args.stamp.direction), length_type c.args.f.frame.kind, length_seq c.args.f.frame.seq, length_command c.args.f.frame)
 
 pub returns : goal.returns
 returns c = name_written _ _ _ _ _ _ _ _ _ _ _ _ _ _ _ _ c.put_head-a.ensures c.put_type-b.ensures c.put_seq-c.ensures c.put_command-d.ensures c.copy_to.ensures

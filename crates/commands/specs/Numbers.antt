@@ -1,6 +1,5 @@
--- All names in one run of letters, each with its start: those of both tables, of the types, UNKNOWN and NO_COMMAND.
-use Rattle.std.specs.Prelude.{Option, Some, None, unwrap_or, ◌≡◌, Bool, true, false, cond, List, [], ◌∷◌, ◌++◌, map, ℕ, suc, ◌+◌, ◌<◌, ◌≤◌, leb, ltb, eqb, length, get_or, take, drop}
-use Rattle.laws.specs.Lists.{flat}
+-- All names by number: those of both tables, of the types, UNKNOWN and NO_COMMAND; and the number of a byte's name.
+use Rattle.std.specs.Prelude.{Option, Some, None, unwrap_or, ◌≡◌, Bool, true, false, cond, List, [], ◌∷◌, ◌++◌, map, ℕ, suc, ◌+◌, ◌<◌, ltb, eqb, length, get_or, take, drop}
 use Rattle.mdr.specs.Types.{kinds}
 use Rattle.commands.specs.Text.{ascii}
 use Rattle.commands.specs.Commands.{Entry, t1, t2}
@@ -28,18 +27,6 @@ others = map type_name kinds ++ (ascii "UNKNOWN" ∷ ascii "NO_COMMAND" ∷ [])
 unfoldable pub all_names : List (List ℕ)
 all_names = commands ++ others
 
--- one after another
-unfoldable pub all_letters : List ℕ
-all_letters = flat all_names
-
--- where each starts, and where the last ends
-abbrev pub starts_from : ℕ → List (List ℕ) → List ℕ
-starts_from at [] = at ∷ []
-starts_from at (l ∷ ls) = at ∷ starts_from (at + length l) ls
-
-unfoldable pub all_starts : List ℕ
-all_starts = starts_from 0 all_names
-
 -- the name with a number
 unfoldable pub name_at : ℕ → List ℕ
 name_at i = get_or all_names i []
@@ -48,11 +35,6 @@ name_at i = get_or all_names i []
 pub record Spot (i : ℕ) (name : List ℕ) : Type 0 where
   pub within : i < 246
   pub is : name_at i ≡ name
-
--- these letters are the name with a number
-pub record NameIs (i : ℕ) (l : List ℕ) : Type 0 where
-  pub is : l ≡ name_at i
-  pub small : length l ≤ 4406
 
 -- ---- tests that are computed over a whole table
 
