@@ -3,7 +3,8 @@
 use std::env;
 use std::path::PathBuf;
 
-const GROUPS: [&str; 9] = ["CODEC", "NAMES", "PLAN", "ORDER", "IMPORT", "TOLERANT", "STRETCHES", "GAPS", "PCAP"];
+const GROUPS: [&str; 10] =
+    ["CODEC", "NAMES", "PLAN", "ORDER", "IMPORT", "TOLERANT", "STRETCHES", "GAPS", "PCAP", "SIZES"];
 
 fn main() {
     println!("cargo:rerun-if-env-changed=LUMBRYTH_LIB_DIR");

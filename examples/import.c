@@ -91,9 +91,8 @@ int main(int argc, char **argv)
 {
     uint8_t *file, *work, *out = NULL;
     struct lumbryth_options options = {LUMBRYTH_ANY_CHANNEL, 1, LUMBRYTH_BTSNOOP, 0};
+    struct lumbryth_sizes sizes;
     struct lumbryth_imported answer;
-    uint64_t *values = (uint64_t *)&answer;
-    uint8_t nothing[1];
     size_t work_len;
     uint32_t refusal;
     long len;
@@ -119,16 +118,15 @@ int main(int argc, char **argv)
         return 1;
     }
 
-    /* With no output lent, 7 says how much is needed. */
+    /* The sizes say how much output is needed; an import with so much is not refused with 7. */
     options.container = container_of(file, (size_t)len);
-    refusal = lumbryth_import_with(file, (size_t)len, work, work_len, nothing, 0,
-        (const uint64_t *)&options, LUMBRYTH_OPTIONS, values, LUMBRYTH_VALUES);
-    if (refusal == LUMBRYTH_OUT_SHORT) {
-        size_t out_len = (size_t)values[0];
-        out = malloc(out_len);
-        if (out != NULL)
-            refusal = lumbryth_import_with(file, (size_t)len, work, work_len, out, out_len,
-                (const uint64_t *)&options, LUMBRYTH_OPTIONS, values, LUMBRYTH_VALUES);
+    refusal = lumbryth_sizes_with(file, (size_t)len, work, work_len,
+        (const uint64_t *)&options, LUMBRYTH_OPTIONS, (uint64_t *)&sizes, LUMBRYTH_SIZES);
+    if (refusal == LUMBRYTH_OK) {
+        out = malloc((size_t)sizes.needed);
+        refusal = out == NULL ? LUMBRYTH_OUT_SHORT
+            : lumbryth_import_with(file, (size_t)len, work, work_len, out, (size_t)sizes.needed,
+                (const uint64_t *)&options, LUMBRYTH_OPTIONS, (uint64_t *)&answer, LUMBRYTH_VALUES);
     }
     if (refusal != LUMBRYTH_OK) {
         fprintf(stderr, "%s: refused (%" PRIu32 ")\n", argv[1], refusal);

@@ -30,7 +30,8 @@
  *   as they were, and after a refusal all of them do.
  * - An output that is too short is refusal 7 (LUMBRYTH_OUT_SHORT), which carries the
  *   length needed. So a call with `out_len` 0 asks for the length. 7 is checked
- *   last: what is refused for another reason is refused so with any output.
+ *   last: what is refused for another reason is refused so with any output. Of an
+ *   import, lumbryth_sizes_with tells the length too, and how much the file holds.
  *
  *
  * Traces
@@ -312,6 +313,49 @@ struct lumbryth_imported {
  */
 uint32_t lumbryth_import_with(const uint8_t *file, size_t file_len,
     uint8_t *work, size_t work_len, uint8_t *out, size_t out_len,
+    const uint64_t *options, size_t options_len, uint64_t *values, size_t values_len);
+
+/*
+ * What lumbryth_sizes_with stores in `values`, with room for LUMBRYTH_SIZES. Fields that are
+ * added later come at the end.
+ */
+struct lumbryth_sizes {
+    uint64_t needed;  /* the output that an import needs: the length of its list, 23 or more */
+    uint64_t records; /* whole records, whatever they hold */
+    uint64_t pdus;    /* completed PDUs of all connections, directions and channels */
+    uint64_t pieces;  /* UIH frames with information that are taken, of all DLCIs but 0 */
+};
+#define LUMBRYTH_SIZES (sizeof(struct lumbryth_sizes) / sizeof(uint64_t))
+
+/*
+ * Tells the sizes of a trace before it is imported. It takes all that lumbryth_import_with
+ * takes but the output, and writes none. So memory can be lent that is just enough:
+ *
+ *   struct lumbryth_sizes sizes;
+ *   number = lumbryth_sizes_with(file, file_len, work, work_len,
+ *       (const uint64_t *)&options, LUMBRYTH_OPTIONS, (uint64_t *)&sizes, LUMBRYTH_SIZES);
+ *
+ * An import of the same file by the same options, with as much work, is refused with 7 if
+ * `out_len` is under `needed`, and not if it is `needed` or more. If this call refuses, so
+ * does that import, with the same number and the same values, whatever output is lent.
+ * So it is for lumbryth_import_stretches_with, if it has places enough; how many it wants
+ * is not told here.
+ *
+ * All four are of one reading of the file. Records are those of lumbryth_records_with: the
+ * one that passes the file's end is not counted. PDUs are counted that were completed,
+ * tried as RFCOMM or not, those on CID 1 and empty ones too; not those that were given up
+ * or are open at the end. A piece is the information of a UIH frame that is taken, of any
+ * DLCI but 0, if it is not empty: on channels that are RFCOMM or may be, with `check_fcs` of
+ * a right FCS. Records and PDUs do not depend on `channel` and `check_fcs`, pieces not on
+ * `channel`.
+ *
+ * `work` is as for lumbryth_import. The call costs what an import does without its writing.
+ *
+ * Values: the fields of struct lumbryth_sizes.
+ * Refusals: 1 to 6, in this order; of pcap 1, 2, 21, 22, 5, 6. None is 7.
+ */
+uint32_t lumbryth_sizes_with(const uint8_t *file, size_t file_len,
+    uint8_t *work, size_t work_len,
     const uint64_t *options, size_t options_len, uint64_t *values, size_t values_len);
 
 /*

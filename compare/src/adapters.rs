@@ -3,7 +3,7 @@
 
 use crate::answer::{Checked, NO_CHANNEL};
 use crate::expected;
-use crate::import::{ack, sequences, Import, Taker};
+use crate::import::{ack, sequences, Taker};
 use crate::trace::{self, Trace};
 use oracle::capture::Direction::{self, Rx, Tx};
 use oracle::capture::BTSNOOP_EPOCH_DELTA_US as EPOCH;
@@ -132,7 +132,7 @@ fn found(file: &[u8]) -> Option<[u64; 2]> {
 
 /// Every sequence of `n` steps on one handle of two adapters that begin and end PDUs, frames, sessions and links, and name
 /// channels; then data on those.
-pub fn steps(import: &mut Import, n: usize) -> Checked {
+pub fn steps(taker: &mut dyn Taker, n: usize) -> Checked {
     let mut each = vec![
         Pdu(Tx, 0x42, trace::sabm(0)),
         Pdu(Tx, 0x42, trace::sabm(18)),
@@ -147,6 +147,6 @@ pub fn steps(import: &mut Import, n: usize) -> Checked {
         for (index, direction, cid) in [(0, Rx, 0x30), (1, Tx, 0x31), (1, Rx, 0x41)] {
             take(trace, (index, 0x40), &Pdu(direction, cid, data(&ack(3))));
         }
-        import.file(&trace.file, NO_CHANNEL)
+        taker.file(&trace.file, NO_CHANNEL)
     })
 }

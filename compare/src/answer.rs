@@ -23,6 +23,15 @@ impl Answer {
         Answer::done(&[&values[..], &bytes].concat(), list)
     }
 
+    /// The sizes of a file by the answer of its import, and by how many records, PDUs and pieces there are. What import
+    /// refuses, sizes refuse likewise.
+    pub fn sizes(&self, counts: [u64; 3]) -> Answer {
+        match self.number {
+            0 => Answer::done(&[&[self.written.len() as u64][..], &counts].concat(), Vec::new()),
+            number => Answer::refused(number, &self.values),
+        }
+    }
+
     /// Where the bytes went, of the answer of an import.
     pub fn bytes(&self) -> Option<Bytes> {
         self.values.get(BYTES..VALUES)?.try_into().ok()
@@ -103,12 +112,18 @@ pub trait Subject {
     fn gaps(&self, file: &[u8], work: &mut [u8], tolerant: u32, values: &mut [u64]) -> u32;
     /// The same by a list of options, of which the channel and the FCS are not looked at.
     fn gaps_with(&self, file: &[u8], work: &mut [u8], options: &[u64], values: &mut [u64]) -> u32;
+    /// What an import by the same options would write and the file holds: bytes needed, records, PDUs and pieces.
+    fn sizes_with(&self, file: &[u8], work: &mut [u8], options: &[u64], values: &mut [u64]) -> u32;
     /// Whether the call with stretches is linked.
     fn has_stretches(&self) -> bool {
         true
     }
     /// Whether the calls that take a container are linked.
     fn takes_container(&self) -> bool {
+        true
+    }
+    /// Whether the call that tells sizes is linked.
+    fn has_sizes(&self) -> bool {
         true
     }
 }
@@ -154,6 +169,9 @@ pub type Bytes = [u64; 4];
 
 /// The place of the first of them among the values.
 pub const BYTES: usize = 6;
+
+/// How many values the sizes are: bytes needed, records, PDUs, pieces.
+pub const SIZES: usize = 4;
 
 /// A stretch and direction with bytes held, as the library lays it out.
 #[repr(C)]

@@ -6,11 +6,12 @@
 //! once and never cleared between calls. The oracle allocates what it answers, and that is
 //! part of its time, but the allocator has the memory already.
 
+use std::cell::RefCell;
 use std::collections::BTreeSet;
 use std::hint::black_box;
 use std::path::Path;
 
-use crate::answer::{Answer, Case, Checked, Container, Difference, Lender, Subject, NO_CHANNEL, VALUES};
+use crate::answer::{Answer, Case, Checked, Container, Difference, Lender, Subject, NO_CHANNEL, SIZES, VALUES};
 use crate::containers;
 use crate::expected::{self, LONGEST_FILE};
 use crate::gaps;
@@ -39,6 +40,11 @@ const ADAPTERS: f64 = 1.1;
 const PCAP: f64 = 1.1;
 /// What an import that checks the FCS is to cost at most, divided by one that does not.
 const FCS: f64 = 1.1;
+
+/// What the sizes of a file are to cost at most, divided by its import; and where import writes a single span, so that both
+/// do the same and chance says which takes longer.
+const SIZED: f64 = 1.0;
+const EVEN: f64 = 1.02;
 
 /// The rows of a run, and those that are over their limit.
 struct Bench<'a> {
@@ -397,6 +403,15 @@ impl Files {
         }
     }
 
+    /// The sizes of the files, each with the work of an import.
+    fn sizes(&mut self, subject: &dyn Subject) {
+        let mut values = [0; SIZES];
+        for (file, answer) in self.files.iter().zip(&self.answers) {
+            let number = subject.sizes_with(black_box(file), &mut self.work, &options(self.how), &mut values);
+            assert_eq!(number, answer.number);
+        }
+    }
+
     fn import(&mut self, subject: &dyn Subject) {
         let mut values = [0; VALUES];
         for (file, answer) in self.files.iter().zip(&self.answers) {
@@ -409,16 +424,19 @@ impl Files {
 
 /// The strict import of a file, on any channel.
 fn imported(how: How, subject: &dyn Subject, file: &[u8], work: &mut [u8], out: &mut [u8], values: &mut [u64]) -> u32 {
-    let container = u64::from(how.container == Container::Pcap);
     match how {
         How { container: Container::Btsnoop, checks: None } => {
             subject.import_strict(file, work, out, NO_CHANNEL, values)
         }
-        How { checks: None, .. } => subject.import_with(file, work, out, &[256, 0, container], values),
-        How { checks: Some(checks), .. } => {
-            subject.import_with(file, work, out, &[256, 0, container, checks.into()], values)
-        }
+        How { checks: None, .. } => subject.import_with(file, work, out, &options(how)[..3], values),
+        How { checks: Some(_), .. } => subject.import_with(file, work, out, &options(how), values),
     }
+}
+
+/// All options of a strict import on any channel.
+fn options(how: How) -> [u64; 4] {
+    let container = u64::from(how.container == Container::Pcap);
+    [NO_CHANNEL.into(), 0, container, how.checks.unwrap_or(false).into()]
 }
 
 /// The files as the Rust can read them: each index and handle has a handle of its own, if there is more than one adapter.
@@ -601,6 +619,60 @@ fn fcs_row(bench: &mut Bench, label: &str, container: Container, limit: Option<f
     Ok(())
 }
 
+/// The sizes of a file in turns with its import by the same options: the typical trace, as pcap and with the FCS checked too;
+/// the other traces of import, of their longest size; and pcap files that are full of the smallest records.
+fn sizes(bench: &mut Bench) -> Checked {
+    println!("{:64} {:>10} {:>10} {:>10} {:>7} {:>7}", "sizes", "bytes", "sizes", "import", "ratio", "least");
+    let asked = bench.options.kib.clone();
+    let [off, on] = [false, true].map(|checks| move |container| How { container, checks: Some(checks) });
+    for trace in hard::traces() {
+        let typical = trace.label.starts_with("typical");
+        let mut kibs = trace.sizes(asked.as_deref());
+        if asked.is_none() && !typical {
+            kibs.drain(..kibs.len() - 1);
+        }
+        for kib in kibs {
+            let Some(files) = trace.files(kib) else { continue };
+            sizes_row(bench, &trace.label, off(Container::Btsnoop), files.clone())?;
+            if typical {
+                let others: Vec<Vec<u8>> = files.iter().map(|file| pcap::of_btsnoop(file, FORMS[0])).collect();
+                sizes_row(bench, &format!("{}, FCS checked", trace.label), on(Container::Btsnoop), files)?;
+                sizes_row(bench, &format!("{}, pcap", trace.label), off(Container::Pcap), others)?;
+            }
+        }
+    }
+    for kib in asked.unwrap_or(vec![1024]) {
+        for (label, file) in containers::fullest(kib << 10) {
+            sizes_row(bench, &format!("{label}, pcap"), off(Container::Pcap), vec![file])?;
+        }
+    }
+    Ok(())
+}
+
+fn sizes_row(bench: &mut Bench, label: &str, how: How, files: Vec<Vec<u8>>) -> Checked {
+    if !bench.wants(label) {
+        return Ok(());
+    }
+    let (subject, bytes, count) = (bench.subject, files[0].len(), files.len() as f64);
+    let mut ours = Files::checked_in(how, subject, label, files)?;
+    for (file, answer) in ours.files.iter().zip(&ours.answers) {
+        let counts = expected::counts(how.container, file)[usize::from(how.checks == Some(true))];
+        let work = &mut ours.work;
+        check(label, &answer.sizes(counts), &mut |_, values| subject.sizes_with(file, work, &options(how), values))?;
+    }
+    let label = ours.label(label);
+    let limit = if ours.answers.iter().all(|answer| answer.values.get(1) <= Some(&1)) { EVEN } else { SIZED };
+    // Both get the same work: where it lies makes a difference.
+    let ours = RefCell::new(ours);
+    let times =
+        times::turns(&mut [&mut || ours.borrow_mut().sizes(subject), &mut || ours.borrow_mut().import(subject)]);
+    let (ratio, least) = (times::ratio(&times[0], &times[1]), times::least(&times[0]) / times::least(&times[1]));
+    let [sizes, import] = [0, 1].map(|i| times::shown(times::median(times[i].clone()) / count));
+    println!("{label:64} {bytes:>10} {sizes:>10} {import:>10} {ratio:>7.3} {least:>7.3}");
+    bench.judge(&label, bytes, ratio, Some(limit));
+    Ok(())
+}
+
 fn words(form: Form) -> String {
     let order = if form.big { "big-endian" } else { "little-endian" };
     format!("{order} {}", if form.nano { "nanoseconds" } else { "microseconds" })
@@ -726,6 +798,7 @@ pub fn run(group: &str, subject: &dyn Subject, options: &Options) -> Option<Chec
         "adapters" => adapters,
         "pcap" => pcap,
         "fcs" => fcs,
+        "sizes" => sizes,
         _ => return None,
     };
     times::keep_memory();
@@ -735,8 +808,13 @@ pub fn run(group: &str, subject: &dyn Subject, options: &Options) -> Option<Chec
 
 /// Imports of one trace and nothing else, to be counted or profiled: the trace of that label,
 /// or the first whose label has it; with the FCS checked or as pcap, if the label begins with `fcs` or `pcap`, or with both.
+/// With `sizes` before these the sizes are told instead.
 pub fn once(label: &str, kib: usize, subject: &dyn Subject, options: &Options) -> Result<(), String> {
     let traces = [hard::traces(), hard::of_many_adapters()].into_iter().flatten().collect::<Vec<Hard>>();
+    let (sized, label) = match label.strip_prefix("sizes ") {
+        Some(label) => (true, label),
+        None => (false, label),
+    };
     let (checks, label) = match label.strip_prefix("fcs ") {
         Some(label) => (Some(true), label),
         None => (None, label),
@@ -757,9 +835,14 @@ pub fn once(label: &str, kib: usize, subject: &dyn Subject, options: &Options) -
     // No list of spans is longer than that of the shortest, which are two bytes long.
     let mut out = vec![0; 8 * bytes];
     let (mut number, mut values) = (0, [0; VALUES]);
+    let how = How { container, checks };
     for _ in 0..options.times {
-        number = imported(How { container, checks }, subject, black_box(&file), &mut work, &mut out, &mut values);
+        number = match sized {
+            true => subject.sizes_with(black_box(&file), &mut work, &self::options(how), &mut values[..SIZES]),
+            false => imported(how, subject, black_box(&file), &mut work, &mut out, &mut values),
+        };
     }
+    let values = if sized { &values[..SIZES] } else { &values };
     println!("{}: {bytes} bytes, number {number}, values {values:?}", trace.label);
     Ok(())
 }

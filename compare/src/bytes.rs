@@ -8,7 +8,7 @@ use crate::fcs;
 use crate::import::{ack, sequences, Import, Rule, Taker};
 use crate::pcap::{self, FORMS};
 use crate::rng::Rng;
-use crate::sums::Switch;
+use crate::sums::{Both, Switch};
 use crate::trace::{self, acl_packet, l2cap, Trace};
 use crate::Options;
 use oracle::capture::Direction::{self, Rx, Tx};
@@ -119,7 +119,7 @@ fn take(trace: &mut Trace, step: &Step) {
     trace.on(step.pair.0).acl(step.direction, stamp, 0, &acl_packet(step.pair.1, 2, &pdu));
 }
 
-fn send(trace: &mut Trace, text: &str) {
+pub fn send(trace: &mut Trace, text: &str) {
     steps_of(text).iter().for_each(|step| take(trace, step));
 }
 

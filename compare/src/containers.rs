@@ -159,12 +159,18 @@ impl Taker for ByContainer<'_> {
 }
 
 /// Takes btsnoop files of one adapter and hands them on as pcap, in each form in turn.
-struct Converted<'b, 'a> {
-    calls: &'b mut ByContainer<'a>,
+pub struct Converted<'a> {
+    calls: &'a mut dyn Taker,
     turn: usize,
 }
 
-impl Taker for Converted<'_, '_> {
+impl Converted<'_> {
+    pub fn new(calls: &mut dyn Taker) -> Converted<'_> {
+        Converted { calls, turn: 0 }
+    }
+}
+
+impl Taker for Converted<'_> {
     fn file(&mut self, file: &[u8], channel: u32) -> Checked {
         self.turn += 1;
         self.calls.file(&pcap::of_btsnoop(file, FORMS[self.turn % 4]), channel)
@@ -230,7 +236,7 @@ fn frames(frames: &[(bool, u64)], tail: usize) -> Answer {
 }
 
 /// A fixed file and its answers by the strict rule and the tolerant.
-type Fixed = (Vec<u8>, Answer, Answer);
+pub type Fixed = (Vec<u8>, Answer, Answer);
 
 /// A whole file with these frames.
 fn whole(hand: Hand, list: &[(bool, u64)]) -> Fixed {
@@ -374,17 +380,19 @@ fn cuts(form: Form) -> Vec<Fixed> {
     all
 }
 
-/// All of them, in each form. The oracle says the same of each. Every FCS is right, so the switch makes no difference.
+/// All fixed files, in each form.
+pub fn fixed() -> impl Iterator<Item = Fixed> {
+    let parts = [directions, links, headers, times, records, cuts];
+    FORMS.into_iter().flat_map(move |form| parts.into_iter().flat_map(move |part| part(form)))
+}
+
+/// The oracle says the same of each. Every FCS is right, so the switch makes no difference.
 fn by_hand(calls: &mut ByContainer) -> Checked {
-    for form in FORMS {
-        for part in [directions, links, headers, times, records, cuts] {
-            for (file, strict, tolerant) in part(form) {
-                let known = [strict, tolerant].map(|answer| [answer.clone(), answer]);
-                let found = expected::by_both_rules(Container::Pcap, &file, NO_CHANNEL);
-                assert!(found == known, "a fixed file has its answer: {file:02X?}");
-                calls.held(&file, NO_CHANNEL, &known)?;
-            }
-        }
+    for (file, strict, tolerant) in fixed() {
+        let known = [strict, tolerant].map(|answer| [answer.clone(), answer]);
+        let found = expected::by_both_rules(Container::Pcap, &file, NO_CHANNEL);
+        assert!(found == known, "a fixed file has its answer: {file:02X?}");
+        calls.held(&file, NO_CHANNEL, &known)?;
     }
     Ok(())
 }
@@ -406,7 +414,7 @@ fn small(form: Form) -> Trace {
 }
 
 /// Headers and what little may follow them, and every beginning of good files.
-fn short(calls: &mut ByContainer, rng: &mut Rng) -> Checked {
+pub fn short(calls: &mut dyn Taker, rng: &mut Rng) -> Checked {
     for form in FORMS {
         let bare = Trace::pcap(form).file;
         let example = Hand::new(form).sent(1, 0, 0).file;
@@ -454,7 +462,7 @@ fn short(calls: &mut ByContainer, rng: &mut Rng) -> Checked {
 }
 
 /// Every change of one byte in small files.
-fn one_byte(calls: &mut ByContainer) -> Checked {
+pub fn one_byte(calls: &mut dyn Taker) -> Checked {
     for good in FORMS.map(|form| small(form).file) {
         for at in HEAD..good.len() {
             for byte in 0..=255 {
@@ -469,7 +477,7 @@ fn one_byte(calls: &mut ByContainer) -> Checked {
 
 /// Every packet of up to six bytes over the bytes that matter, direction and type included, between the fragments of a PDU;
 /// then those with a direction and up to six bytes behind it.
-fn packets(calls: &mut ByContainer) -> Checked {
+pub fn packets(calls: &mut dyn Taker) -> Checked {
     let pdu = l2cap(0x41, &trace::uih(18, &ack(1), None, false));
     let mut turn = 0;
     let mut between = |bytes: &[u8]| {
@@ -494,8 +502,8 @@ fn packets(calls: &mut ByContainer) -> Checked {
 }
 
 /// The traces of the bench of import, of so many KiB.
-fn hard_traces(calls: &mut ByContainer, sizes: &[usize]) -> Checked {
-    let mut converted = Converted { calls, turn: 0 };
+pub fn hard_traces(calls: &mut dyn Taker, sizes: &[usize]) -> Checked {
+    let mut converted = Converted::new(calls);
     for trace in hard::traces() {
         for kib in trace.sizes(Some(sizes)) {
             trace.file(kib).map_or(Ok(()), |file| converted.file(&file, NO_CHANNEL))?;
@@ -575,7 +583,7 @@ pub fn fullest(length: usize) -> impl Iterator<Item = (&'static str, Vec<u8>)> {
 }
 
 /// Files of every short length, and of the longest, that have the most rows of one table.
-fn most(calls: &mut ByContainer, longest: usize) -> Checked {
+pub fn most(calls: &mut dyn Taker, longest: usize) -> Checked {
     for (turn, kind) in LEAST.into_iter().enumerate() {
         for length in HEAD..=longest {
             for frame in [false, true] {
@@ -586,7 +594,7 @@ fn most(calls: &mut ByContainer, longest: usize) -> Checked {
     Ok(())
 }
 
-fn large(calls: &mut ByContainer, rng: &mut Rng) -> Checked {
+pub fn large(calls: &mut dyn Taker, rng: &mut Rng) -> Checked {
     for (turn, kind) in LEAST.into_iter().enumerate() {
         for (length, frame) in [(LONGEST_FILE - 1 - turn, true), (LONGEST_FILE, true), (LONGEST_FILE, false)] {
             calls.file(&full(FORMS[(length + turn) % 4], length, frame, kind), NO_CHANNEL)?;
@@ -605,17 +613,17 @@ fn large(calls: &mut ByContainer, rng: &mut Rng) -> Checked {
 
 // ---- random files
 
-fn random(calls: &mut ByContainer, rng: &mut Rng, size: u64) -> Checked {
+pub fn random(calls: &mut dyn Taker, container: Container, rng: &mut Rng, size: u64) -> Checked {
     for i in 0..size {
-        let (trace, channel) = trace::structured_in(rng, calls.container, if i % 100 == 0 { 600 } else { 60 });
+        let (trace, channel) = trace::structured_in(rng, container, if i % 100 == 0 { 600 } else { 60 });
         calls.file(&trace.file, channel)?;
     }
     Ok(())
 }
 
-fn damaged(calls: &mut ByContainer, rng: &mut Rng, size: u64) -> Checked {
+pub fn damaged(calls: &mut dyn Taker, container: Container, rng: &mut Rng, size: u64) -> Checked {
     for _ in 0..size / 4 {
-        let (trace, channel) = trace::structured_in(rng, calls.container, 30);
+        let (trace, channel) = trace::structured_in(rng, container, 30);
         for _ in 0..4 {
             calls.file(&trace::damaged(rng, &trace), channel)?;
         }
@@ -624,7 +632,7 @@ fn damaged(calls: &mut ByContainer, rng: &mut Rng, size: u64) -> Checked {
 }
 
 /// A good header, or nearly, and then bytes that are mostly small.
-fn scattered(calls: &mut ByContainer, rng: &mut Rng, size: u64) -> Checked {
+pub fn scattered(calls: &mut dyn Taker, rng: &mut Rng, size: u64) -> Checked {
     for i in 0..size {
         let mut file = Trace::any(rng, Container::Pcap).file;
         if i % 8 == 0 {
@@ -728,9 +736,9 @@ pub fn run(subject: &dyn Subject, options: &Options) -> Checked {
     let mut calls = ByContainer::new(subject, Container::Pcap);
     by_hand(&mut calls)?;
     log.counts("fixed files", &calls.answers());
-    random(&mut calls, &mut rng, size / 5)?;
+    random(&mut calls, Container::Pcap, &mut rng, size / 5)?;
     log.counts("random traces", &calls.answers());
-    damaged(&mut calls, &mut rng, size / 5)?;
+    damaged(&mut calls, Container::Pcap, &mut rng, size / 5)?;
     scattered(&mut calls, &mut rng, size / 5)?;
     log.counts("damaged traces and random bytes", &calls.answers());
     honest(&mut calls, &mut rng, size / 500)?;
@@ -741,7 +749,7 @@ pub fn run(subject: &dyn Subject, options: &Options) -> Checked {
     log.counts("every one-byte change of small files", &calls.answers());
     packets(&mut calls)?;
     log.counts("every short packet", &calls.answers());
-    let mut converted = Converted { calls: &mut calls, turn: 0 };
+    let mut converted = Converted::new(&mut calls);
     import::fragments(&mut converted)?;
     import::excess(&mut converted)?;
     import::limits(&mut |file| converted.file(file, NO_CHANNEL), &mut rng)?;
@@ -799,8 +807,8 @@ fn others(calls: &mut ByContainer, rng: &mut Rng, size: u64) -> Checked {
         let trace = lacking::made(rng, Container::Btsnoop, 20);
         calls.file(&lacking::ended(rng, &trace), NO_CHANNEL)?;
     }
-    random(calls, rng, size)?;
-    damaged(calls, rng, size)
+    random(calls, Container::Btsnoop, rng, size)?;
+    damaged(calls, Container::Btsnoop, rng, size)
 }
 
 /// One part alone; in a short run more of what is random.
@@ -810,13 +818,13 @@ pub fn run_by_hand(subject: &dyn Subject, _: &Options) -> Checked {
 
 pub fn run_random(subject: &dyn Subject, options: &Options) -> Checked {
     let mut calls = ByContainer::new(subject, Container::Pcap);
-    random(&mut calls, &mut Rng::new(options.seed), options.size.unwrap_or(50_000).max(1_000))
+    random(&mut calls, Container::Pcap, &mut Rng::new(options.seed), options.size.unwrap_or(50_000).max(1_000))
 }
 
 pub fn run_damaged(subject: &dyn Subject, options: &Options) -> Checked {
     let (mut calls, mut rng) = (ByContainer::new(subject, Container::Pcap), Rng::new(options.seed));
     let size = options.size.unwrap_or(50_000).max(1_000);
-    damaged(&mut calls, &mut rng, size)?;
+    damaged(&mut calls, Container::Pcap, &mut rng, size)?;
     scattered(&mut calls, &mut rng, size)
 }
 

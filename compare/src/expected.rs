@@ -114,6 +114,8 @@ pub fn import(container: Container, file: &[u8], channel: u32, tolerant: bool) -
 pub fn by_both_rules(container: Container, file: &[u8], channel: u32) -> [[Answer; 2]; 2] {
     let tolerant = import(container, file, channel, true);
     let strict = match container {
+        // Of whole records alone: the same import.
+        Container::Btsnoop if tail(file) == file.len() => tolerant.clone(),
         Container::Btsnoop => import(container, file, channel, false),
         // What is refused is the container's to say.
         Container::Pcap => match pcap::refusal(file, usize::MAX, false, pcap::RIGHT) {
@@ -280,12 +282,39 @@ fn record(file: &[u8], at: usize) -> Option<&[u8]> {
 
 /// Where the whole records end; the file's length if it has no header to follow.
 pub fn tail(file: &[u8]) -> usize {
-    let mut at = 16;
-    if file.len() < at {
+    if file.len() < 16 {
         return file.len();
     }
-    while let Some(row) = record(file, at) {
+    16 + rows(file).map(<[u8]>::len).sum::<usize>()
+}
+
+/// The whole records behind a header.
+fn rows(file: &[u8]) -> impl Iterator<Item = &[u8]> {
+    let mut at = 16;
+    std::iter::from_fn(move || {
+        let row = record(file, at)?;
         at += row.len();
+        Some(row)
+    })
+}
+
+/// The sizes that import of a file by either rule has, first with the switch off and then with the FCS checked: by the
+/// oracle the bytes of its list, and by two readings how many records, PDUs and pieces there are.
+pub fn sizes(container: Container, file: &[u8], imports: &[[Answer; 2]; 2]) -> [[Answer; 2]; 2] {
+    let header = imports.iter().flatten().any(|import| import.number == 0);
+    let counts = if header { counts(container, file) } else { [[0; 3]; 2] };
+    imports.each_ref().map(|[off, on]| [off.sizes(counts[0]), on.sizes(counts[1])])
+}
+
+/// How many records, PDUs and pieces a file with a good header has, with the switch off and on.
+pub fn counts(container: Container, file: &[u8]) -> [[u64; 3]; 2] {
+    let off = model::lists(container, file, false, RIGHT);
+    let on = model::frames(&off.pdus, true, RIGHT).0.len() as u64;
+    let [records, pdus, pieces] = off.counts();
+    let walk = fcs::counts(container, file);
+    assert_eq!((walk.0 as u64, walk.1.map(|n| n as u64)), (pdus, [pieces, on]), "both readings find as many");
+    if container == Container::Btsnoop {
+        assert_eq!(rows(file).count() as u64, records, "both readings find as many records");
     }
-    at
+    [[records, pdus, pieces], [records, pdus, on]]
 }

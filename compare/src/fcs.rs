@@ -91,6 +91,17 @@ pub fn information(container: Container, file: &[u8]) -> Vec<Information> {
     pdus.iter().filter_map(read).collect()
 }
 
+/// How many whole PDUs a file has, and how many pieces with the FCS not checked, and checked: information that is not empty,
+/// of any DLCI but 0.
+pub fn counts(container: Container, file: &[u8]) -> (usize, [usize; 2]) {
+    let pieces: Vec<Information> = information(container, file)
+        .into_iter()
+        .filter(|frame| frame.tried && frame.dlci > 0 && frame.bytes > 0)
+        .collect();
+    let right = pieces.iter().filter(|frame| frame.right).count();
+    (pdus(&packets(container, file)).len(), [pieces.len(), right])
+}
+
 /// Link and direction.
 type Side = (u32, bool);
 

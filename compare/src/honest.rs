@@ -74,6 +74,11 @@ impl Honest {
         known.then(|| self.wrong.iter().filter(|end| **end <= n).count() as u64)
     }
 
+    /// How many records are left in the first `n` bytes.
+    pub fn records(&self, n: usize) -> u64 {
+        self.ends.iter().filter(|end| **end <= n).count() as u64
+    }
+
     /// What tolerant import answers for the first `n` bytes, if no frame with a wrong FCS is counted. Every byte is in a
     /// frame that is left, or stands behind the last of its direction.
     pub fn left(&self, n: usize) -> Answer {

@@ -664,7 +664,7 @@ fn send(trace: &mut Trace, (direction, cid, payload): &Step) {
 }
 
 /// Every sequence of six steps that halve frames and start sessions and links.
-fn stretches(import: &mut dyn Taker) -> Checked {
+pub fn stretches(import: &mut dyn Taker) -> Checked {
     let (one, two) = (ack(1), ack(2));
     let data = |dlci, information: &[u8]| trace::uih(dlci, information, None, false);
     let alphabet: Vec<Step> = vec![
@@ -684,7 +684,7 @@ fn stretches(import: &mut dyn Taker) -> Checked {
 }
 
 /// Every sequence of four steps on several DLCIs, with each kind of channel.
-fn choices(import: &mut dyn Taker) -> Checked {
+pub fn choices(import: &mut dyn Taker) -> Checked {
     let data = |dlci, information: &[u8]| trace::uih(dlci, information, None, false);
     let alphabet: Vec<Step> = vec![
         (Rx, 0x41, data(18, &ack(1))),
@@ -705,7 +705,7 @@ fn choices(import: &mut dyn Taker) -> Checked {
 
 /// Every sequence of up to three signalling PDUs out of many, before or after data on
 /// channels that need admission or lose it.
-fn signalling(import: &mut dyn Taker) -> Checked {
+pub fn signalling(import: &mut dyn Taker) -> Checked {
     let mut commands = Vec::new();
     for source in [0x30, 0x41] {
         for psm in [3, 1] {
@@ -759,7 +759,7 @@ fn signalling(import: &mut dyn Taker) -> Checked {
 
 /// Every four PDUs on CID 1 that admit it or carry data on it, with a request for PSM 3, one
 /// for another or half of one behind, then a frame on another channel.
-fn doubled(import: &mut dyn Taker) -> Checked {
+pub fn doubled(import: &mut dyn Taker) -> Checked {
     let cut = &trace::request(3, 0x41)[..7];
     let alphabet: Vec<Step> = vec![
         (Tx, 1, trace::request(3, 1)),
@@ -781,7 +781,7 @@ fn doubled(import: &mut dyn Taker) -> Checked {
 }
 
 /// Two traces that a wrong reading finds a frame more in.
-fn fixed(import: &mut dyn Taker) -> Checked {
+pub fn fixed(import: &mut dyn Taker) -> Checked {
     // In excess of a PDU's length comes the start of another, and a continuation has its rest.
     let pdu = trace::l2cap(0x40, &trace::uih(18, &ack(0), None, false));
     let mut excess = Trace::new(1001);
@@ -802,7 +802,7 @@ fn fixed(import: &mut dyn Taker) -> Checked {
 
 /// Every RFCOMM frame of up to five bytes over the bytes that matter, between the
 /// halves of a frame.
-fn rfcomm(import: &mut dyn Taker) -> Checked {
+pub fn rfcomm(import: &mut dyn Taker) -> Checked {
     let half = ack(1);
     let mut start = Trace::new(2001);
     send(&mut start, &(Rx, 0x41, trace::uih(18, &half[..5], None, false)));

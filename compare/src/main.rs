@@ -21,6 +21,7 @@ mod misfiled;
 mod misplaced;
 mod misprint;
 mod misread;
+mod missized;
 mod misspelt;
 mod missummed;
 mod mistaken;
@@ -34,6 +35,7 @@ mod proved;
 mod rng;
 mod sample;
 mod signs;
+mod sizes;
 mod stats;
 mod sums;
 mod times;
@@ -56,21 +58,21 @@ usage: compare GROUP [--seed N] [--size N] [--against proved|model]
        compare sample GROUP FILE
        compare stats import|pcap|honest|bench [--seed N] [--size N]
 
-GROUP is codec, names, plan, order, import, tolerant, gaps, pcap, fcs, bytes or vectors.
---size is the number of random cases; what is exhaustive stays whole. `all` runs every
-group that this build links. There is no sample of gaps, pcap and fcs, and neither
-sample nor bench of bytes and vectors.
+GROUP is codec, names, plan, order, import, tolerant, gaps, pcap, fcs, bytes, sizes or
+vectors. --size is the number of random cases; what is exhaustive stays whole. `all` runs
+every group that this build links. There is no sample of gaps, pcap, fcs and sizes, and
+neither sample nor bench of bytes and vectors.
 PROGRAM is the built traceprint.
 
 `bench` times the rows of a group, `bench growth` how the times of import grow,
 `bench gaps` how long the signs take as a part of import, `bench adapters` one handle
 on many adapters against as many links that are spread over handles, `bench pcap` the
 same packets in pcap and in btsnoop, `bench fcs` import with the FCS checked against
-import without.
+import without, `bench sizes` the sizes of a file against its import.
 --only takes the rows, or of selfcheck the faults, whose label has TEXT, --kib the sizes
 of the files of import (16 to 1024), and --judge says at the end which rows are over
 their limit. `once` imports the trace of a row --times times and does nothing else; with the FCS checked or
-as pcap, if LABEL begins with `fcs` or `pcap`.";
+as pcap, if LABEL begins with `fcs` or `pcap`; or tells its sizes, if LABEL begins with `sizes`.";
 
 /// What the command line says besides the command.
 pub struct Options {
@@ -136,7 +138,7 @@ fn cases(counts: &[u64]) -> String {
 
 pub type Group = fn(&dyn Subject, &Options) -> Checked;
 
-const GROUPS: [(&str, Group); 11] = [
+const GROUPS: [(&str, Group); 12] = [
     ("codec", codec::run),
     ("names", names::run),
     ("plan", plan::run),
@@ -147,6 +149,7 @@ const GROUPS: [(&str, Group); 11] = [
     ("pcap", containers::run),
     ("fcs", sums::run),
     ("bytes", bytes::run),
+    ("sizes", sizes::run),
     ("vectors", vectors::run),
 ];
 
@@ -262,6 +265,7 @@ fn run() -> Result<bool, String> {
                 "growth" => &["import"],
                 "adapters" => &["import", "gaps"],
                 "pcap" | "fcs" => &["import", "pcap"],
+                "sizes" => &["sizes", "pcap"],
                 _ => &[group],
             };
             calls.iter().try_for_each(|call| need(call))?;
@@ -269,7 +273,11 @@ fn run() -> Result<bool, String> {
         }
         ["once", label, kib] => {
             let by_options = ["pcap ", "fcs "].iter().any(|word| label.starts_with(word));
-            need(if by_options { "pcap" } else { "import" })?;
+            need(match label.starts_with("sizes ") {
+                true => "sizes",
+                false if by_options => "pcap",
+                false => "import",
+            })?;
             bench::once(label, size(kib)?, subject, &options).map(|()| true)
         }
         ["sample", group, path] => {

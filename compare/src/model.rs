@@ -132,6 +132,10 @@ impl Subject for Model {
         let answer = gaps::answer_in(container(options), file, work.len(), chosen(options).tolerant, gaps::RIGHT);
         store(&answer, &mut [], values)
     }
+
+    fn sizes_with(&self, file: &[u8], work: &mut [u8], options: &[u64], values: &mut [u64]) -> u32 {
+        store(&sizes_with(file, work.len(), options, RIGHT), &mut [], values)
+    }
 }
 
 /// How 01 is read in the places where it warns of another reading. Only `RIGHT` is
@@ -1153,4 +1157,45 @@ pub fn import_from(container: Container, file: &[u8], work: usize, asked: Asked,
         return Answer::imported(values, (reading.account.told)(&fates), list);
     }
     Answer::refused(6, &[])
+}
+
+/// What a file with a good header has: whole records, skipped ones too; the packets with all fields; the PDUs they
+/// complete; and the pieces of every DLCI and channel, with the FCS checked or not.
+pub struct Lists<'a> {
+    pub records: usize,
+    pub packets: Vec<Packet<'a>>,
+    pub pdus: Vec<Pdu>,
+    pub pieces: Vec<Piece>,
+}
+
+impl Lists<'_> {
+    /// How many records, PDUs and pieces there are.
+    pub fn counts(&self) -> [u64; 3] {
+        [self.records, self.pdus.len(), self.pieces.len()].map(|many| many as u64)
+    }
+}
+
+pub fn lists(container: Container, file: &[u8], checks: bool, reading: Reading) -> Lists<'_> {
+    let records = match container {
+        Container::Btsnoop => records(&file[16..]).0.len(),
+        Container::Pcap => pcap::read(file, reading.pcap).0.len(),
+    };
+    let packets = packets(container, file, reading).0;
+    let pdus = pdus(&packets, reading);
+    let pieces = frames(&pdus, checks, reading).0;
+    Lists { records, packets, pdus, pieces }
+}
+
+/// The length of the list that import by these options would write, and how many records, PDUs and pieces the file has.
+/// Refused as import is, but for want of an output.
+pub fn sizes_with(file: &[u8], work: usize, options: &[u64], reading: Reading) -> Answer {
+    sizes_from(container(options), file, work, chosen(options), reading)
+}
+
+pub fn sizes_from(container: Container, file: &[u8], work: usize, asked: Asked, reading: Reading) -> Answer {
+    let import = import_from(container, file, work, asked, reading);
+    match import.number {
+        0 => import.sizes(lists(container, file, asked.checks, reading).counts()),
+        _ => import,
+    }
 }

@@ -6,11 +6,12 @@ use crate::expected::LONGEST_FILE;
 use crate::misfiled::{self, Change, Misfiled, Store};
 use crate::misplaced;
 use crate::misread::{self, Misread};
+use crate::missized::{self, Missized};
 use crate::misspelt;
 use crate::missummed;
 use crate::mistaken::{self, RANDOM};
 use crate::model::{self, Reading, Spelling, RIGHT, SPELT};
-use crate::{bytes, containers, import, names, plan, signs, sums, tolerant, Group, Options};
+use crate::{bytes, containers, import, names, plan, signs, sizes, sums, tolerant, Group, Options};
 
 /// The model with some of its calls replaced.
 #[derive(Clone, Copy)]
@@ -44,6 +45,8 @@ struct Planted {
     gaps: Misread,
     /// The calls that take a container.
     misfiled: Misfiled,
+    /// The call that tells sizes.
+    missized: Missized,
 }
 
 fn read(file: &[u8], work: usize, channel: u32, tolerant: bool, reading: Reading) -> Answer {
@@ -77,6 +80,7 @@ const NONE: Planted = Planted {
     spoils_with: false,
     gaps: misread::NONE,
     misfiled: misfiled::NONE,
+    missized: missized::NONE,
 };
 
 fn by_options(file: &[u8], work: usize, asked: Asked) -> Answer {
@@ -197,6 +201,10 @@ impl Subject for Planted {
         self.misfiled.gaps(file, work, options, values)
     }
 
+    fn sizes_with(&self, file: &[u8], work: &mut [u8], options: &[u64], values: &mut [u64]) -> u32 {
+        self.missized.call(self.reading, file, work, options, values)
+    }
+
     fn gaps(&self, file: &[u8], work: &mut [u8], tolerant: u32, values: &mut [u64]) -> u32 {
         self.gaps.call(file, work, tolerant != 0, values)
     }
@@ -221,7 +229,7 @@ const FRAGMENTS: &str = "import, every three fragments of two PDUs";
 const CID_1: &str = "import, every four PDUs on CID 1";
 const STRICT: &str = "tolerant, switched to strict";
 const LARGE: &str = "import, long files";
-const PARTS: [(&str, Group); 41] = [
+const PARTS: [(&str, Group); 46] = [
     (misspelt::TYPES, names::run_types),
     (misspelt::ABOUT, names::run_about),
     (misspelt::JOINS, names::run_joins),
@@ -263,6 +271,11 @@ const PARTS: [(&str, Group); 41] = [
     (misplaced::STEPS, bytes::run_steps),
     (misplaced::RANDOM, bytes::run_random),
     (misplaced::LAW, bytes::run_law),
+    (missized::BY_HAND, sizes::run_by_hand),
+    (missized::RANDOM, sizes::run_random),
+    (missized::HONEST, sizes::run_honest),
+    (missized::LONG, sizes::run_long),
+    (missized::LAW, sizes::run_law),
 ];
 
 const EXCESS: Planted = Planted { reading: Reading { excess_dropped: false, ..RIGHT }, ..NONE };
@@ -1246,6 +1259,39 @@ fn faults_of_bytes() -> Vec<(&'static str, String, Planted)> {
     faults
 }
 
+/// Import that does not write what the sizes tell: it refuses an output of exactly what is needed, wants other bytes, or
+/// takes a byte less.
+fn faults_of_needed() -> Vec<(&'static str, String, Planted)> {
+    let stores: [(&str, Store); 3] = [
+        ("7 for an exact output", |answer, out, values| {
+            let exact = answer.number == 0 && answer.written.len() == out.len();
+            let refused = Answer::refused(7, &[out.len() as u64]);
+            model::store(if exact { &refused } else { answer }, out, values)
+        }),
+        ("7 carries a byte more", |answer, out, values| {
+            let number = model::store(answer, out, values);
+            if let (7, Some(needed)) = (number, values.first_mut()) {
+                *needed += 1;
+            }
+            number
+        }),
+        ("an output of a byte less is filled", |answer, out, values| {
+            let short = answer.number == 0 && answer.written.len() == out.len() + 1;
+            if !short {
+                return model::store(answer, out, values);
+            }
+            out.copy_from_slice(&answer.written[..out.len()]);
+            model::store(&Answer::done(&answer.values, Vec::new()), &mut [], values)
+        }),
+    ];
+    let each = |(label, store_with): (&str, Store)| {
+        let label = format!("sizes: import: {label}");
+        [missized::BY_HAND, missized::RANDOM, missized::HONEST, missized::LAW]
+            .map(|part| (part, label.clone(), Planted { store_with, ..NONE }))
+    };
+    stores.into_iter().flat_map(each).collect()
+}
+
 /// The answer of the call with options, changed if it has this number.
 fn of_pcap(
     reading: Reading,
@@ -1309,6 +1355,9 @@ fn all() -> Vec<(&'static str, String, Planted)> {
     let importers = misplaced::importers().into_iter();
     all.extend(importers.map(|(group, label, reading)| (group, label, Planted { reading, ..NONE })));
     all.extend(faults_of_bytes());
+    let missized = missized::faults().into_iter();
+    all.extend(missized.map(|(group, label, missized)| (group, label, Planted { missized, ..NONE })));
+    all.extend(faults_of_needed());
     all
 }
 

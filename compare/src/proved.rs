@@ -24,6 +24,7 @@ pub fn has(group: &str) -> bool {
         ("pcap", cfg!(feature = "pcap")),
         // The switch is one of the options.
         ("fcs", cfg!(feature = "pcap")),
+        ("sizes", cfg!(feature = "sizes")),
         // What imports.
         ("bytes", cfg!(all(feature = "import", feature = "pcap"))),
         // What the cases call.
@@ -85,6 +86,9 @@ call!("pcap", lumbryth_records_with(
     file: *const u8, file_len: usize, starts: *mut u64, starts_len: usize, options: *const u64, options_len: usize,
     values: *mut u64, values_len: usize));
 call!("pcap", lumbryth_gaps_with(
+    file: *const u8, file_len: usize, work: *mut u8, work_len: usize, options: *const u64, options_len: usize,
+    values: *mut u64, values_len: usize));
+call!("sizes", lumbryth_sizes_with(
     file: *const u8, file_len: usize, work: *mut u8, work_len: usize, options: *const u64, options_len: usize,
     values: *mut u64, values_len: usize));
 
@@ -338,11 +342,30 @@ impl Subject for Proved {
         }
     }
 
+    fn sizes_with(&self, file: &[u8], work: &mut [u8], options: &[u64], values: &mut [u64]) -> u32 {
+        unsafe {
+            lumbryth_sizes_with(
+                file.as_ptr(),
+                file.len(),
+                work.as_mut_ptr(),
+                work.len(),
+                options.as_ptr(),
+                options.len(),
+                values.as_mut_ptr(),
+                values.len(),
+            )
+        }
+    }
+
     fn has_stretches(&self) -> bool {
         has("stretches")
     }
 
     fn takes_container(&self) -> bool {
         has("pcap")
+    }
+
+    fn has_sizes(&self) -> bool {
+        has("sizes")
     }
 }

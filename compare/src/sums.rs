@@ -6,7 +6,7 @@ use crate::codec::each_string;
 use crate::containers::ByContainer;
 use crate::expected::{self, LONGEST_FILE};
 use crate::fcs;
-use crate::import::{self, ack, sequences, Taker};
+use crate::import::{self, ack, sequences};
 use crate::items;
 use crate::model::BY_02;
 use crate::pcap::{self, FORMS};
@@ -23,6 +23,26 @@ pub struct Switch<'a> {
     turn: usize,
 }
 
+/// Takes the files of both containers that generators make.
+pub trait Both {
+    /// A file of one container.
+    fn one(&mut self, container: Container, file: &[u8], channel: u32) -> Checked;
+
+    /// How many btsnoop files there were.
+    fn turn(&mut self) -> &mut usize;
+
+    /// The btsnoop file, and if it has a header the same packets as pcap.
+    fn file(&mut self, file: &[u8], channel: u32) -> Checked {
+        self.one(Container::Btsnoop, file, channel)?;
+        if file.len() < 16 {
+            return Ok(());
+        }
+        *self.turn() += 1;
+        let form = FORMS[*self.turn() % 4];
+        self.one(Container::Pcap, &pcap::of_btsnoop(file, form), channel)
+    }
+}
+
 impl<'a> Switch<'a> {
     pub fn new(subject: &'a dyn Subject) -> Switch<'a> {
         let [btsnoop, pcap] =
@@ -35,9 +55,10 @@ impl<'a> Switch<'a> {
         let [one, other] = [self.btsnoop.answers(), self.pcap.answers()];
         std::array::from_fn(|number| one[number] + other[number])
     }
+}
 
-    /// A file of one container.
-    pub fn one(&mut self, container: Container, file: &[u8], channel: u32) -> Checked {
+impl Both for Switch<'_> {
+    fn one(&mut self, container: Container, file: &[u8], channel: u32) -> Checked {
         let calls = match container {
             Container::Btsnoop => &mut self.btsnoop,
             Container::Pcap => &mut self.pcap,
@@ -46,17 +67,9 @@ impl<'a> Switch<'a> {
             calls.imported(file, channel, &expected::by_both_rules(container, file, channel))
         })
     }
-}
 
-impl Taker for Switch<'_> {
-    /// The btsnoop file, and if it has a header the same packets as pcap.
-    fn file(&mut self, file: &[u8], channel: u32) -> Checked {
-        self.one(Container::Btsnoop, file, channel)?;
-        if file.len() < 16 {
-            return Ok(());
-        }
-        self.turn += 1;
-        self.one(Container::Pcap, &pcap::of_btsnoop(file, FORMS[self.turn % 4]), channel)
+    fn turn(&mut self) -> &mut usize {
+        &mut self.turn
     }
 }
 
@@ -352,7 +365,7 @@ fn found(answer: &Answer) -> Known {
 }
 
 /// The made traces; with `cuts` each beginning of them too.
-fn by_hand(calls: &mut Switch, cuts: bool) -> Checked {
+pub fn by_hand(calls: &mut dyn Both, cuts: bool) -> Checked {
     for (turn, made) in [forms(), ends(), between(), choices(), untried()].into_iter().flatten().enumerate() {
         let adapters = made.steps.iter().any(|step| step.pair.0 != 0);
         let mut trace = Trace::new(if adapters { 2001 } else { trace::DATALINKS[turn % 3] });
@@ -373,7 +386,7 @@ fn by_hand(calls: &mut Switch, cuts: bool) -> Checked {
 }
 
 /// A wrong frame in fragments, cut at every two places, behind a good one: its control stands in any of them.
-fn in_fragments(calls: &mut Switch) -> Checked {
+pub fn in_fragments(calls: &mut dyn Both) -> Checked {
     for credit in [None, Some(5)] {
         let pdu = l2cap(0x41, &wrong(uih(18, &ack(2), credit, true)));
         for one in 0..=pdu.len() {
@@ -393,7 +406,7 @@ fn in_fragments(calls: &mut Switch) -> Checked {
 // ---- every few steps, every short frame
 
 /// Every sequence of `n` steps with right and wrong FCS bytes, and a frame behind them.
-fn steps(calls: &mut Switch, n: usize) -> Checked {
+pub fn steps(calls: &mut dyn Both, n: usize) -> Checked {
     let wire = ack(1);
     let alphabet = [
         sent(data(&wire[..5])),
@@ -416,7 +429,7 @@ fn steps(calls: &mut Switch, n: usize) -> Checked {
 }
 
 /// Every RFCOMM frame of up to `n` bytes over those that matter, FCS bytes among them, between the halves of a frame.
-fn short_frames(calls: &mut Switch, n: usize) -> Checked {
+pub fn short_frames(calls: &mut dyn Both, n: usize) -> Checked {
     let wire = ack(1);
     let mut start = Trace::new(2001);
     take(&mut start, &sent(data(&wire[..5])));
@@ -437,7 +450,7 @@ fn short_frames(calls: &mut Switch, n: usize) -> Checked {
 
 // ---- random files, and full ones
 
-fn random(calls: &mut Switch, rng: &mut Rng, size: u64) -> Checked {
+pub fn random(calls: &mut dyn Both, rng: &mut Rng, size: u64) -> Checked {
     for i in 0..size {
         for container in [Container::Btsnoop, Container::Pcap] {
             let (trace, channel) = trace::structured_in(rng, container, if i % 100 == 0 { 600 } else { 60 });
@@ -447,7 +460,7 @@ fn random(calls: &mut Switch, rng: &mut Rng, size: u64) -> Checked {
     Ok(())
 }
 
-fn damaged(calls: &mut Switch, rng: &mut Rng, size: u64) -> Checked {
+pub fn damaged(calls: &mut dyn Both, rng: &mut Rng, size: u64) -> Checked {
     for _ in 0..size / 4 {
         for container in [Container::Btsnoop, Container::Pcap] {
             let (trace, channel) = trace::structured_in(rng, container, 30);
@@ -479,7 +492,7 @@ fn full(length: usize, pieces: bool) -> Vec<u8> {
 }
 
 /// Files of many lengths that have the most wrong frames.
-fn most(calls: &mut Switch, longest: usize) -> Checked {
+pub fn most(calls: &mut dyn Both, longest: usize) -> Checked {
     for pieces in [false, true] {
         for length in (16..=longest).step_by(7).chain([LONGEST_FILE / 8, LONGEST_FILE]) {
             calls.one(Container::Btsnoop, &full(length, pieces), NO_CHANNEL)?;

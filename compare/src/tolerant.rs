@@ -37,7 +37,7 @@ const SCALES: [Scale; 4] = [
 ];
 
 /// The FCS bytes of recordings, in turn.
-const KINDS: [Sums; 3] = [Sums::Right, Sums::Noisy, Sums::Chance];
+pub const KINDS: [Sums; 3] = [Sums::Right, Sums::Noisy, Sums::Chance];
 
 /// What is called with a recording and a cut of it.
 type Cut<'a> = dyn FnMut(&Honest, usize) -> Checked + 'a;

@@ -4,10 +4,11 @@
 use std::collections::BTreeMap;
 use std::path::PathBuf;
 
-use crate::answer::{Answer, Asked, Checked, Container, Difference, Subject, NO_CHANNEL, VALUES};
+use crate::answer::{Answer, Asked, Checked, Container, Difference, Subject, NO_CHANNEL, SIZES, VALUES};
 use crate::expected;
 use crate::import::{Import, Rule};
 use crate::model::{self, RIGHT};
+use crate::sizes::Sizes;
 use crate::Options;
 
 /// All files have to be there, also those of calls that are not run.
@@ -154,6 +155,9 @@ struct Tally {
     lost: [u64; 3],
     /// How many told the number of records.
     records: u64,
+    /// How many the sizes were held to: those that tell them, those that tell the list alone, those that are refused by 1 to
+    /// 6, 21 or 22, and those that are refused by 7.
+    sizes: [u64; 4],
     passed: BTreeMap<String, u64>,
 }
 
@@ -173,6 +177,7 @@ impl Tally {
 struct Vectors<'a> {
     subject: &'a dyn Subject,
     imports: Vec<Import<'a>>,
+    sizes: Sizes<'a>,
     tally: Tally,
 }
 
@@ -200,8 +205,41 @@ impl Vectors<'_> {
             };
             checked.map_err(|found| line.differs(&found.call, found.expected, found.got))?;
         }
+        if self.subject.has_sizes() {
+            self.sizes(line, &file, channel, &told, lent.0)?;
+        }
         Ok(())
     }
+
+    /// The sizes that the case tells, or those by its list or by what 7 carries, or its refusal; what it does not tell is the
+    /// model's. With any room for values, and with less work.
+    fn sizes(&mut self, line: &Line, file: &[u8], channel: u32, told: &Answer, work: Option<usize>) -> Checked {
+        let (container, asked) =
+            (line.container(), Asked { channel, tolerant: line.tolerant(), checks: line.checks() });
+        let work = work.unwrap_or(8 * file.len());
+        let expected = model::sizes_from(container, file, work, asked, RIGHT);
+        let (way, agrees) = match (told.number, sizes(line)) {
+            (0, Some(sizes)) => (0, expected == Answer::done(&sizes, Vec::new())),
+            (0, None) => (1, expected.number == 0 && expected.values[0] == told.written.len() as u64),
+            (7, _) => (3, expected.number == 0 && expected.values[..1] == told.values),
+            _ => (2, expected == *told),
+        };
+        self.tally.sizes[way] += 1;
+        if !agrees {
+            return Err(line.differs("the model's sizes", line.answer.to_string(), format!("{expected:?}")));
+        }
+        let mut rooms = 0..=SIZES + 1;
+        let held = rooms.try_for_each(|room| self.sizes.call(container, file, asked, work, room, &expected));
+        let checked = held.and_then(|()| self.sizes.less(container, file, asked, &expected));
+        checked.map_err(|found| line.differs(&found.call, found.expected, found.got))
+    }
+}
+
+/// The sizes that a line tells, if it does.
+fn sizes(line: &Line) -> Option<[u64; SIZES]> {
+    let words: Vec<&str> = line.answer.split(' ').collect();
+    let at = words.iter().position(|word| *word == "sizes")?;
+    Some(std::array::from_fn(|i| words[at + 1 + i].parse().expect("a number")))
 }
 
 impl Vectors<'_> {
@@ -287,7 +325,7 @@ pub fn run(subject: &dyn Subject, options: &Options) -> Checked {
             imports.extend([Rule::Strict, Rule::Tolerant].map(|rule| Import::by_container(subject, rule, container)));
         }
     }
-    let mut vectors = Vectors { subject, imports, tally: Tally::default() };
+    let mut vectors = Vectors { subject, imports, sizes: Sizes::new(subject), tally: Tally::default() };
     for file in FILES {
         let path = directory().join(file);
         let text = std::fs::read_to_string(&path)
@@ -304,7 +342,7 @@ pub fn run(subject: &dyn Subject, options: &Options) -> Checked {
             name = UNNAMED;
         }
     }
-    let Tally { run, pcap, checked, wrong, bytes, lost, records, passed } = vectors.tally;
+    let Tally { run, pcap, checked, wrong, bytes, lost, records, sizes, passed } = vectors.tally;
     if run.is_empty() {
         return Err(unusable("cases to run", "none".into()));
     }
@@ -321,6 +359,11 @@ pub fn run(subject: &dyn Subject, options: &Options) -> Checked {
         println!(
             "vectors: where the bytes went as {bytes} cases tell it, {dropped} with some dropped, {cleared} with some \
              cleared, {left} with some left"
+        );
+        let [told, list, refused, short] = sizes;
+        println!(
+            "vectors: sizes as {told} cases tell them, {list} by the list alone, {refused} that are refused likewise, {short} \
+             by what 7 carries"
         );
         let total: u64 = passed.values().sum();
         let reasons = passed.iter().map(|(why, n)| format!("{why} {n}")).collect();

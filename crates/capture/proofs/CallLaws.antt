@@ -1,15 +1,16 @@
--- From the passes to the call: each refusal, and what is read where none is met.
-use Rattle.std.specs.Prelude.{Result, Ok, Err}
-use Prim.Native.Nat.{ℕ}
-use mathlib.Core.Path.{◌≡◌, refl, sym, ◌∙◌}
-use mathlib.Core.Bool.{false, ◌&&◌}
+-- From the passes to the calls: each refusal, what is found where none is met, and what import and sizes make of it.
+use Rattle.std.specs.Prelude.{Result, Ok, Err, None, ok_or}
+use Rattle.std.specs.Result.{result_ok}
+use Prim.Native.Nat.{ℕ, ◌<◌, ◌≤◌}
+use mathlib.Core.Path.{◌≡◌, refl, sym, ap, ◌∙◌}
 use mathlib.Core.List.{List, [], ◌∷◌}
+use native.Mathlib.Omega.{arith}
 use lib.ListN.{length, get_or}
 use Rattle.laws.proofs.Choice.{no_way}
-use Rattle.laws.specs.Answers.{accepted, refused, Meets}
-use Rattle.laws.proofs.Answers.{meets_refused, meets_as}
+use Rattle.laws.specs.Answers.{Answer, accepted, refused, Meets}
+use Rattle.laws.specs.Stores.{Writes}
+use Rattle.laws.proofs.Answers.{meets_refused, meets_short, meets_wrote}
 use Rattle.trace.specs.Formats.{container_of, format_of}
-use Rattle.trace.specs.Headers.{told_refusal}
 use Rattle.trace.proofs.Formats.{lawful}
 use Rattle.trace.specs.declared.Container.{Container}
 use Rattle.trace.specs.declared.Refusal.{Refusal}
@@ -22,111 +23,152 @@ use Rattle.l2cap.specs.PduTable.{Reassembled}
 use Rattle.channels.specs.Passing.{ReadChannels}
 use Rattle.gathering.specs.Gathering.{ReadPieces}
 use Rattle.gathering.specs.declared.Gathered.{Gathered}
-use Rattle.std.specs.Prelude.{Ok, Err, IsErrAnd}
-use Rattle.streams.specs.Streams.{told, ListsSpans, Listed}
-use Rattle.streams.specs.declared.ListError.{ListError}
-use Rattle.streams.specs.declared.ListError.TheVariants.{NoStream as NoneListed, OutShort as ListShort}
+use Rattle.streams.specs.Streams.{ChoosesStream, Choice, kept_list, WriteListPre}
 use Rattle.streams.specs.declared.Stream.{Stream}
-use Rattle.outcome.specs.Import.{read, given, fits, work_suffices, imported}
+use Rattle.outcome.specs.Import.{imported}
 use Rattle.outcome.specs.Import as import
+use Rattle.outcome.specs.Sizes.{sizes, sized}
+use Rattle.outcome.proofs.Sizes.{foretells}
 use Rattle.cut.proofs.Theorem.{cut_claim}
+use Rattle.cut.proofs.SizesLeft.{sizes_claim}
 use Rattle.opening.specs.Opening.{opened, Opens}
 use Rattle.opening.proofs.AsImport.{or_given, import_opened, opened_sized}
 use Rattle.opening.specs.declared.Opened.{Opened}
 use Rattle.capture.specs.Options.{options_of}
-use Rattle.capture.specs.Calls.{told_imported, unlisted, Imported, Imports, Left, PacketsMeet}
-use Rattle.capture.specs.Passes.{count_of, Passes}
-use Rattle.capture.specs.declared.ImportError.{ImportError}
-use Rattle.capture.specs.declared.ImportError.TheVariants.{Refused}
+use Rattle.capture.specs.Calls.{told_find_error, list_on, with_list, Stands, Finds, PacketsFind, unfound, told_imported, Imported, Left, Imports, told_sizing, Sizing}
+use Rattle.capture.specs.Passes.{Passes}
+use Rattle.capture.specs.declared.FindError.{FindError}
+use Rattle.capture.specs.declared.FindError.TheVariants.{Refused, NoStream}
+use Rattle.capture.specs.declared.ImportError.TheVariants.{OutShort}
 use Rattle.capture.specs.declared.Options.{Options}
-use Rattle.capture.proofs.PassLaws.{composed, left_file}
-
--- ---- what is left in work
-
-left_none : (b : Container) (f : List ℕ) (o : import.Options) (e : ImportError) (u : List ℕ) → Left b f o (Err e) u
-left_none b f o e u = record { at = λ s g. no_way refl cc }
+use Rattle.capture.specs.declared.Summary.{Summary}
+use Rattle.capture.specs.declared.Sizes.{Sizes}
+use Rattle.capture.proofs.PassLaws.{passed_none, passed_some}
 
 -- ---- from the packets on
-
-told_none : (tail : ℕ) (wrongs : ℕ → ℕ) (e : ListError) → told_imported (Err (unlisted e)) ≡ told tail wrongs (Err e)
-unfolding told
-told_none tail wrongs NoneListed = refl
-told_none tail wrongs (ListShort n) = refl
 
 module _
     (f w : List ℕ) (p : Packets) (o : Options) (rp : ReadTo (format_of o.container f) f w p) (v : List ℕ) (made : ℕ) (ra : Reassembled f v made (pdus (packets_from f w 0 p.count)))
     (x : List ℕ) (rows : ℕ) (rc : ReadChannels f v made x rows) (u : List ℕ) (g : Gathered) (rps : ReadPieces o.fcs f x made u g)
-    (out : List ℕ) (l : Listed) (y out' : List ℕ) (ls : ListsSpans f u g.pieces o.channel out l y out') where
-  passes : Passes f o p out g l out'
+    (y : List ℕ) (c : Choice) (cs : ChoosesStream f u g.pieces o.channel y c) (l : Result Stream FindError) (z : c ≡ result_ok l) (k : l ≡ ok_or c NoStream) where
+  passes : Passes f o p made g c y
   passes = record {
     w₁ = w;
     w₂ = v;
     w₃ = x;
     w₄ = u;
-    w₅ = y;
-    made = made;
     rows = rows;
     read_packets = rp;
     reassemble = ra;
     read_channels = rc;
     read_pieces = rps;
-    list_spans = ls;
+    choose_stream = cs;
   }
 
-  pub packets_none : (e : ListError) → l ≡ Err e → (r : Imported) → IsErrAnd r (λ z. z ≡ unlisted e) → PacketsMeet o.container f (options_of o) out r y out'
-  packets_none e q (Ok s) k = absurd k
-  packets_none e q (Err z) k =
-      rw k (record {
-        meets = rw (told_none p.tail (count_of g.wrong) e, ← q) (composed f o p out g l out' passes).meets;
-        left = left_none o.container f (options_of o) (unlisted e) y;
-      })
+  pub packets_none : (e : FindError) → l ≡ Err e → PacketsFind o.container f (options_of o) (Err e) y
+  packets_none e q =
+      let n : c ≡ None = z ∙ ap result_ok q in
+      let i : e ≡ NoStream = (let j : ◌≡◌ {A = Result Stream FindError} (Err e) (Err NoStream) = sym q ∙ k ∙ ap (λ (y : Choice). ok_or y NoStream) n in cc) in
+      rw i (passed_none f o p made g c y passes n)
 
-  pub packets_read : (s : Stream) → l ≡ Ok s → (n : ℕ) → n ≡ get_or g.wrong s.dlci 0 → PacketsMeet o.container f (options_of o) out (Ok (record { stream = s; pieces = g.pieces; tail = p.tail; wrong = n })) y out'
-  unfolding told passes
-  packets_read s q n en = record {
-    meets = rw en (rw q at (composed f o p out g l out' passes).meets);
-    left = record { at = λ t k. (let i : t.stream ≡ s = cc in let h : t.pieces ≡ g.pieces = cc in rw (i, h) (left_file f o p out g l out' passes s q)) };
-  }
+  pub packets_some : (s : Stream) → l ≡ Ok s → (n : ℕ) → n ≡ get_or g.wrong s.dlci 0 → PacketsFind o.container f (options_of o) (Ok (record { stream = s; records = p.records; pdus = made; pieces = g.pieces; tail = p.tail; wrong = n })) y
+  packets_some s q n en = passed_some f o p made g c y passes s (z ∙ ap result_ok q) n en
 
--- ---- the call
+-- ---- what is found
 
-pub import_needs : (b : Container) (f w : List ℕ) (t : import.Tail) (x : Result Opened Refusal) (v : List ℕ) → Opens b f w t x v → (o : Opened) → x ≡ Ok o → ReadTo (format_of b f) f v o.packets
-import_needs b f w t x v op o e = let r = op.read o e in rw r.says at r.reads
+pub find_needs : (b : Container) (f w : List ℕ) (t : import.Tail) (x : Result Opened Refusal) (v : List ℕ) → Opens b f w t x v → (o : Opened) → x ≡ Ok o → ReadTo (format_of b f) f v o.packets
+find_needs b f w t x v op o e = let r = op.read o e in rw r.says at r.reads
+
+-- a refusal is told by a number and values
+record Refusing (a : Answer) : Type 0 where
+  number : ℕ
+  values : List ℕ
+  is : a ≡ refused number values
+
+refusing : (e : FindError) → Refusing (told_find_error e)
+refusing (Refused FileLong) = record { number = 1; values = []; is = refl }
+refusing (Refused WorkShort) = record { number = 2; values = []; is = refl }
+refusing (Refused NotBtsnoop) = record { number = 3; values = []; is = refl }
+refusing (Refused (Datalink n)) = record { number = 4; values = n ∷ []; is = refl }
+refusing (Refused NotPcap) = record { number = 21; values = []; is = refl }
+refusing (Refused (LinkType n)) = record { number = 22; values = n ∷ []; is = refl }
+refusing (Refused (Truncated n)) = record { number = 5; values = n ∷ []; is = refl }
+refusing NoStream = record { number = 6; values = []; is = refl }
 
 -- a trace opened so
-module _ (b : Container) (f w : List ℕ) (o : import.Options) (out : List ℕ) (x : Result Opened Refusal) (v : List ℕ) (op : Opens b f w o.tail x v) where
-  imports_by :
-      (r : Imported) (w' out' : List ℕ) → Meets (imported (container_of b) f (length w) o) out (told_imported r) out' →
-      ((fits f && work_suffices f (length w)) ≡ false → w' ≡ w) → Left b f o r w' → Imports b f w o out r w' out'
-  imports_by r w' out' m s t = record { meets = m; spared = s; left = t; cut = cut_claim (lawful b) f (length w) o out (told_imported r) out' m }
-
-  -- it is refused, and import in the same words
-  by_refusal : (y : Refusal) (n : ℕ) (vs : List ℕ) → x ≡ Err y → told_refusal y ≡ refused n vs → Meets (imported (container_of b) f (length w) o) out (told_refusal y) out
+module _ (b : Container) (f w : List ℕ) (o : import.Options) (x : Result Opened Refusal) (v : List ℕ) (op : Opens b f w o.tail x v) where
+  pub find_refused : (y : Refusal) → x ≡ Err y → Finds b f w o (Err (Refused y)) v
   unfolding or_given
-  by_refusal y n vs e q =
-      rw q (meets_refused (imported (container_of b) f (length w) o) out n vs (import_opened (container_of b) f (length w) o ∙ rw (← op.answers, e, q)))
-
-  refusal_meets : (y : Refusal) → x ≡ Err y → Meets (imported (container_of b) f (length w) o) out (told_refusal y) out
-  refusal_meets FileLong e = by_refusal FileLong 1 [] e refl
-  refusal_meets WorkShort e = by_refusal WorkShort 2 [] e refl
-  refusal_meets NotBtsnoop e = by_refusal NotBtsnoop 3 [] e refl
-  refusal_meets (Datalink n) e = by_refusal (Datalink n) 4 (n ∷ []) e refl
-  refusal_meets NotPcap e = by_refusal NotPcap 21 [] e refl
-  refusal_meets (LinkType n) e = by_refusal (LinkType n) 22 (n ∷ []) e refl
-  refusal_meets (Truncated n) e = by_refusal (Truncated n) 5 (n ∷ []) e refl
-
-  pub import_refused : (y : Refusal) → x ≡ Err y → Imports b f w o out (Err (Refused y)) v out
-  import_refused y e = imports_by (Err (Refused y)) v out (refusal_meets y e) op.spared (left_none b f o (Refused y) v)
+  find_refused y e = record {
+    gives = import_opened (container_of b) f (length w) o ∙ rw (← op.answers, e, (refusing (Refused y)).is);
+    found = λ s k. no_way refl cc;
+    spared = op.spared;
+  }
 
   -- it is read
   module _ (t : Opened) (e : x ≡ Ok t) where
     reads : opened (container_of b) f (length w) o.tail ≡ accepted []
     reads = sym op.answers ∙ rw e
 
-    pub import_meets : (r : Imported) (w' out' : List ℕ) → PacketsMeet b f o out r w' out' → Imports b f w o out r w' out'
+    pub find_read : (r : Result Summary FindError) (w' : List ℕ) → PacketsFind b f o r w' → Finds b f w o r w'
     unfolding or_given
-    import_meets r w' out' m =
-        imports_by r w' out'
-        (meets_as (imported (container_of b) f (length w) o) (given (read (container_of b) f o)) out (import_opened (container_of b) f (length w) o ∙ rw reads) m.meets)
-        (λ h. no_way (opened_sized (container_of b) f (length w) o.tail [] reads) h)
-        m.left
+    find_read r w' m = record {
+      gives = import_opened (container_of b) f (length w) o ∙ rw reads m.gives;
+      found = m.found;
+      spared = λ h. no_way (opened_sized (container_of b) f (length w) o.tail [] reads) h;
+    }
+
+-- ---- import
+
+-- why nothing is found is why nothing is imported
+told_unfound : (e : FindError) → told_imported (Err (unfound e)) ≡ told_find_error e
+told_unfound (Refused y) = refl
+told_unfound NoStream = refl
+
+module _ (b : Container) (f w : List ℕ) (o : import.Options) (out : List ℕ) (x : Result Summary FindError) (v : List ℕ) (m : Finds b f w o x v) where
+  imports_by : (r : Imported) (out' : List ℕ) → Meets (imported (container_of b) f (length w) o) out (told_imported r) out' → Left b f o r v → Imports b f w o out r v out'
+  imports_by r out' y l = record { meets = y; spared = m.spared; left = l; cut = cut_claim (lawful b) f (length w) o out (told_imported r) out' y }
+
+  pub import_refused : (e : FindError) → x ≡ Err e → Imports b f w o out (Err (unfound e)) v out
+  import_refused e q =
+      let r = refusing e in
+      let g : imported (container_of b) f (length w) o ≡ with_list (told_find_error e) [] = rw q at m.gives in
+      imports_by (Err (unfound e)) out (rw (told_unfound e, r.is) (meets_refused _ out r.number r.values (rw r.is at g))) (record { at = λ s k. no_way refl cc })
+
+  module _ (s : Summary) (q : x ≡ Ok s) where
+    stands : Stands b f o s v
+    stands = m.found s q
+
+    pub import_short : length out < s.stream.bytes → Imports b f w o out (Err (OutShort s.stream.bytes)) v out
+    import_short h = imports_by (Err (OutShort s.stream.bytes)) out (meets_short _ out _ (list_on b f o s.stream.dlci) s.stream.bytes (rw q at m.gives) stands.needed h) (record { at = λ s k. no_way refl cc })
+
+    module _ (h : s.stream.bytes ≤ length out) where
+      same_list : kept_list f v s.pieces s.stream.dlci ≡ list_on b f o s.stream.dlci
+      same_list = rw stands.left.pieces
+
+      pub import_room : WriteListPre f v s.pieces s.stream.dlci out
+      import_room = record { kept = stands.left.kept; room = rw same_list (omega (arith, stands.needed)) }
+
+      pub import_written : (r : ℕ) (out' : List ℕ) → Writes out 0 (kept_list f v s.pieces s.stream.dlci) r out' → Imports b f w o out (Ok s) v out'
+      import_written r out' y =
+          imports_by (Ok s) out' (meets_wrote _ out _ (list_on b f o s.stream.dlci) r out' (rw q at m.gives) (omega (arith, stands.needed)) (rw same_list at y))
+          (record { at = λ t k. (let z : t ≡ s = cc in rw z stands.left) })
+
+-- ---- sizes
+
+module _ (b : Container) (f w : List ℕ) (o : import.Options) (x : Result Summary FindError) (v : List ℕ) (m : Finds b f w o x v) where
+  sizing_by : (r : Result Sizes FindError) → told_sizing r ≡ sized (container_of b) f (length w) o → Sizing b f w o r v
+  sizing_by r e = record {
+    answers = e;
+    spared = m.spared;
+    foretells = rw e (foretells (container_of b) f (length w) o);
+    cut = rw e (sizes_claim (lawful b) f (length w) o);
+  }
+
+  pub sizing_refused : (e : FindError) → x ≡ Err e → Sizing b f w o (Err e) v
+  unfolding sized sizes
+  sizing_refused e q = sizing_by (Err e) (rw (m.gives, q, (refusing e).is))
+
+  pub sizing_found : (s : Summary) → x ≡ Ok s → Sizing b f w o (Ok (record { needed = s.stream.bytes; records = s.records; pdus = s.pdus; pieces = s.pieces })) v
+  unfolding sized sizes
+  sizing_found s q = sizing_by (Ok (record { needed = s.stream.bytes; records = s.records; pdus = s.pdus; pieces = s.pieces })) (rw (m.gives, q, ← (m.found s q).needed, ← (m.found s q).counts))

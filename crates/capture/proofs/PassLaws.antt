@@ -1,55 +1,102 @@
 -- The passes of import fit together: what each needs is what those before it left, and together they read the file.
 use Prim.Native.Nat.{ℕ, ◌*◌, ◌/◌, ◌<◌}
-use mathlib.Core.Path.{◌≡◌, refl, ◌∙◌}
-use mathlib.Core.List.{List}
-use lib.ListN.{length}
-use Rattle.container.specs.Container.{packets_in}
+use mathlib.Core.Path.{◌≡◌, refl, sym, ap, ◌∙◌}
+use mathlib.Core.List.{List, [], ◌∷◌}
+use lib.ListN.{length, get_or}
+use Rattle.laws.proofs.Choice.{no_way}
+use Rattle.container.specs.Container.{packets_in, records, tail_offset}
 use Rattle.trace.specs.Formats.{container_of}
-use Rattle.trace.proofs.Formats.{packets_of_law, tail_of_law}
+use Rattle.trace.proofs.Formats.{packets_of_law, records_of, tail_of_law}
 use Rattle.packets.specs.declared.Packets.{Packets}
 use Rattle.l2cap.specs.Pdus.{pdus}
 use Rattle.l2cap.specs.PduTable.{pdus_from}
-use Rattle.rfcomm.specs.Pieces.{judged}
+use Rattle.l2cap.proofs.PduFrames.{length_pdus}
+use Rattle.rfcomm.specs.Pieces.{judged, Piece}
+use mathlib.Core.Option.{Option}
+use Rattle.rfcomm.proofs.PieceRows.{length_pieces}
 use Rattle.gathering.specs.declared.Gathered.{Gathered}
-use Rattle.outcome.specs.Import.{file_pieces, file_wrong, read}
-use Rattle.streams.specs.Streams.{channel_of, table_pieces, told, Leaves, Listed}
-use Rattle.std.specs.Prelude.{Ok, Err}
+use Rattle.outcome.specs.Import.{chosen, file_pieces, file_wrong, read}
+use Rattle.outcome.specs.Sizes.{counts}
+use Rattle.streams.specs.Streams.{channel_of, table_pieces, choice_of, Choice}
+use Rattle.streams.proofs.Listing.{given_none, given_some, list_needed}
 use Rattle.streams.specs.declared.Stream.{Stream}
-use Rattle.streams.specs.declared.ListError.TheVariants.{NoStream, OutShort}
+use Rattle.std.specs.Prelude.{Some, None, Ok, Err}
 use Rattle.capture.specs.Options.{options_of}
-use Rattle.capture.specs.Passes.{count_of, Passes, Composed}
+use Rattle.capture.specs.Calls.{Stands, PacketsFind}
+use Rattle.capture.specs.Passes.{count_of, Passes}
+use Rattle.capture.specs.declared.FindError.TheVariants.{NoStream}
 use Rattle.capture.specs.declared.Options.{Options}
+use Rattle.capture.specs.declared.Summary.{Summary}
 
--- a list is told by the wrong frames of its DLCI alone
-told_by : (tail : ℕ) (a b : ℕ → ℕ) (l : Listed) → ((s : Stream) → l ≡ Ok s → a s.dlci ≡ b s.dlci) → told tail a l ≡ told tail b l
-unfolding told
-told_by tail a b (Err NoStream) h = refl
-told_by tail a b (Err (OutShort n)) h = refl
-told_by tail a b (Ok s) h = rw (h s refl)
+module _ (f : List ℕ) (o : Options) (p : Packets) (made : ℕ) (g : Gathered) (c : Choice) (w' : List ℕ) (s : Passes f o p made g c w') where
+  abbrev all_pieces : List Piece
+  all_pieces = file_pieces (container_of o.container) (options_of o).judging f
 
-module _ (f : List ℕ) (o : Options) (p : Packets) (out : List ℕ) (g : Gathered) (l : Listed) (out' : List ℕ) (s : Passes f o p out g l out') where
+  abbrev wrongs : ℕ → ℕ
+  wrongs = file_wrong (container_of o.container) (options_of o).judging f
+
+  abbrev tail : ℕ
+  tail = tail_offset (container_of o.container) f
+
+  -- by the definition
+  abbrev dlci : Option ℕ
+  dlci = chosen (channel_of o.channel) all_pieces
+
   -- the PDUs in the table are the file's
-  file_pdus : pdus_from f s.w₃ (2 * (length f / 4)) 0 s.made ≡ pdus (packets_in (container_of o.container) f)
+  file_pdus : pdus_from f s.w₃ (2 * (length f / 4)) 0 made ≡ pdus (packets_in (container_of o.container) f)
   file_pdus = s.read_channels.signalled.pdus.list ∙ s.reassemble.list ∙ rw (s.read_packets.read.list, packets_of_law o.container f)
 
   -- and so are the pieces
-  file_pieces_law : table_pieces f s.w₄ g.pieces ≡ file_pieces (container_of o.container) (options_of o).judging f
+  file_pieces_law : table_pieces f s.w₄ g.pieces ≡ all_pieces
   unfolding file_pieces judged
   file_pieces_law = rw file_pdus at s.read_pieces.pieced.list
 
   -- and the wrong frames
-  file_wrong_law : (d : ℕ) → d < 64 → count_of g.wrong d ≡ file_wrong (container_of o.container) (options_of o).judging f d
+  file_wrong_law : (d : ℕ) → d < 64 → count_of g.wrong d ≡ wrongs d
   unfolding judged
   file_wrong_law d h = rw file_pdus at (s.read_pieces.wrongs d h)
 
-  pub composed : Composed f o p out g l out'
-  unfolding read
-  composed =
-      let t = s.read_packets.tail ∙ tail_of_law o.container f in
-      let wrongs : ℕ → ℕ = file_wrong (container_of o.container) (options_of o).judging f in
-      let same : told p.tail (count_of g.wrong) l ≡ told p.tail wrongs l = told_by p.tail (count_of g.wrong) wrongs l (λ x e. file_wrong_law x.dlci (s.list_spans.small x e)) in
-      record { meets = rw (same, t) (rw (file_pieces_law, t) at (s.list_spans.meets p.tail wrongs)) }
+  -- and how many there are of each
+  file_counts : p.records ∷ made ∷ g.pieces ∷ [] ≡ counts (container_of o.container) (options_of o).judging f
+  unfolding counts
+  file_counts =
+      let r : p.records ≡ length (records (container_of o.container) f) = s.read_packets.records ∙ ap length (records_of o.container f) in
+      let q : made ≡ length (pdus (packets_in (container_of o.container) f)) = sym (length_pdus f s.w₃ (2 * (length f / 4)) 0 made) ∙ ap length file_pdus in
+      let n : g.pieces ≡ length all_pieces = sym (length_pieces f s.w₄ (5 * (length f / 4)) 0 g.pieces) ∙ ap length file_pieces_law in
+      rw (← r, ← q, ← n)
 
-  -- what the last pass leaves of the DLCI chosen is of the file's pieces
-  pub left_file : (t : Stream) → l ≡ Ok t → Leaves f (file_pieces (container_of o.container) (options_of o).judging f) (channel_of o.channel) g.pieces s.w₅ t.dlci
-  left_file t e = rw file_pieces_law at (s.list_spans.left t e)
+  choice : c ≡ choice_of all_pieces dlci
+  choice = rw file_pieces_law at s.choose_stream.chooses
+
+  -- no DLCI is chosen
+  pub passed_none : c ≡ None → PacketsFind o.container f (options_of o) (Err NoStream) w'
+  unfolding read
+  passed_none e = record {
+    gives = given_none all_pieces dlci wrongs tail (sym e ∙ choice);
+    found = λ x k. no_way refl cc;
+  }
+
+  -- one is
+  module _ (x : Stream) (e : c ≡ Some x) (n : ℕ) (en : n ≡ get_or g.wrong x.dlci 0) where
+    wrong_is : n ≡ wrongs x.dlci
+    wrong_is = en ∙ file_wrong_law x.dlci (s.choose_stream.small x e)
+
+    tail_is : p.tail ≡ tail
+    tail_is = s.read_packets.tail ∙ tail_of_law o.container f
+
+    abbrev pub summary : Summary
+    summary = record { stream = x; records = p.records; pdus = made; pieces = g.pieces; tail = p.tail; wrong = n }
+
+    stands : Stands o.container f (options_of o) summary w'
+    stands = record {
+      needed = list_needed all_pieces dlci wrongs tail x (sym e ∙ choice);
+      counts = file_counts;
+      left = rw file_pieces_law at (s.choose_stream.left x e);
+    }
+
+    pub passed_some : PacketsFind o.container f (options_of o) (Ok summary) w'
+    unfolding read
+    passed_some = record {
+      gives = rw (tail_is, wrong_is) (given_some all_pieces dlci wrongs tail x (sym e ∙ choice));
+      found = λ y k. (let z : y ≡ summary = cc in rw z stands);
+    }

@@ -1,19 +1,20 @@
-// Import: from the bytes of a trace to the list of the spans of one DLCI.
+// Import: from the bytes of a trace to the list of the spans of one DLCI; and the sizes, told before import writes it.
 #![tactic(auto)]
 
 ghost use Rattle.std.specs.Prelude.{◌≡◌, get_or};
 ghost use Rattle.trace.specs.Formats.{format_of};
 ghost use Rattle.packets.specs.Adding.{ReadTo};
 ghost use Rattle.capture.specs.Options.{options_of};
-ghost use Rattle.capture.specs.declared.ImportError.TheVariants.{Refused};
-ghost use Rattle.capture.specs.Calls.{unlisted, PacketsMeet, Imports};
+ghost use Rattle.capture.specs.declared.FindError.TheVariants as finding;
+ghost use Rattle.capture.specs.declared.ImportError.TheVariants as importing;
+ghost use Rattle.capture.specs.Calls.{unfound, PacketsFind, Finds, Imports, Sizing};
 
 use channels::read_channels;
 use gathering::read_pieces;
 use l2cap::reassemble;
 use opening::{Tail, open_trace};
 use packets::Packets;
-use streams::{ListError, Stream, list_spans};
+use streams::{Stream, choose_stream, write_list};
 use trace::{Container, Refusal};
 
 // What a caller chooses, beside the file and the buffers.
@@ -26,75 +27,98 @@ pub struct Options {
     pub fcs: bool,
 }
 
-// What import gives: the DLCI chosen, whose list it wrote; how many pieces stand in work's table, the tail offset, and the DLCI's UIH
-// frames with a wrong FCS.
+// What import finds: the DLCI chosen, with what is counted of it; how many whole records and completed PDUs there are, and how many
+// pieces, which stand in work's table; the tail offset, and the DLCI's UIH frames with a wrong FCS.
 #[derive(Clone, Copy)]
 pub struct Summary {
     pub stream: Stream,
+    pub records: usize,
+    pub pdus: usize,
     pub pieces: usize,
     pub tail: usize,
     pub wrong: usize,
 }
 
+// The output length that import needs, and how many records, PDUs and pieces there are.
+#[derive(Clone, Copy)]
+pub struct Sizes {
+    pub needed: usize,
+    pub records: usize,
+    pub pdus: usize,
+    pub pieces: usize,
+}
+
+// Why nothing is found.
+#[derive(Clone, Copy)]
+pub enum FindError {
+    // 1 to 5, and pcap's 21 and 22
+    Refused(Refusal),
+    NoStream,
+}
+
 // Why import gives nothing.
 #[derive(Clone, Copy)]
 pub enum ImportError {
-    // 1 to 5, and pcap's 21 and 22
     Refused(Refusal),
     NoStream,
     OutShort(usize),
 }
 
+impl From<Refusal> for FindError {
+    ghost from_gives = { λ x y. y ≡ finding.Refused x };
+
+    fn from(x: Refusal) -> FindError {
+        FindError::Refused(x)
+    }
+}
+
 impl From<Refusal> for ImportError {
-    ghost from_gives = { λ x y. y ≡ Refused x };
+    ghost from_gives = { λ x y. y ≡ importing.Refused x };
 
     fn from(x: Refusal) -> ImportError {
         ImportError::Refused(x)
     }
 }
 
-impl From<ListError> for ImportError {
-    ghost from_gives = { λ x y. y ≡ unlisted x };
+impl From<FindError> for ImportError {
+    ghost from_gives = { λ x y. y ≡ unfound x };
 
-    fn from(x: ListError) -> ImportError {
+    fn from(x: FindError) -> ImportError {
         match x {
-            ListError::NoStream => ImportError::NoStream,
-            ListError::OutShort(needed) => ImportError::OutShort(needed),
+            FindError::Refused(x) => ImportError::Refused(x),
+            FindError::NoStream => ImportError::NoStream,
         }
     }
 }
 
-// Imports a trace: the spans of the first DLCI, on the channel if one is given, that has a span which unpacks. Work keeps what was
-// counted of the DLCI chosen.
-pub fn import(
-    file: &[u8],
-    work: &mut [u8],
-    out: &mut [u8],
-    options: Options,
-) -> Result<Summary, ImportError>
-    ensures { Imports options.container file.now work.old (options_of options) out.old result work.new out.new }
+// ---- what import finds, before it writes
+
+// Finds the first DLCI, on the channel if one is given, that has a span which unpacks. Work keeps what was counted of it.
+fn find(file: &[u8], work: &mut [u8], options: Options) -> Result<Summary, FindError>
+    ensures { Finds options.container file.now work.old (options_of options) result work.new }
 {
     let opened = open_trace(file, work, options.container, options.tail)?;
-    import_packets(file, work, out, options, opened.packets)
+    find_packets(file, work, options, opened.packets)
 }
 
-// Imports a trace whose packets stand in work, by four passes over it.
-fn import_packets(
+// The same for a trace whose packets stand in work, by four passes over it.
+fn find_packets(
     file: &[u8],
     work: &mut [u8],
-    out: &mut [u8],
     options: Options,
     p: Packets,
-) -> Result<Summary, ImportError>
+) -> Result<Summary, FindError>
     requires { ReadTo (format_of options.container file.now) file.now work.old p }
-    ensures { PacketsMeet options.container file.now (options_of options) out.old result work.new out.new }
+    ensures { PacketsFind options.container file.now (options_of options) result work.new }
 {
     let t = reassemble(file, work, p.count);
     let rows = read_channels(file, work, t.made);
     let g = read_pieces(file, work, t.made, rows, options.fcs);
-    let stream = list_spans(file, work, g.pieces, options.channel, out)?;
+    let stream = choose_stream(file, work, g.pieces, options.channel).ok_or(FindError::NoStream)?;
     Ok(Summary {
         stream,
+        records: p.records,
+        pdus: t.made,
         pieces: g.pieces,
         tail: p.tail,
         wrong: wrong_on(&g.wrong, stream.dlci),
@@ -106,4 +130,37 @@ fn wrong_on(wrong: &[u32], dlci: u8) -> usize
     ensures { result ≡ get_or wrong.now dlci 0 }
 {
     wrong.get(dlci as usize).copied().unwrap_or(0) as usize
+}
+
+// ---- the calls
+
+// Imports a trace: lists the spans of the DLCI found. Work keeps what was counted of it.
+pub fn import(
+    file: &[u8],
+    work: &mut [u8],
+    out: &mut [u8],
+    options: Options,
+) -> Result<Summary, ImportError>
+    ensures { Imports options.container file.now work.old (options_of options) out.old result work.new out.new }
+{
+    let s = find(file, work, options)?;
+    let needed = s.stream.bytes;
+    if out.len() < needed {
+        return Err(ImportError::OutShort(needed));
+    }
+    write_list(file, work, s.pieces, s.stream.dlci, out);
+    Ok(s)
+}
+
+// The sizes of what import would give: all of import but its writing.
+pub fn import_sizes(file: &[u8], work: &mut [u8], options: Options) -> Result<Sizes, FindError>
+    ensures { Sizing options.container file.now work.old (options_of options) result work.new }
+{
+    let s = find(file, work, options)?;
+    Ok(Sizes {
+        needed: s.stream.bytes,
+        records: s.records,
+        pdus: s.pdus,
+        pieces: s.pieces,
+    })
 }

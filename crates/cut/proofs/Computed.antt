@@ -1,17 +1,17 @@
--- The worked example and the recording with everything are honest, and import of their cuts is computed. Each rule that is broken alone breaks the claim.
-use Prim.Native.Nat.{ℕ, zero, suc, ◌/◌}
+-- The worked example and the recording with everything are honest, and import of their cuts and the sizes of these are computed. Each rule that is broken alone breaks the claim.
+use Prim.Native.Nat.{ℕ, zero, suc, ◌*◌, ◌/◌}
 use mathlib.Core.Path.{◌≡◌, refl}
 use mathlib.Core.Bool.{Bool, true, false}
 use mathlib.Core.List.{List, [], ◌∷◌, ◌++◌, map}
 use mathlib.Core.Option.{some}
-use Rattle.laws.specs.Answers.{is_given}
+use Rattle.laws.specs.Answers.{Answer, accepted, refused, is_given}
 use Rattle.laws.specs.Chop.{chop, chop_from}
 use Rattle.laws.specs.Keys.{eq_k}
 use Rattle.laws.specs.Keyed.{of, run, after}
 use Rattle.laws.specs.Count.{count, nub, mem}
 use Rattle.laws.specs.Totals.{total}
-use Rattle.laws.specs.Numbers.{le16, be32, be64}
-use Rattle.items.specs.Items.{Span, span, rx_of}
+use Rattle.laws.specs.Numbers.{le16, le32, le64, be32, be64}
+use Rattle.items.specs.Items.{Span, span, rx_of, item, span_item, span_list}
 use Rattle.mdr.specs.Frame.{head_of, summed_of, body_of, packed, judged as judged_frame, unpack_of, unpacks_of}
 use Rattle.mdr.specs.Escape.{within}
 use Rattle.mdr.specs.Sum.{checksum_of}
@@ -32,12 +32,14 @@ use Rattle.search.specs.Seek.{seek}
 use Rattle.spans.specs.Scan.{spans_n, rest_n, spans_of, rest_of, capped}
 use Rattle.spans.specs.Spans.{spans, unfinished, on_dlci}
 use Rattle.spans.specs.Account.{dropped_n, dropped_of, cleared_of, in_spans, dropped, cleared, left}
-use Rattle.outcome.specs.Import.{Found, found, missing, tolerant, on_channel, first, has_frame, chosen, listed, file_pieces, read, ends_well, outcome}
+use Rattle.outcome.specs.Import.{Found, found, missing, tolerant, on_channel, first, has_frame, chosen, listed, file_pieces, read, ends_well, outcome, given, fits, work_suffices, imported}
+use Rattle.outcome.specs.Sizes.{sizes as sizes_of, counts, sized}
 use Rattle.outcome.proofs.Examples.{sample, finds, went}
 use Rattle.cut.specs.Recording.{Recording, file, cut}
 use Rattle.cut.specs.Left.{left_from, records_left, tail_left, sent, data_of, data_left, closed_in, of_handle, frames_left, mid_frame, ends_mid, mid_in, mid_left, past_close, past_link, past_in, past_left}
 use Rattle.cut.specs.Honest.{pdus_in, marked_pdus, with_marks, judged_in, is_data_of, to_data, after_data, adds, carries_on, Honest}
-use Rattle.cut.specs.Claim.{wrong_left, account_left}
+use Rattle.cut.specs.Claim.{wrong_left, account_left, list_left}
+use Rattle.cut.specs.Sizes.{sizes_left}
 use Rattle.cut.proofs.Tests.{packed_checked, every, once, ends, header_test, whole_test, small_test, dlci_test, dynamic_test, channel_test, channels_test, right_test, checks_test, information_test, sizes_test, beginnings_test, settled_in, settled_test, alone_in, alone_test, handles_test, data_test, mark_test, fragments_test, rules, passed_all, honest}
 use Rattle.cut.proofs.Recordings.{unended, example, busy, bad_header, not_whole, same_handles, low_cid, named_channel, admitted_late, false_mark, no_start, between, early, other_frames, no_beginning, new_link, new_session, other_data, other_dlci, only_cut}
 
@@ -169,3 +171,23 @@ pub all_cuts :
     Differ only_cut 108 (finds 18 (span 1 5 w₀ ∷ span 1 6 w₂ ∷ []) 0 108 (went 18 0 0 0)) (finds 18 (span 1 5 w₀ ∷ []) 0 108 (went 9 0 0 0))
 unfolding cut file tail_left of_handle closed_in frames_left mid_frame ends_mid mid_in mid_left past_close past_link past_in past_left left_from records_left sent data_of data_left outcome is_btsnoop datalink is_datalink ends_well read tail_offset records records_in chop chop_from is_whole record_size be32 be64 le16 eq_k file_pieces packets_in packets packet_of milliseconds fragment h4_packet hci_packet monitor_packet pdus run after of joined is_complete still_open pdu_of completed command_size is_command commands body signal_of signals_in pdu_signals signals any names named asks_for admits admitted_after admitted is_tried asks_rfcomm asks_session is_sabm is_uih short_length info_length info_start credit_of is_right fcs_of register shifted shift_one frame_of uih_kind frame_kind kind_by tried_by judged_from judged_by counted piece_of brought pieces seek spans_n rest_n spans_of rest_of capped spans unfinished on_dlci total dropped_n dropped_of cleared_of in_spans dropped cleared left count nub mem on_channel first has_frame chosen is_wrong wrong_on listed unpacks_of unpack_of judged_frame is_given within checksum_of packed body_of summed_of head_of rx_of wrong_left judged_in with_marks marked_pdus pdus_in
 all_cuts = ((refl, refl), (refl, refl), refl, refl, (refl, refl), (refl, refl), (refl, refl), (refl, refl), (refl, refl), (refl, refl), (refl, refl), (refl, refl), (refl, refl), (refl, refl), (refl, refl), (refl, refl), (refl, refl), (refl, refl), (refl, refl), (refl, refl), (refl, refl))
+
+-- ---- sizes of cuts
+
+-- the sizes of a cut, for tolerant import
+abbrev sized_at : {C : Container} → Recording C → ℕ → Answer
+sized_at {C} R n = sized C (cut R n) (8 * n) (record { channel = some (R.d / 2); tail = tolerant; judging = unchecked source })
+
+-- what is left at n, in that form
+abbrev sizes_at : {C : Container} → Recording C → ℕ → Answer
+sizes_at R n = sizes_left (unchecked source) R n (frames_left R n)
+
+-- at the same cuts
+abbrev sizes_due : List Answer
+sizes_due = accepted (121 ∷ 15 ∷ 12 ∷ 6 ∷ []) ∷ accepted (121 ∷ 14 ∷ 11 ∷ 5 ∷ []) ∷ accepted (98 ∷ 9 ∷ 7 ∷ 3 ∷ []) ∷ accepted (49 ∷ 8 ∷ 6 ∷ 2 ∷ []) ∷ refused 6 [] ∷ refused 6 [] ∷ []
+
+pub sizes_of_cuts :
+    (sized_at example 62 ≡ accepted (23 ∷ 1 ∷ 1 ∷ 1 ∷ [])) × (sizes_at example 62 ≡ accepted (23 ∷ 1 ∷ 1 ∷ 1 ∷ [])) × (sized_at example 61 ≡ refused 6 []) × (sizes_at example 61 ≡ refused 6 []) ×
+    (map (sized_at busy) cuts ≡ sizes_due) × (map (sizes_at busy) cuts ≡ sizes_due)
+unfolding cut file of_handle closed_in frames_left left_from records_left sent data_of data_left outcome is_btsnoop datalink is_datalink ends_well read tail_offset records records_in chop chop_from is_whole record_size be32 be64 le16 eq_k file_pieces packets_in packets packet_of milliseconds fragment h4_packet hci_packet monitor_packet pdus run after of joined is_complete still_open pdu_of completed command_size is_command commands body signal_of signals_in pdu_signals signals any names named asks_for admits admitted_after admitted is_tried asks_rfcomm asks_session is_sabm is_uih short_length info_length info_start credit_of is_right fcs_of register shifted shift_one frame_of uih_kind frame_kind kind_by tried_by judged_from judged_by counted piece_of brought pieces seek spans_n rest_n spans_of rest_of capped spans unfinished on_dlci total dropped_n dropped_of cleared_of in_spans dropped cleared left count nub mem on_channel first has_frame chosen is_wrong wrong_on listed unpacks_of unpack_of judged_frame is_given within checksum_of packed body_of summed_of head_of rx_of pdus_in sizes_of counts sized sizes_left list_left imported fits work_suffices given item span_item span_list le32 le64
+sizes_of_cuts = (refl, refl, refl, refl, refl, refl)

@@ -11,6 +11,7 @@ pub mod CutPieces
 pub mod Verdicts
 pub mod CutRules
 pub mod Theorem
+pub mod SizesLeft
 pub mod PlainWires
 pub mod PaperWords
 pub mod Tests

@@ -267,10 +267,10 @@ module _ {by : Judging} {C : Container} {S : Framing} (R : RecordingOf C S) (G :
     cut_size : C.size (cut R n) ≡ C.size R.header
     cut_size = rw cut_header (L.sizes_front R.header rest H.header.0)
 
-    cut_packet : C.packet (cut R n) ≡ C.packet R.header
+    pub cut_packet : C.packet (cut R n) ≡ C.packet R.header
     cut_packet = rw cut_header (L.packets_front R.header rest H.header.0)
 
-    cut_rows : records C (cut R n) ≡ rows (records_left R n)
+    pub cut_rows : records C (cut R n) ≡ rows (records_left R n)
     unfolding records
     cut_rows = ap (λ (s : List ℕ → ℕ). records_in s (drop C.head (cut R n))) cut_size ∙ cut_records R L n H.header.0 lo H.whole
 

@@ -1,20 +1,20 @@
--- Document 01's worked example as a pcap file, and each refusal that pcap has of its own, by computation.
+-- Document 01's worked example as a pcap file, and each refusal that pcap has of its own, by computation; and sizes.
 use Prim.Native.Nat.{ℕ}
 use mathlib.Core.Path.{◌≡◌, refl}
 use mathlib.Core.Bool.{Bool, true, false}
 use mathlib.Core.List.{List, [], ◌∷◌, ◌++◌}
 use mathlib.Core.Option.{none}
 use lib.ListN.{length, take, drop}
-use Rattle.laws.specs.Answers.{is_given}
+use Rattle.laws.specs.Answers.{accepted, refused, is_given}
 use Rattle.laws.specs.Chop.{chop, chop_from}
 use Rattle.laws.specs.Keys.{eq_k}
 use Rattle.laws.specs.Keyed.{run, after}
 use Rattle.laws.specs.Count.{count, nub, mem}
 use Rattle.laws.specs.Totals.{total}
-use Rattle.laws.specs.Numbers.{le16, le32, be32, be64}
+use Rattle.laws.specs.Numbers.{le16, le32, le64, be32, be64}
 use Rattle.laws.specs.Lists.{flat}
 use Rattle.items.specs.declared.Direction.TheVariants.{Rx}
-use Rattle.items.specs.Items.{span, rx_of}
+use Rattle.items.specs.Items.{span, rx_of, item, span_item, span_list}
 use Rattle.mdr.specs.Frame.{judged as judged_frame, unpack_of, unpacks_of}
 use Rattle.mdr.specs.Sum.{checksum_of}
 use Rattle.container.specs.Packets.{fragment, h4_packet, packets}
@@ -36,7 +36,8 @@ use Rattle.search.specs.Seek.{seek}
 use Rattle.spans.specs.Scan.{spans_n, rest_n, spans_of, rest_of, capped}
 use Rattle.spans.specs.Spans.{spans, unfinished, on_dlci}
 use Rattle.spans.specs.Account.{dropped_n, dropped_of, cleared_of, in_spans, dropped, cleared, left}
-use Rattle.outcome.specs.Import.{Tail, strict, tolerant, by_source, on_channel, first, has_frame, chosen, Found, missing, listed, file_pieces, read, ends_well, outcome}
+use Rattle.outcome.specs.Import.{Tail, strict, tolerant, by_source, on_channel, first, has_frame, chosen, Found, missing, listed, file_pieces, read, ends_well, outcome, given, fits, work_suffices, imported}
+use Rattle.outcome.specs.Sizes.{sizes, counts, sized}
 use Rattle.outcome.proofs.Examples.{sample, finds, went}
 use Rattle.formats.specs.Written.{num, Seen, btsnoop_file, pcap_head, pcap_file}
 
@@ -107,3 +108,13 @@ pub pcap_examples :
     (answer_to (row 0 0 [] ∷ row 0 0 (2 ∷ 2 ∷ 2 ∷ []) ∷ row 0 0 rx ∷ row 0 0 (toward rx) ∷ []) ≡ finds 18 (span 1 0 frame ∷ []) 0 121 (went 9 0 0 0))
 unfolding outcome is_btsnoop is_pcap is_big is_little is_nano number link_of is_link ends_well read tail_offset records records_in chop chop_from is_whole record_size be32 be64 le16 eq_k file_pieces packets_in packets packet_of directed_packet milliseconds fragment h4_packet pdus run after joined is_complete still_open pdu_of completed command_size is_command commands body signal_of signals_in pdu_signals signals any names named asks_for admits admitted_after admitted is_tried asks_rfcomm asks_session is_sabm is_uih short_length info_length info_start credit_of is_right fcs_of register shifted shift_one frame_of uih_kind frame_kind kind_by tried_by judged_from judged_by counted piece_of brought pieces seek spans_n rest_n spans_of rest_of capped spans unfinished on_dlci total dropped_n dropped_of cleared_of in_spans dropped cleared left count nub mem on_channel first has_frame chosen is_wrong wrong_on listed unpacks_of unpack_of judged_frame is_given checksum_of le32 rx_of
 pcap_examples = (refl, refl, refl, refl, refl, refl, refl, refl, refl, refl, refl, refl, refl, refl, refl, refl, refl, refl, refl, refl)
+
+-- the sizes: of the example; of it behind packets too short for a direction, or with nothing behind it; less its last byte; 21, 22; 2
+pub sizes_of_pcap :
+    (sized pcap pcap_sample 528 (by_source none strict) ≡ accepted (23 ∷ 1 ∷ 1 ∷ 1 ∷ [])) ×
+    (sized pcap (file_of (row 0 0 [] ∷ row 0 0 (2 ∷ 2 ∷ 2 ∷ []) ∷ row 0 0 rx ∷ row 0 0 (toward rx) ∷ [])) 968 (by_source none strict) ≡ accepted (23 ∷ 4 ∷ 1 ∷ 1 ∷ [])) ×
+    (sized pcap (take 65 pcap_sample) 520 (by_source none strict) ≡ refused 5 (24 ∷ [])) × (sized pcap (take 65 pcap_sample) 520 (by_source none tolerant) ≡ refused 6 []) ×
+    (sized pcap sample 496 (by_source none strict) ≡ refused 21 []) × (sized pcap (linked true 202) 192 (by_source none strict) ≡ refused 22 (202 ∷ [])) ×
+    (sized pcap pcap_sample 527 (by_source none strict) ≡ refused 2 [])
+unfolding outcome is_btsnoop is_pcap is_big is_little is_nano number link_of is_link ends_well read tail_offset records records_in chop chop_from is_whole record_size be32 be64 le16 eq_k file_pieces packets_in packets packet_of directed_packet milliseconds fragment h4_packet pdus run after joined is_complete still_open pdu_of completed command_size is_command commands body signal_of signals_in pdu_signals signals any names named asks_for admits admitted_after admitted is_tried asks_rfcomm asks_session is_sabm is_uih short_length info_length info_start credit_of is_right fcs_of register shifted shift_one frame_of uih_kind frame_kind kind_by tried_by judged_from judged_by counted piece_of brought pieces seek spans_n rest_n spans_of rest_of capped spans unfinished on_dlci total dropped_n dropped_of cleared_of in_spans dropped cleared left count nub mem on_channel first has_frame chosen is_wrong wrong_on listed unpacks_of unpack_of judged_frame is_given checksum_of le32 rx_of imported fits work_suffices given item span_item span_list le64 sizes counts sized
+sizes_of_pcap = (refl, refl, refl, refl, refl, refl, refl)

@@ -1,4 +1,4 @@
-// Import as the calls ask for it: by options in a list of numbers, or by two; and its answer as a number and values.
+// Import and its sizes as the calls ask for them: by options in a list of numbers, or by two; and their answers as a number and values.
 #![tactic(auto)]
 
 ghost use Rattle.std.specs.Prelude.{◌≡◌, [], ◌∷◌};
@@ -6,7 +6,7 @@ ghost use Rattle.trace.specs.declared.Container.TheVariants.{Btsnoop};
 ghost use Rattle.options.specs.Numbers.{container_in};
 ghost use Rattle.streams.specs.Streams.{channel_of};
 ghost use Rattle.imports.specs.Numbers.{channel_number, options_in, options_number, AsOptions};
-ghost use Rattle.imports.specs.Imports.{ImportCalls};
+ghost use Rattle.imports.specs.Imports.{ImportCalls, SizesCalls};
 
 use capture::Options;
 use options::{container_in, fcs_in, option_at, tail_in};
@@ -69,4 +69,11 @@ pub fn import_by(
     ensures { ImportCalls Btsnoop file.now work.old out.old (options_number channel tolerant) values.old result work.new out.new values.new }
 {
     import_told(file, work, out, &two_options(channel, tolerant), values)
+}
+
+// Tells the sizes of what import would give, by options in a list of numbers.
+pub fn sizes_told(file: &[u8], work: &mut [u8], options: &[u64], values: &mut [u64]) -> u32
+    ensures { SizesCalls (container_in options.now) file.now work.old (options_in options.now) values.old result work.new values.new }
+{
+    capture::import_sizes(file, work, options_in(options)).tell(values)
 }

@@ -9,7 +9,7 @@ ghost use Rattle.commands.specs.Commands.{is_command_name};
 ghost use Rattle.names.specs.Names.{fixture_name};
 ghost use Rattle.order.specs.Order.{capture_order};
 ghost use Rattle.gaps.specs.Calls.{GapsCalls};
-ghost use Rattle.imports.specs.Imports.{ImportCalls};
+ghost use Rattle.imports.specs.Imports.{ImportCalls, SizesCalls};
 ghost use Rattle.imports.specs.Numbers.{options_in, options_number};
 ghost use Rattle.options.specs.Numbers.{tail_number, tail_in, container_in};
 ghost use Rattle.places.specs.Stretches.{StretchCalls};
@@ -19,7 +19,7 @@ ghost use Rattle.told.specs.Numbers.{bit, way_of};
 ghost use Rattle.told.specs.RecordCalls.{RecordsCalls};
 
 use gaps::{gaps_told, gaps_with};
-use imports::{import_by, import_told, two_options};
+use imports::{import_by, import_told, sizes_told, two_options};
 use places::places_told;
 use told::{
     command_told, name_told, order_told, pack_told, plan_told, records_told, records_with,
@@ -117,6 +117,15 @@ pub fn lumbryth_import_strict(
     ensures { ImportCalls Btsnoop file.now work.old out.old (options_number channel 0) values.old result work.new out.new values.new }
 {
     import_by(file, work, out, channel, 0, values)
+}
+
+// Tells how much output an import would need, and how much the file holds: takes all that lumbryth_import_with takes but the output. Values: the output
+// length needed; whole records, skipped ones too; completed PDUs; pieces of information, of every DLCI. Refused as that call is, by 1 to 6 (of pcap
+// 21 and 22 for 3 and 4), never by 7.
+pub fn lumbryth_sizes_with(file: &[u8], work: &mut [u8], options: &[u64], values: &mut [u64]) -> u32
+    ensures { SizesCalls (container_in options.now) file.now work.old (options_in options.now) values.old result work.new values.new }
+{
+    sizes_told(file, work, options, values)
 }
 
 // Stores where each whole record of a btsnoop file starts at the front of starts, as many as there is room for. Values: records,

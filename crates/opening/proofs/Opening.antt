@@ -1,17 +1,14 @@
 -- Each refusal, and what is read where none is met.
 use Rattle.std.specs.Prelude.{⊤, Result, Ok, Err}
 use Prim.Native.Nat.{ℕ, ◌*◌, ◌<◌, ◌≤◌}
-use mathlib.Core.Path.{◌≡◌, refl, sym, ◌∙◌}
-use mathlib.Core.Bool.{Bool, true, false, not}
+use mathlib.Core.Path.{◌≡◌, refl, ◌∙◌}
 use mathlib.Core.Logic.{inl, inr, ⊎_elim}
-use mathlib.Core.List.{List, [], ◌∷◌}
+use mathlib.Core.List.{List}
 use native.Mathlib.Omega.{arith}
 use lib.ListN.{length}
-use lib.Dec.{eqb}
 use borrow.Author.Tests.{le-leb, lt-leb}
 use Rattle.laws.proofs.Choice.{no_way}
-use Rattle.laws.specs.Answers.{accepted, refused}
-use Rattle.trace.specs.Formats.{container_of, format_of, tail_by}
+use Rattle.trace.specs.Formats.{container_of, format_of}
 use Rattle.trace.specs.Headers.{headed, HeaderIs}
 use Rattle.trace.proofs.Formats.{lawful, head_of, tail_of_law}
 use Rattle.trace.proofs.Headers.{header_as}
@@ -19,14 +16,11 @@ use Rattle.trace.specs.declared.Container.{Container}
 use Rattle.trace.specs.declared.Format.{Format}
 use Rattle.trace.specs.declared.Trace.{Trace}
 use Rattle.trace.specs.declared.Refusal.{Refusal}
-use Rattle.trace.specs.declared.Refusal.TheVariants.{FileLong, WorkShort, Truncated}
-use Rattle.packets.specs.Adding.{ReadPre, ReadTo}
-use Rattle.packets.specs.declared.Packets.{Packets}
+use Rattle.trace.specs.declared.Refusal.TheVariants.{FileLong, WorkShort}
+use Rattle.packets.specs.Adding.{ReadPre}
 use Rattle.outcome.specs.Import.{ends_well, fits, work_suffices}
 use Rattle.outcome.specs.Import as import
-use Rattle.opening.specs.Opening.{ends, heads, opened, tail_of, Sized, Unsized, SizesChecked, Opens, HeaderOpens, ends_by, RecordsOpen, truncates}
-use Rattle.opening.specs.declared.Tail.{Tail}
-use Rattle.opening.specs.declared.Tail.TheVariants.{Strict, Tolerant}
+use Rattle.opening.specs.Opening.{ends, heads, opened, Sized, Unsized, SizesChecked, Opens, HeaderOpens, ends_by, RecordsOpen}
 use Rattle.opening.specs.declared.Opened.{Opened}
 
 no_read : {G : Type 0} → ◌≡◌ {A = ℕ} 0 1 → G

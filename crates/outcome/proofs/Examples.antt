@@ -1,13 +1,14 @@
 -- By computation: the worked example and its cut by one byte, each refusal, document 01's own examples of 1 to 7, whose buffers are counted, and
--- where bytes went.
+-- where bytes went; and sizes, of these and of a file whose four numbers differ.
 use Prim.Native.Nat.{ℕ, ◌<◌}
 use mathlib.Core.Path.{◌≡◌, refl}
+use mathlib.Core.Bool.{true}
 use mathlib.Core.List.{List, [], ◌∷◌, ◌++◌}
 use mathlib.Core.Option.{none, some}
 use native.Mathlib.Omega.{arith}
 use lib.ListN.{length, take, drop, replicate, length-replicate}
 use borrow.Author.Tests.{lt-leb}
-use Rattle.laws.specs.Answers.{Answer, refused, refuses, answer, is_given}
+use Rattle.laws.specs.Answers.{Answer, accepted, refused, refuses, answer, is_given}
 use Rattle.laws.specs.Chop.{chop, chop_from}
 use Rattle.laws.specs.Keys.{eq_k}
 use Rattle.laws.specs.Keyed.{run, after}
@@ -25,7 +26,7 @@ use Rattle.btsnoop.specs.Packets.{milliseconds, hci_packet, monitor_packet, pack
 use Rattle.l2cap.specs.Pdus.{joined, is_complete, still_open, pdu_of, completed, pdus}
 use Rattle.channels.specs.Signals.{command_size, is_command, commands, body, signal_of, signals_in, pdu_signals, signals}
 use Rattle.channels.specs.Channels.{any, names, named, asks_for, admits, admitted_after, admitted, is_tried, asks_rfcomm, asks_session}
-use Rattle.channels.specs.Tried.{tried_by}
+use Rattle.channels.specs.Tried.{source, tried_by}
 use Rattle.uih.specs.Fcs.{shift_one, shifted, register, fcs_of}
 use Rattle.uih.specs.Frames.{is_sabm, is_uih, short_length, info_length, info_start, credit_of, frame_of, is_right}
 use Rattle.rfcomm.specs.Pieces.{uih_kind, frame_kind, kind_by, judged_from, judged_by, counted, piece_of, brought, pieces, is_wrong, wrong_on}
@@ -34,6 +35,7 @@ use Rattle.spans.specs.Scan.{spans_n, rest_n, spans_of, rest_of, capped}
 use Rattle.spans.specs.Spans.{spans, unfinished, on_dlci}
 use Rattle.spans.specs.Account.{Account, dropped_n, dropped_of, cleared_of, in_spans, dropped, cleared, left}
 use Rattle.outcome.specs.Import.{Options, strict, tolerant, by_source, on_channel, first, has_frame, chosen, Found, found, missing, listed, file_pieces, read, ends_well, outcome, given, fits, work_suffices, places_suffice, imported, imported_in}
+use Rattle.outcome.specs.Sizes.{sizes, counts, sized}
 
 abbrev pub sample : List ℕ
 sample =
@@ -145,3 +147,41 @@ pub account_of_chosen :
     (outcome btsnoop (with_three 0x41 0x49 (0x3E ∷ 0x3C ∷ 0x05 ∷ [])) (by_source none strict) ≡ finds 18 (record { rx = 1; time = 0; wire = 0x3E ∷ 0x3C ∷ [] } ∷ one) 0 102 (went 11 1 0 0))
 unfolding outcome is_btsnoop datalink is_datalink ends_well read tail_offset records records_in chop chop_from is_whole record_size be32 be64 le16 eq_k file_pieces packets_in packets packet_of milliseconds fragment h4_packet hci_packet monitor_packet pdus run after joined is_complete still_open pdu_of completed command_size is_command commands body signal_of signals_in pdu_signals signals any names named asks_for admits admitted_after admitted is_tried asks_rfcomm asks_session is_sabm is_uih short_length info_length info_start credit_of is_right fcs_of register shifted shift_one frame_of uih_kind frame_kind kind_by tried_by judged_from judged_by counted piece_of brought pieces seek spans_n rest_n spans_of rest_of capped spans unfinished on_dlci total dropped_n dropped_of cleared_of in_spans dropped cleared left count nub mem on_channel first has_frame chosen is_wrong wrong_on listed unpacks_of unpack_of judged_frame is_given checksum_of
 account_of_chosen = (refl, refl, refl, refl)
+
+-- ---- sizes before import
+
+-- the worked example; its cut by one byte; work one short
+pub sizes_of_sample :
+    (sized btsnoop sample 496 (by_source none strict) ≡ accepted (23 ∷ 1 ∷ 1 ∷ 1 ∷ [])) ×
+    (sized btsnoop (take 61 sample) 488 (by_source none strict) ≡ refused 5 (16 ∷ [])) ×
+    (sized btsnoop (take 61 sample) 488 (by_source none tolerant) ≡ refused 6 []) ×
+    (sized btsnoop sample 495 (by_source none strict) ≡ refused 2 [])
+unfolding outcome is_btsnoop datalink is_datalink ends_well read tail_offset records records_in chop chop_from is_whole record_size be32 be64 le16 eq_k file_pieces packets_in packets packet_of milliseconds fragment h4_packet hci_packet monitor_packet pdus run after joined is_complete still_open pdu_of completed command_size is_command commands body signal_of signals_in pdu_signals signals any names named asks_for admits admitted_after admitted is_tried asks_rfcomm asks_session is_sabm is_uih short_length info_length info_start credit_of is_right fcs_of register shifted shift_one frame_of uih_kind frame_kind kind_by tried_by judged_from judged_by counted piece_of brought pieces seek spans_n rest_n spans_of rest_of capped spans unfinished on_dlci total dropped_n dropped_of cleared_of in_spans dropped cleared left count nub mem on_channel first has_frame chosen is_wrong wrong_on listed unpacks_of unpack_of judged_frame is_given checksum_of imported fits work_suffices given item span_item span_list le32 le64 sizes counts sized
+sizes_of_sample = (refl, refl, refl, refl)
+
+-- a record of so many bytes
+abbrev holding : ℕ → List ℕ → List ℕ
+holding n b =
+    0x00 ∷ 0x00 ∷ 0x00 ∷ n ∷ 0x00 ∷ 0x00 ∷ 0x00 ∷ n ∷ 0x00 ∷ 0x00 ∷ 0x00 ∷ 0x01 ∷ 0x00 ∷ 0x00 ∷ 0x00 ∷ 0x00 ∷
+    0x00 ∷ 0xDC ∷ 0xDD ∷ 0xB3 ∷ 0x0F ∷ 0x2F ∷ 0x80 ∷ 0x00 ∷ b
+
+-- no byte; an event, which is skipped; a request on CID 1, which is not tried; UIH without information; a piece on DLCI 20; the example's record, with the right FCS; the first fragment of a PDU
+abbrev apart : List ℕ
+apart =
+    bare_header ++
+    (holding 0 [] ++
+    (holding 4 (0x04 ∷ 0x0E ∷ 0x01 ∷ 0x00 ∷ []) ++
+    (holding 17 (0x02 ∷ 0x40 ∷ 0x20 ∷ 0x0C ∷ 0x00 ∷ 0x08 ∷ 0x00 ∷ 0x01 ∷ 0x00 ∷ 0x02 ∷ 0x01 ∷ 0x04 ∷ 0x00 ∷ 0x01 ∷ 0x00 ∷ 0x60 ∷ 0x00 ∷ []) ++
+    (holding 13 (0x02 ∷ 0x40 ∷ 0x20 ∷ 0x08 ∷ 0x00 ∷ 0x04 ∷ 0x00 ∷ 0x41 ∷ 0x00 ∷ 0x49 ∷ 0xEF ∷ 0x01 ∷ 0x14 ∷ []) ++
+    (three 0x42 0x51 (0x05 ∷ 0x06 ∷ 0x07 ∷ []) ++
+    (take 45 (drop 16 sample) ++ (0x14 ∷
+    holding 10 (0x02 ∷ 0x40 ∷ 0x20 ∷ 0x05 ∷ 0x00 ∷ 0x09 ∷ 0x00 ∷ 0x43 ∷ 0x00 ∷ 0x49 ∷ []))))))))
+
+-- 7 records, of which 5 hold packets; 4 PDUs, of which 3 are tried; 2 pieces, of which one is on the DLCI chosen, and the other has a wrong FCS. A record that passes the end is none.
+pub sizes_of_apart :
+    (sized btsnoop apart 2128 (by_source none strict) ≡ accepted (23 ∷ 7 ∷ 4 ∷ 2 ∷ [])) ×
+    (sized btsnoop apart 2128 (record { channel = none; tail = strict; judging = record { rule = source; fcs = true } }) ≡ accepted (23 ∷ 7 ∷ 4 ∷ 1 ∷ [])) ×
+    (sized btsnoop (take 265 apart) 2120 (by_source (some 9) tolerant) ≡ accepted (23 ∷ 6 ∷ 4 ∷ 2 ∷ [])) ×
+    (sized btsnoop (take 265 apart) 2120 (by_source none strict) ≡ refused 5 (232 ∷ []))
+unfolding outcome is_btsnoop datalink is_datalink ends_well read tail_offset records records_in chop chop_from is_whole record_size be32 be64 le16 eq_k file_pieces packets_in packets packet_of milliseconds fragment h4_packet hci_packet monitor_packet pdus run after joined is_complete still_open pdu_of completed command_size is_command commands body signal_of signals_in pdu_signals signals any names named asks_for admits admitted_after admitted is_tried asks_rfcomm asks_session is_sabm is_uih short_length info_length info_start credit_of is_right fcs_of register shifted shift_one frame_of uih_kind frame_kind kind_by tried_by judged_from judged_by counted piece_of brought pieces seek spans_n rest_n spans_of rest_of capped spans unfinished on_dlci total dropped_n dropped_of cleared_of in_spans dropped cleared left count nub mem on_channel first has_frame chosen is_wrong wrong_on listed unpacks_of unpack_of judged_frame is_given checksum_of imported fits work_suffices given item span_item span_list le32 le64 sizes counts sized
+sizes_of_apart = (refl, refl, refl, refl)

@@ -1,3 +1,4 @@
 pub mod Import
 pub mod Examples
 pub mod Account
+pub mod Sizes

@@ -2,7 +2,7 @@
 use Rattle.std.specs.Prelude.{Option, Some, None}
 use Rattle.std.specs.Int.{from_bool}
 use Prim.Native.Nat.{ℕ, suc, ◌+◌, ◌-◌, ◌*◌, ◌<◌, ◌≤◌}
-use mathlib.Core.Path.{◌≡◌, refl, sym, ◌∙◌}
+use mathlib.Core.Path.{◌≡◌, refl, sym, ap, ◌∙◌}
 use mathlib.Core.Bool.{Bool, true, false, cond}
 use mathlib.Core.List.{List, [], ◌++◌, append_assoc, append-nil}
 use mathlib.Core.Option.{Option as Maybe, none, some}
@@ -42,6 +42,7 @@ use Rattle.trace.specs.declared.Format.TheVariants.{Btsnoop as ByDatalink, Pcap 
 use Rattle.trace.specs.declared.Trace.{Trace}
 use Rattle.trace.specs.declared.record.Record.{Record}
 use Rattle.trace.specs.declared.reader.Reader.{Reader}
+use Rattle.packets.specs.declared.Empty.{Empty}
 use Rattle.packets.specs.PacketTable.{packet_at, packets_from, data_of}
 use Rattle.packets.proofs.PacketFrames.{packets_front, packets_snoc, data_front}
 use Rattle.packets.specs.Adding.{RecordIs, AddPre, Added, Passed, ReadPre, ReadTo, Walking, put_packet, row_of}
@@ -181,7 +182,7 @@ module _ (r : Record) (w : List ℕ) (count : ℕ) (pre : AddPre r w count) (x :
           size = rw eu (length_puts (row_of y ms) w (6 * count));
         }
 
-pub walk_start : (t : Trace) (w : List ℕ) → ReadPre t.format t.file.now w → (q : Reader) → Starts t q → Walking t w w q 0
+pub walk_start : (t : Trace) (w : List ℕ) → ReadPre t.format t.file.now w → (q : Reader) → Starts t q → Walking t w w q 0 0
 unfolding packets_from data_of
 walk_start t w p q s = record {
   trace = s.trace;
@@ -191,6 +192,7 @@ walk_start t w p q s = record {
   fits = record { fits = λ i h. absurd (omega arith) };
   total = omega (arith, file_head_least t.format, s.at);
   same = rw s.at;
+  number = rw s.at (omega arith);
   tail = rw s.at;
 }
 
@@ -217,38 +219,40 @@ module _ (g : Format) (f : List ℕ) (at : ℕ) (h : at ≤ length f) (head : �
       (λ q. rw q))
 
 -- a record of the head alone
-pass_one : (g : Format) (f : List ℕ) (at e : ℕ) → RecordAt g f at e → e ≡ at + record_head g → Passed g f at e
+pass_one : (g : Format) (f : List ℕ) (at e : ℕ) → RecordAt g f at e → e ≡ at + record_head g → Passed g f at (record { end = e; count = 1 })
 unfolding packets
 pass_one g f at e r h =
     let l : length (between f at e) ≡ e - at = length-take-le (e - at) (drop at f) (simp length-drop (omega (arith, r.most))) in
     record {
-      least = omega (arith, r.least);
+      least = omega (arith, r.least, head_least g);
       most = r.most;
       list = rw (r.list, packet_none g (between f at e) (omega (arith, head_most g)));
+      records = omega (arith, ap length r.list);
       tail = flat_step g f at e r;
     }
 
-pass_then : (g : Format) (f : List ℕ) (at i to : ℕ) → Passed g f at i → Passed g f i to → Passed g f at to
-pass_then g f at i to a b = record {
+pass_then : (g : Format) (f : List ℕ) (at : ℕ) (x y : Empty) → Passed g f at x → Passed g f x.end y → Passed g f at (record { end = y.end; count = x.count + y.count })
+pass_then g f at x y a b = record {
   least = omega (arith, a.least, b.least);
   most = b.most;
   list = a.list ∙ b.list;
+  records = omega (arith, a.records, b.records);
   tail = a.tail ∙ b.tail;
 }
 
-module _ (g : Format) (f : List ℕ) (head : ℕ) (eh : head ≡ record_head g) (at i : ℕ) (a : Passed g f at i) (t : Bool) (e : t ≡ is_empty g (drop i f)) (q : t ≡ true) where
+module _ (g : Format) (f : List ℕ) (head : ℕ) (eh : head ≡ record_head g) (at i n : ℕ) (a : Passed g f at (record { end = i; count = n })) (t : Bool) (e : t ≡ is_empty g (drop i f)) (q : t ≡ true) where
   here_empty : RecordAt g f i (i + head)
   here_empty = rw eh (empty_told g f i (sym e ∙ q))
 
-  pub pass_turn : Passed g f at (i + head)
-  pass_turn = pass_then g f at i (i + head) a (pass_one g f i (i + head) here_empty (rw eh))
+  pub pass_turn : Passed g f at (record { end = i + head; count = n + 1 })
+  pass_turn = pass_then g f at (record { end = i; count = n }) (record { end = i + head; count = 1 }) a (pass_one g f i (i + head) here_empty (rw eh))
 
   pub pass_less : length f - (i + head) < length f - i
   pass_less = omega (arith, here_empty.most, head_least g)
 
 -- ---- all records
 
-module _ (t : Trace) (w₀ : List ℕ) (p : ReadPre t.format t.file.now w₀) (w : List ℕ) (q : Reader) (count : ℕ) (v : Walking t w₀ w q count) where
+module _ (t : Trace) (w₀ : List ℕ) (p : ReadPre t.format t.file.now w₀) (w : List ℕ) (q : Reader) (count whole : ℕ) (v : Walking t w₀ w q count whole) where
   abbrev by : Format
   by = t.format
 
@@ -266,13 +270,13 @@ module _ (t : Trace) (w₀ : List ℕ) (p : ReadPre t.format t.file.now w₀) (w
       to_end : z.at ≡ r.end
       to_end = found_end t q v.trace x z n r e
 
-      pub walk_turn : (u : List ℕ) (c : ℕ) → Added r w count u c → Walking t w₀ u z c
+      pub walk_turn : (u : List ℕ) (c : ℕ) → Added r w count u c → Walking t w₀ u z c (whole + 1)
       unfolding packets
       walk_turn u c a =
           let l : packets_from file u 0 c ≡ packets_from file w 0 count ++ or_none (packet_by by (between file q.at r.end)) [] = rw (found.same, found.starts) at a.list in
           record {
             trace = reads_same t q v.trace x z n;
-            least = omega (arith, v.least, here.least, to_end);
+            least = omega (arith, v.least, here.least, head_least by, to_end);
             within = rw to_end here.most;
             size = a.size ∙ v.size;
             fits = rw found.same at a.fits;
@@ -283,14 +287,15 @@ module _ (t : Trace) (w₀ : List ℕ) (p : ReadPre t.format t.file.now w₀) (w
               append_assoc,
               or_none_append (packet_by by (between file q.at r.end)) (packets (packet_by by) (records_from by file r.end)),
             ) (rw here.list at v.same);
+            number = rw to_end (omega (arith, v.number, ap length here.list));
             tail = rw to_end (sym (flat_step by file q.at r.end here) ∙ v.tail);
           }
 
-      module _ (head : ℕ) (eh : head ≡ record_head by) (h : r.end ≡ r.at + head) (to : ℕ) (y : Passed by file r.end to) (k : Reader) (m : Moves z to k) where
-        passed : Passed by file q.at to
-        passed = pass_then by file q.at r.end to (pass_one by file q.at r.end here (h ∙ rw (eh, found.starts))) y
+      module _ (head : ℕ) (eh : head ≡ record_head by) (h : r.end ≡ r.at + head) (y : Empty) (b : Passed by file r.end y) (k : Reader) (m : Moves z y.end k) where
+        passed : Passed by file q.at (record { end = y.end; count = 1 + y.count })
+        passed = pass_then by file q.at (record { end = r.end; count = 1 }) y (pass_one by file q.at r.end here (h ∙ rw (eh, found.starts))) b
 
-        pub walk_pass : Walking t w₀ w k count
+        pub walk_pass : Walking t w₀ w k count (whole + 1 + y.count)
         walk_pass = record {
           trace = m.trace ∙ reads_same t q v.trace x z n;
           least = omega (arith, v.least, passed.least, m.at);
@@ -299,10 +304,11 @@ module _ (t : Trace) (w₀ : List ℕ) (p : ReadPre t.format t.file.now w₀) (w
           fits = v.fits;
           total = omega (arith, v.total, passed.least, m.at);
           same = rw m.at (rw passed.list at v.same);
+          number = rw m.at (omega (arith, v.number, passed.records));
           tail = rw m.at (sym passed.tail ∙ v.tail);
         }
 
-    pub ended : x ≡ None → ReadTo by file w (record { count = count; tail = z.at })
+    pub ended : x ≡ None → ReadTo by file w (record { count = count; records = whole; tail = z.at })
     unfolding packets
     ended m =
         let s : records_from by file q.at ≡ [] = found_none t q v.trace x z n m in
@@ -312,5 +318,6 @@ module _ (t : Trace) (w₀ : List ℕ) (p : ReadPre t.format t.file.now w₀) (w
             tabled = record { fits = v.fits; total = omega (arith, v.total, v.within); small = p.small; room = rw v.size p.room };
             list = sym (append-nil (packets_from file w 0 count)) ∙ (rw s at v.same);
           };
+          records = omega (arith, v.number, ap length s);
           tail = rw o ((let z : q.at + 0 ≡ q.at = omega arith in sym z) ∙ (rw s at v.tail));
         }

@@ -5,7 +5,7 @@ use Rattle.words.specs.Rows.{put_words}
 use Rattle.container.specs.Packets.{or_none, packets}
 use Rattle.acl.specs.Reading.{shown, Held}
 use Rattle.acl.specs.declared.Fragment.{Fragment}
-use Rattle.trace.specs.Formats.{file_head, time_by, packet_by, records_from, packets_by, tail_by}
+use Rattle.trace.specs.Formats.{file_head, time_by, packet_by, records_from, records_by, packets_by, tail_by}
 use Rattle.trace.specs.Finding.{bytes_of}
 use Rattle.trace.specs.declared.Format.{Format}
 use Rattle.trace.specs.declared.Trace.{Trace}
@@ -13,6 +13,7 @@ use Rattle.trace.specs.declared.record.Record.{Record}
 use Rattle.trace.specs.declared.reader.Reader.{Reader}
 use Rattle.packets.specs.PacketTable.{packets_from, data_of, Fits, Read}
 use Rattle.packets.specs.declared.Packets.{Packets}
+use Rattle.packets.specs.declared.Empty.{Empty}
 
 -- ---- the packet of a record
 
@@ -43,12 +44,13 @@ pub record Added (r : Record) (w : List ℕ) (count : ℕ) (u : List ℕ) (n : �
 
 -- ---- records without a packet
 
--- from one place the same packets are still to come as from another, and the whole records end at the same place
-pub record Passed (g : Format) (f : List ℕ) (at to : ℕ) : Type 0 where
-  pub least : at ≤ to
-  pub most : to ≤ length f
-  pub list : packets (packet_by g) (records_from g f at) ≡ packets (packet_by g) (records_from g f to)
-  pub tail : at + length (flat (records_from g f at)) ≡ to + length (flat (records_from g f to))
+-- r.count records after a place the same packets are still to come as at it, and the whole records end at the same place
+pub record Passed (g : Format) (f : List ℕ) (at : ℕ) (r : Empty) : Type 0 where
+  pub least : at + 16 * r.count ≤ r.end
+  pub most : r.end ≤ length f
+  pub list : packets (packet_by g) (records_from g f at) ≡ packets (packet_by g) (records_from g f r.end)
+  pub records : length (records_from g f at) ≡ r.count + length (records_from g f r.end)
+  pub tail : at + length (flat (records_from g f at)) ≡ r.end + length (flat (records_from g f r.end))
 
 -- ---- all records
 
@@ -59,15 +61,17 @@ pub record ReadPre (g : Format) (f w : List ℕ) : Type 0 where
 
 pub record ReadTo (g : Format) (f u : List ℕ) (r : Packets) : Type 0 where
   pub read : Read g f u r.count
+  pub records : r.records ≡ length (records_by g f)
   pub tail : r.tail ≡ tail_by g f
 
--- a reader of the trace, after the packets in the table
-pub record Walking (t : Trace) (w₀ w : List ℕ) (q : Reader) (count : ℕ) : Type 0 where
+-- a reader of the trace, after so many whole records, whose packets are in the table
+pub record Walking (t : Trace) (w₀ w : List ℕ) (q : Reader) (count whole : ℕ) : Type 0 where
   pub trace : q.trace ≡ t
-  pub least : 16 ≤ q.at
+  pub least : 16 + 16 * whole ≤ q.at
   pub within : q.at ≤ length t.file.now
   pub size : length w ≡ length w₀
   pub fits : Fits t.file.now w count
   pub total : 16 + 25 * count + data_of w count ≤ q.at
   pub same : packets_from t.file.now w 0 count ++ packets (packet_by t.format) (records_from t.format t.file.now q.at) ≡ packets_by t.format t.file.now
+  pub number : whole + length (records_from t.format t.file.now q.at) ≡ length (records_by t.format t.file.now)
   pub tail : q.at + length (flat (records_from t.format t.file.now q.at)) ≡ tail_by t.format t.file.now

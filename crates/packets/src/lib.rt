@@ -61,11 +61,11 @@ fn add_packet(r: Record, w: &mut [u8], count: usize) -> usize
     count + 1
 }
 
-// What reading a file finds: how many packets, and where the first record starts that passes the end.
-// Stays: beside trace::Walked, whose count is of records; under one name a caller would not see which is counted.
+// What reading a file finds: how many packets, how many whole records, and where the first record starts that passes the end.
 #[derive(Clone, Copy)]
 pub struct Packets {
     pub count: usize,
+    pub records: usize,
     pub tail: usize,
 }
 
@@ -81,22 +81,31 @@ fn is_empty(trace: Trace, at: usize) -> bool
     trace.size_at(at) == head
 }
 
-// The place after the records without bytes that stand at a place: they hold no packets.
-fn pass_empty(trace: Trace, at: usize) -> usize
+// Records without bytes, one after another: where they end, and how many they are.
+#[derive(Clone, Copy)]
+struct Empty {
+    end: usize,
+    count: usize,
+}
+
+// Passes the records without bytes that stand at a place: they hold no packets, but count as records.
+fn pass_empty(trace: Trace, at: usize) -> Empty
     requires { at ≤ length trace.file.now }
     ensures { Passed trace.entry.format trace.entry.file.now at result }
 {
     let head = record_head(trace.format);
     let mut i = at;
+    let mut count = 0;
     // Stays: moved by hand; each is as long as the first, so the next place waits for no length that is read, as that of a reader does (docs/DECISIONS.md).
-    // A `for` over `step_by(head)` would return from within, before an answer that is never given; a count by `take_while` would be made a place again.
+    // A `for` over `step_by(head)` would return from within, before an answer that is never given; a count by `take_while` would need the place made of it by a product.
     while is_empty(trace, i) {
         i += head;
+        count += 1;
     }
-    i
+    Empty { end: i, count }
 }
 
-// Reads the packets of the trace's whole records into the table at the start of work, by a reader.
+// Reads the packets of the trace's whole records into the table at the start of work, by a reader, and counts the packets and the records.
 pub fn read_packets(trace: Trace, w: &mut [u8]) -> Packets
     requires { ReadPre trace.format trace.file.now w.old }
     ensures { ReadTo trace.entry.format trace.entry.file.now w.new result }
@@ -104,15 +113,20 @@ pub fn read_packets(trace: Trace, w: &mut [u8]) -> Packets
     let head = record_head(trace.format);
     let mut records = trace.records();
     let mut count = 0;
+    let mut whole = 0;
     while let Some(r) = records.next() {
+        whole += 1;
         if r.end == r.at + head {
-            records = records.moved(pass_empty(trace, r.end));
+            let passed = pass_empty(trace, r.end);
+            whole += passed.count;
+            records = records.moved(passed.end);
         } else {
             count = add_packet(r, w, count);
         }
     }
     Packets {
         count,
+        records: whole,
         tail: records.at,
     }
 }

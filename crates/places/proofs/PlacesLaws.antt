@@ -3,7 +3,7 @@ use Prim.Native.Nat.{ℕ, ◌*◌, ◌/◌, ◌<◌, ◌≤◌}
 use mathlib.Core.Path.{◌≡◌, refl, subst, ◌∙◌}
 use mathlib.Core.Bool.{true}
 use mathlib.Core.Logic.{⊎_elim}
-use mathlib.Core.List.{List, [], ◌∷◌}
+use mathlib.Core.List.{List, []}
 use native.Mathlib.Omega.{arith}
 use lib.ListN.{length}
 use borrow.Author.Tests.{le-leb, lt-leb}
@@ -106,17 +106,17 @@ module _ (b : Container) (f w : List ℕ) (places : ℕ) (o : Options) (out : Li
       left = m.left.at s q
 
       pub in_plan : (length f / 4 ≤ 1048576) × (s.pieces ≤ 1048576)
-      in_plan = (omega (arith, size.small), omega (arith, size.small, left.few))
+      in_plan = (omega (arith, size.small), omega (arith, size.small, left.kept.few))
 
       module _ (p : Plan) (ep : p ≡ plan_of (length f / 4) s.pieces s.stream.dlci) where
         laid : Laid f v p
-        laid = rw ep left.laid
+        laid = rw ep left.kept.laid
 
         pub in_room : SpreadPre v p
         unfolding plan_of
         in_room = record {
           room = record {
-            low = rw ep (omega (arith, left.few));
+            low = rw ep (omega (arith, left.kept.few));
             after = rw ep (omega arith);
             rows = laid.rows;
             chain = laid.chain;
@@ -131,7 +131,7 @@ module _ (b : Container) (f w : List ℕ) (places : ℕ) (o : Options) (out : Li
         unfolding plan_of listed_by file_stretches open_on
         in_listed u listed l =
             let z : p.n ≡ s.pieces = rw ep in
-            rw (← q) (in_met listed u (l.list f laid (rw ep left.told) ∙ rw (ep, q, left.is, left.pieces)) (omega (arith, l.few, left.few)))
+            rw (← q) (in_met listed u (l.list f laid (rw ep left.kept.told) ∙ rw (ep, q, left.is, left.pieces)) (omega (arith, l.few, left.kept.few)))
 
 told :
     (b : Container) (f w : List ℕ) (places : ℕ) (o : Options) (out : List ℕ) (i : Imported) (listed : ℕ) (w' out' : List ℕ) → ImportsIn b f w places o out i listed w' out' →

@@ -1,6 +1,6 @@
 -- Laws of specs/PieceRows.
 use Prim.Native.Nat.{ℕ, ◌+◌, ◌*◌, ◌/◌, ◌%◌, ◌<◌, ◌≤◌, zero, suc}
-use mathlib.Core.Path.{◌≡◌, refl, sym, ◌∙◌}
+use mathlib.Core.Path.{◌≡◌, refl, sym, ap, ◌∙◌}
 use mathlib.Core.Bool.{Bool, true, false, cond}
 use mathlib.Core.List.{List, [], ◌∷◌, ◌++◌}
 use native.Mathlib.Omega.{arith}
@@ -105,6 +105,11 @@ pub infos_front : (n : ℕ) (u w : List ℕ) (b i : ℕ) → 4 * (b + 8 * i) ≤
 unfolding infos_of
 infos_front n u w b zero h a = refl
 infos_front n u w b (suc i) h a = rw (infos_front n u w b i (omega arith) a, front_word n u w (b + 8 * i + 5) (omega arith) a)
+
+pub length_pieces : (f w : List ℕ) (b i m : ℕ) → length (pieces_from f w b i m) ≡ m
+unfolding pieces_from
+length_pieces f w b i zero = refl
+length_pieces f w b i (suc m) = ap suc (length_pieces f w b (suc i) m)
 
 pub pieces_snoc : (f w : List ℕ) (b i m : ℕ) → pieces_from f w b i (suc m) ≡ pieces_from f w b i m ++ (piece_at f w (b + 8 * (i + m)) ∷ [])
 unfolding pieces_from

@@ -1,15 +1,14 @@
--- What the call that lists the spans answers, from the choice.
-use Prim.Native.Nat.{ℕ, ◌+◌, ◌*◌, ◌/◌, ◌<◌, ◌≤◌}
+-- What stands in work once a DLCI is chosen; what the list of its spans is, by the definition of import; and how it is written.
+use Prim.Native.Nat.{ℕ, ◌+◌, ◌*◌, ◌/◌, ◌≤◌}
 use mathlib.Core.Path.{◌≡◌, refl, sym, ap, ◌∙◌}
 use mathlib.Core.List.{List, [], ◌∷◌}
 use mathlib.Core.Option.{Option, none, some}
 use native.Mathlib.Omega.{arith}
 use lib.ListN.{length}
-use Rattle.laws.specs.Answers.{gives}
-use Rattle.laws.proofs.Answers.{meets_refused, meets_short, meets_wrote}
+use Rattle.laws.specs.Answers.{gives, refuses}
 use Rattle.laws.specs.Stores.{Writes}
 use Rattle.words.specs.Front.{Front}
-use Rattle.words.proofs.Front.{front_then, front_less}
+use Rattle.words.proofs.Front.{front_less}
 use Rattle.items.specs.Items.{span_list}
 use Rattle.rfcomm.specs.Pieces.{Piece}
 use Rattle.rfcomm.specs.PieceTable.{infos_of}
@@ -21,16 +20,12 @@ use Rattle.split.proofs.Fronts.{laid_lying}
 use Rattle.split.specs.declared.Plan.{Plan}
 use Rattle.writing.specs.Writing.{ListPre}
 use Rattle.outcome.specs.Import.{chosen, listed, given}
-use Rattle.streams.specs.Streams.{channel_of, plan_of, table_pieces, Tabled, Ready, below, stream_of, choice_of, Chooses, told, Leaves, ListsSpans, Channel, Choice, Listed}
+use Rattle.streams.specs.Streams.{channel_of, plan_of, table_pieces, Tabled, Ready, stream_of, choice_of, Chooses, Leaves, ChoosesStream, kept_list, WriteListPre, Channel, Choice}
 use Rattle.streams.specs.declared.Stream.{Stream}
-use Rattle.streams.specs.declared.ListError.{ListError}
-use Rattle.streams.specs.declared.ListError.TheVariants.{NoStream, OutShort}
-use Rattle.std.specs.Prelude.{None, Some, Ok, Err, ok_or}
-use Rattle.std.specs.Result.{result_ok}
+use Rattle.std.specs.Prelude.{None, Some}
 use Rattle.streams.proofs.Choosing.{laid_later, all_same}
 
-low : (f : List ℕ) (n : ℕ) (u w : List ℕ) → Front (below f n) u w → Front (24 * (length f / 4)) u w
-low f n u w s = front_less (24 * (length f / 4)) (below f n) u w (omega arith) s
+-- ---- what import gives, by the choice
 
 choice_none : (ps : List Piece) (o : Option ℕ) → None ≡ choice_of ps o → o ≡ none
 unfolding choice_of
@@ -42,83 +37,64 @@ unfolding choice_of stream_of
 choice_some ps none s e = let z : ◌≡◌ {A = ℕ} 0 1 = cc in absurd (omega arith)
 choice_some ps (some d) s e = let z : s ≡ stream_of ps d = cc in (rw z, rw z)
 
-module _ (f w : List ℕ) (n : ℕ) (channel : Channel) (u : List ℕ) (c : Choice) (q : Chooses f w n channel u c) (out : List ℕ) (o : Listed) (z : c ≡ result_ok o) where
-  pub lists_none : o ≡ ok_or c NoStream → (x : ListError) → o ≡ Err x → ListsSpans f w n channel out (Err x) u out
-  unfolding listed given told
-  lists_none v x h =
-      let e : c ≡ None = z ∙ ap result_ok h in
-      let k : ◌≡◌ {A = Listed} (Err x) (Err NoStream) = sym h ∙ v ∙ ap (λ (y : Choice). ok_or y NoStream) e in
-      let y : chosen (channel_of channel) (table_pieces f w n) ≡ none = choice_none (table_pieces f w n) (chosen (channel_of channel) (table_pieces f w n)) (sym e ∙ q.chooses) in
-      rw k (record {
-        meets = λ tail wrongs. meets_refused (given (listed (table_pieces f w n) wrongs tail (chosen (channel_of channel) (table_pieces f w n)))) out 6 [] (rw y);
-        front = low f n u w q.front;
-        left = λ s g. (let y : ◌≡◌ {A = ℕ} 0 1 = cc in absurd (omega arith));
-        small = λ s g. (let y : ◌≡◌ {A = ℕ} 0 1 = cc in absurd (omega arith));
-      })
+module _ (ps : List Piece) (o : Option ℕ) (wrongs : ℕ → ℕ) (tail : ℕ) where
+  pub given_none : None ≡ choice_of ps o → given (listed ps wrongs tail o) ≡ refuses 6 []
+  unfolding given listed
+  given_none e = rw (choice_none ps o e)
 
-  module _ (s : Stream) (m : o ≡ Ok s) where
-    chosen_is : c ≡ Some s
-    chosen_is = z ∙ ap result_ok m
-
-    of_stream : (chosen (channel_of channel) (table_pieces f w n) ≡ some s.dlci) × (s ≡ stream_of (table_pieces f w n) s.dlci)
-    of_stream = choice_some (table_pieces f w n) (chosen (channel_of channel) (table_pieces f w n)) s (sym chosen_is ∙ q.chooses)
-
+  module _ (s : Stream) (e : Some s ≡ choice_of ps o) where
     abbrev list : List ℕ
-    list = span_list (spans (on_dlci s.dlci (table_pieces f w n)))
+    list = span_list (spans (on_dlci s.dlci ps))
 
-    needed : s.bytes ≡ length list
+    pub list_needed : s.bytes ≡ length list
     unfolding stream_of
-    needed = ap (λ (x : Stream). x.bytes) of_stream.1
+    list_needed = ap (λ (x : Stream). x.bytes) (choice_some ps o s e).1
 
-    gives_list :
-        (tail : ℕ) (wrongs : ℕ → ℕ) →
-        given (listed (table_pieces f w n) wrongs tail (chosen (channel_of channel) (table_pieces f w n))) ≡ gives (s.dlci ∷ s.spans ∷ s.unfinished ∷ tail ∷ s.bytes ∷ wrongs s.dlci ∷ s.in_spans ∷ s.dropped ∷ s.cleared ∷ s.left ∷ []) list
+    -- DLCI, spans, unfinished, the tail offset, the bytes written, the wrong frames of the DLCI, and where its bytes went; and the list
+    pub given_some : given (listed ps wrongs tail o) ≡ gives (s.dlci ∷ s.spans ∷ s.unfinished ∷ tail ∷ s.bytes ∷ wrongs s.dlci ∷ s.in_spans ∷ s.dropped ∷ s.cleared ∷ s.left ∷ []) list
     unfolding given listed stream_of
-    gives_list tail wrongs =
+    given_some =
         let v : Stream → List ℕ = λ x. s.dlci ∷ x.spans ∷ x.unfinished ∷ tail ∷ x.bytes ∷ wrongs s.dlci ∷ x.in_spans ∷ x.dropped ∷ x.cleared ∷ x.left ∷ [] in
-        rw of_stream.0 (sym (ap (λ (x : Stream). gives (v x) list) of_stream.1))
+        rw (choice_some ps o s e).0 (sym (ap (λ (x : Stream). gives (v x) list) (choice_some ps o s e).1))
 
-    pub lists_short : length out < s.bytes → ListsSpans f w n channel out (Err (OutShort s.bytes)) u out
-    unfolding told
-    lists_short h = record {
-      meets = λ tail wrongs. meets_short _ out _ list s.bytes (gives_list tail wrongs) needed h;
-      front = low f n u w q.front;
-      left = λ t g. (let y : ◌≡◌ {A = ℕ} 0 1 = cc in absurd (omega arith));
-      small = λ t g. (let y : ◌≡◌ {A = ℕ} 0 1 = cc in absurd (omega arith));
+-- ---- what is left in work
+
+module _ (f w : List ℕ) (n : ℕ) (t : Ready f w n) (channel : Channel) (u : List ℕ) (c : Choice) (q : Chooses f w n channel u c) (k : length u ≡ length w) where
+  leaves : (s : Stream) → c ≡ Some s → Leaves f (table_pieces f w n) (channel_of channel) n u s.dlci
+  leaves s m = record {
+    is = (choice_some (table_pieces f w n) (chosen (channel_of channel) (table_pieces f w n)) s (sym m ∙ q.chooses)).0;
+    pieces = all_same f w n t u q.front (plan_of (length f / 4) n s.dlci) s.dlci refl;
+    kept = record {
+      laid = laid_later f w n t u q.front k (plan_of (length f / 4) n s.dlci) s.dlci refl;
+      told = q.told s m;
+      few = omega (arith, t.tabled.few);
+      small = t.tabled.small;
+    };
+  }
+
+  chooses_stream : ChoosesStream f w n channel u c
+  chooses_stream = record { chooses = q.chooses; left = leaves; small = q.small }
+
+-- ---- the list written
+
+module _ (f u : List ℕ) (n d : ℕ) (out : List ℕ) (e : WriteListPre f u n d out) where
+  pub write_plan : (length f / 4 ≤ 1048576) × (n ≤ 1048576)
+  write_plan = (omega (arith, e.kept.small), omega (arith, e.kept.few, e.kept.small))
+
+  module _ (p : Plan) (ep : p ≡ plan_of (length f / 4) n d) where
+    pub write_lying : Lying f u p
+    write_lying = laid_lying f u p (rw ep e.kept.laid)
+
+    pub write_pre : ListPre f u p out
+    unfolding plan_of
+    write_pre = record {
+      told = rw ep e.kept.told;
+      small = rw ep e.kept.laid.sum;
+      room = rw ep e.room;
     }
 
-    module _ (t : Ready f w n) (h : s.bytes ≤ length out) (k : length u ≡ length w) (p : Plan) (ep : p ≡ plan_of (length f / 4) n s.dlci) where
-      pub lists_lying : Lying f u p
-      lists_lying = laid_lying f u p (laid_later f w n t u q.front k p s.dlci ep)
-
-      pub lists_pre : ListPre f u p out
-      unfolding plan_of
-      lists_pre = record {
-        told = rw ep (q.told s chosen_is);
-        small = (laid_later f w n t u q.front k p s.dlci ep).sum;
-        room = rw (all_same f w n t u q.front p s.dlci ep) (omega (arith, needed));
-      }
-
-      leaves : Leaves f (table_pieces f w n) (channel_of channel) n u s.dlci
-      unfolding plan_of
-      leaves = record {
-        is = of_stream.0;
-        pieces = rw ep at (all_same f w n t u q.front p s.dlci ep);
-        laid = rw ep at (laid_later f w n t u q.front k p s.dlci ep);
-        told = q.told s chosen_is;
-        few = omega (arith, t.tabled.few);
-      }
-
-      pub lists_all : (r : ℕ) (out' : List ℕ) → Writes out 0 (span_list (spans (all f u p))) r out' → ListsSpans f w n channel out (Ok s) u out'
-      unfolding told
-      lists_all r out' y =
-          let x : Writes out 0 list r out' = rw (all_same f w n t u q.front p s.dlci ep) at y in
-          record {
-            meets = λ tail wrongs. meets_wrote _ out _ list r out' (gives_list tail wrongs) (omega (arith, needed)) x;
-            front = low f n u w q.front;
-            left = λ t g. (let y : t ≡ s = cc in rw y leaves);
-            small = λ t g. (let y : t ≡ s = cc in rw y (q.small s chosen_is));
-          }
+    pub written : (r : ℕ) (out' : List ℕ) → Writes out 0 (span_list (spans (all f u p))) r out' → Writes out 0 (kept_list f u n d) r out'
+    written r out' x = rw ep at x
 
 -- ---- the pieces linked first
 
@@ -156,5 +132,5 @@ module _ (f w : List ℕ) (n : ℕ) (t : Tabled f w n) (p : Plan) (ep : p ≡ pl
           linked = rw ep at l.linked;
         }
 
-    pub link_lists : (channel : Channel) (out : List ℕ) (r : Listed) (v out' : List ℕ) → ListsSpans f u n channel out r v out' → ListsSpans f w n channel out r v out'
-    link_lists channel out r v out' y = record { meets = rw same at y.meets; front = front_then (24 * (length f / 4)) v u w y.front front; left = rw same at y.left; small = y.small }
+    pub link_chooses : length u ≡ length w → (channel : Channel) (v : List ℕ) (c : Choice) → Chooses f u n channel v c → length v ≡ length u → ChoosesStream f w n channel v c
+    link_chooses e channel v c q k = let y = chooses_stream f u n (link_ready e) channel v c q k in record { chooses = rw same at y.chooses; left = rw same at y.left; small = y.small }

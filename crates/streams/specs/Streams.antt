@@ -1,7 +1,6 @@
--- The DLCI chosen, with what is counted of it; and what the call that lists its spans answers.
-use Rattle.std.specs.Prelude.{Option as Maybe, None, Some, Result, Ok, Err, ℕ, ◌+◌, ◌-◌, ◌*◌, ◌/◌, ◌<◌, ◌≤◌, ◌≡◌, List, [], ◌∷◌, length}
+-- The DLCI chosen, with what is counted of it, and what work then has, by which its list is written.
+use Rattle.std.specs.Prelude.{Option as Maybe, None, Some, ℕ, ◌+◌, ◌-◌, ◌*◌, ◌/◌, ◌<◌, ◌≤◌, ◌≡◌, List, length}
 use Rattle.std.proofs.Math.Option.{Option, none, some}
-use Rattle.laws.specs.Answers.{Answer, accepted, refused, Meets}
 use Rattle.words.specs.Front.{Front}
 use Rattle.items.specs.Items.{span_list}
 use Rattle.rfcomm.specs.Pieces.{Piece}
@@ -12,20 +11,15 @@ use Rattle.split.specs.Rows.{all, Linked, Laid}
 use Rattle.split.specs.Walks.{AllTold}
 use Rattle.split.specs.declared.Plan.{Plan}
 use Rattle.measuring.specs.declared.Sums.{Sums}
-use Rattle.outcome.specs.Import.{chosen, listed, given}
+use Rattle.outcome.specs.Import.{chosen}
 use Rattle.streams.specs.declared.Stream.{Stream}
-use Rattle.streams.specs.declared.ListError.{ListError}
-use Rattle.streams.specs.declared.ListError.TheVariants.{NoStream, OutShort}
 
--- the channel that is asked for, if one is; the DLCI chosen, if one is; the list of its spans, or why there is none
+-- the channel that is asked for, if one is; the DLCI chosen, if one is
 abbrev pub Channel : Type 0
 Channel = Maybe ℕ
 
 abbrev pub Choice : Type 0
 Choice = Maybe Stream
-
-abbrev pub Listed : Type 0
-Listed = Result Stream ListError
 
 unfoldable pub channel_of : Channel → Option ℕ
 channel_of None = none
@@ -97,27 +91,33 @@ pub record Chooses (f w : List ℕ) (n : ℕ) (channel : Channel) (u : List ℕ)
   pub told : (s : Stream) → r ≡ Some s → AllTold f u (plan_of (length f / 4) n s.dlci) n
   pub small : (s : Stream) → r ≡ Some s → s.dlci < 64
 
--- ---- the list
+-- ---- the choice, from the table of pieces on
 
--- 6, 7, or DLCI, spans, unfinished, the tail offset, the bytes written, the wrong frames of the DLCI, and where its bytes went. The caller knows
--- the tail offset, and the wrong frames on each DLCI.
-unfoldable pub told : ℕ → (ℕ → ℕ) → Listed → Answer
-told tail wrongs (Err NoStream) = refused 6 []
-told tail wrongs (Err (OutShort n)) = refused 7 (n ∷ [])
-told tail wrongs (Ok s) = accepted (s.dlci ∷ s.spans ∷ s.unfinished ∷ tail ∷ s.bytes ∷ wrongs s.dlci ∷ s.in_spans ∷ s.dropped ∷ s.cleared ∷ s.left ∷ [])
-
--- what stands in work for the DLCI d, chosen for the pieces ps: a table of n pieces that has its pieces, linked, and their words
-pub record Leaves (f : List ℕ) (ps : List Piece) (channel : Option ℕ) (n : ℕ) (u : List ℕ) (d : ℕ) : Type 0 where
-  pub is : chosen channel ps ≡ some d
-  pub pieces : all f u (plan_of (length f / 4) n d) ≡ on_dlci d ps
+-- what stands in work for the DLCI d, chosen: a table of n pieces, linked, and what counting left of those of the DLCI
+pub record Kept (f u : List ℕ) (n d : ℕ) : Type 0 where
   pub laid : Laid f u (plan_of (length f / 4) n d)
   pub told : AllTold f u (plan_of (length f / 4) n d) n
   pub few : 16 + 32 * n ≤ length f
+  pub small : length f ≤ 1048576
 
--- the answer and the output are those of the list of the DLCI chosen, whatever the tail offset and the wrong frames are; where there is a list,
--- work has what counting left
-pub record ListsSpans (f w : List ℕ) (n : ℕ) (channel : Channel) (out : List ℕ) (r : Listed) (u out' : List ℕ) : Type 0 where
-  pub meets : (tail : ℕ) (wrongs : ℕ → ℕ) → Meets (given (listed (table_pieces f w n) wrongs tail (chosen (channel_of channel) (table_pieces f w n)))) out (told tail wrongs r) out'
-  pub front : Front (24 * (length f / 4)) u w
-  pub left : (s : Stream) → r ≡ Ok s → Leaves f (table_pieces f w n) (channel_of channel) n u s.dlci
-  pub small : (s : Stream) → r ≡ Ok s → s.dlci < 64
+-- and that it was chosen for the pieces ps, which the table has
+pub record Leaves (f : List ℕ) (ps : List Piece) (channel : Option ℕ) (n : ℕ) (u : List ℕ) (d : ℕ) : Type 0 where
+  pub is : chosen channel ps ≡ some d
+  pub pieces : all f u (plan_of (length f / 4) n d) ≡ on_dlci d ps
+  pub kept : Kept f u n d
+
+-- the choice by the definition; where a DLCI is chosen, work has what its list is written by
+pub record ChoosesStream (f w : List ℕ) (n : ℕ) (channel : Channel) (u : List ℕ) (r : Choice) : Type 0 where
+  pub chooses : r ≡ choice_of (table_pieces f w n) (chosen (channel_of channel) (table_pieces f w n))
+  pub left : (s : Stream) → r ≡ Some s → Leaves f (table_pieces f w n) (channel_of channel) n u s.dlci
+  pub small : (s : Stream) → r ≡ Some s → s.dlci < 64
+
+-- ---- the list
+
+-- of the spans of the pieces that work has for the DLCI d
+abbrev pub kept_list : List ℕ → List ℕ → ℕ → ℕ → List ℕ
+kept_list f u n d = span_list (spans (all f u (plan_of (length f / 4) n d)))
+
+pub record WriteListPre (f u : List ℕ) (n d : ℕ) (out : List ℕ) : Type 0 where
+  pub kept : Kept f u n d
+  pub room : length (kept_list f u n d) ≤ length out

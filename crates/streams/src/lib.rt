@@ -1,9 +1,10 @@
-// The DLCI chosen, and the list of its spans.
+// The DLCI chosen, and the list of its spans, which is written once there is room for it.
 #![tactic(auto)]
 
-ghost use Rattle.std.specs.Prelude.{◌≡◌, ◌*◌, ◌/◌, ◌≤◌, ◌<◌, length};
+ghost use Rattle.std.specs.Prelude.{◌≡◌, ◌*◌, ◌/◌, ◌≤◌, ◌<◌};
 ghost use Rattle.outcome.specs.Import.{on_channel};
-ghost use Rattle.streams.specs.Streams.{channel_of, plan_of, Tabled, Ready, Accountable, stream_summed, Chooses, ListsSpans};
+ghost use Rattle.laws.specs.Stores.{Writes};
+ghost use Rattle.streams.specs.Streams.{channel_of, plan_of, Tabled, Ready, Accountable, stream_summed, Chooses, ChoosesStream, kept_list, WriteListPre};
 
 use measuring::{Sums, count_spans};
 use split::{Pieces, Plan, link_pieces};
@@ -71,7 +72,7 @@ fn stream_of(dlci: u32, s: Sums) -> Stream
 }
 
 // The first DLCI seen, on the channel, that has a span which unpacks.
-pub fn choose_dlci(file: &[u8], w: &mut [u8], n: usize, channel: Option<u8>) -> Option<Stream>
+fn choose_dlci(file: &[u8], w: &mut [u8], n: usize, channel: Option<u8>) -> Option<Stream>
     requires { Ready file.now w.old n }
     ensures { Chooses file.now w.old n channel w.new result }
 {
@@ -93,33 +94,22 @@ pub fn choose_dlci(file: &[u8], w: &mut [u8], n: usize, channel: Option<u8>) -> 
     None
 }
 
-// Why there is no list: no DLCI has a span which unpacks (6 by number), or the output is too short for so many bytes (7).
-#[derive(Clone, Copy)]
-pub enum ListError {
-    NoStream,
-    OutShort(usize),
-}
-
-// Lists the spans of the DLCI chosen, for the n pieces in the table.
-pub fn list_spans(
-    file: &[u8],
-    w: &mut [u8],
-    n: usize,
-    channel: Option<u8>,
-    out: &mut [u8],
-) -> Result<Stream, ListError>
+// Links the n pieces in the table, and chooses. Work keeps what was counted of the DLCI chosen, by which its list is written.
+pub fn choose_stream(file: &[u8], w: &mut [u8], n: usize, channel: Option<u8>) -> Option<Stream>
     requires { Tabled file.now w.old n }
-    ensures { ListsSpans file.now w.old n channel out.old result w.new out.new }
+    ensures { ChoosesStream file.now w.old n channel w.new result }
 {
     let q = file.len() / 4;
     let all = plan(q, n, 0);
     link_pieces(w, all, 7 * q);
-    let s = choose_dlci(file, w, n, channel).ok_or(ListError::NoStream)?;
-    if out.len() < s.bytes {
-        return Err(ListError::OutShort(s.bytes));
-    }
-    let p = plan(q, n, s.dlci as u32);
-    let pieces = Pieces { file, w, plan: p };
-    write_spans(pieces, out);
-    Ok(s)
+    choose_dlci(file, w, n, channel)
+}
+
+// Writes the list of the spans of the DLCI chosen, and returns its length.
+pub fn write_list(file: &[u8], w: &[u8], n: usize, dlci: u8, out: &mut [u8]) -> usize
+    requires { WriteListPre file.now w.now n dlci out.old }
+    ensures { Writes out.old 0 (kept_list file.now w.now n dlci) result out.new }
+{
+    let p = plan(file.len() / 4, n, dlci as u32);
+    write_spans(Pieces { file, w, plan: p }, out)
 }

@@ -4,7 +4,7 @@
 
 ghost use Rattle.std.specs.Prelude.{◌≡◌};
 ghost use Rattle.laws.specs.Answers.{Answer, answered, wrote};
-ghost use Rattle.capture.specs.Calls.{told_summary, told_import_error};
+ghost use Rattle.capture.specs.Calls.{told_summary, told_sizes, told_find_error, told_import_error};
 ghost use Rattle.trace.specs.Headers.{told_refusal};
 ghost use Rattle.trace.specs.Listing.{told_walked};
 ghost use Rattle.fixtures.specs.Told.{told_plan, told_plan_error};
@@ -12,7 +12,7 @@ ghost use Rattle.mdr.specs.Told.{told_unpacked, told_error, told_pack_error};
 ghost use Rattle.order.specs.Order.{told_order_error};
 ghost use Rattle.telling.specs.Telling.{stored, Told, TellsAs};
 
-use capture::{ImportError, Summary};
+use capture::{FindError, ImportError, Sizes, Summary};
 use fixtures::{PlanError, Planned};
 use mdr::{PackError, UnpackError, Unpacked};
 use order::OrderError;
@@ -123,6 +123,20 @@ impl Tell for Summary {
     }
 }
 
+impl Tell for Sizes {
+    ghost answer = { told_sizes };
+
+    fn tell(self, values: &mut [u64]) -> u32 {
+        let list = [
+            self.needed as u64,
+            self.records as u64,
+            self.pdus as u64,
+            self.pieces as u64,
+        ];
+        tell_as(0, &list, values)
+    }
+}
+
 // ---- why they refuse
 
 impl Tell for UnpackError {
@@ -193,6 +207,17 @@ impl Tell for Refusal {
             Refusal::NotPcap => tell_as(21, &[], values),
             Refusal::LinkType(n) => tell_as(22, &[n as u64], values),
             Refusal::Truncated(offset) => tell_as(5, &[offset as u64], values),
+        }
+    }
+}
+
+impl Tell for FindError {
+    ghost answer = { told_find_error };
+
+    fn tell(self, values: &mut [u64]) -> u32 {
+        match self {
+            FindError::Refused(x) => x.tell(values),
+            FindError::NoStream => tell_as(6, &[], values),
         }
     }
 }

@@ -41,6 +41,7 @@ pub enum Command {
     Frames(Look, bool),
     Records(PathBuf, bool),
     Channels(PathBuf, bool),
+    Sizes(Look, bool),
     Check(Check),
     /// Print this and nothing else.
     Say(String),
@@ -62,6 +63,8 @@ const RECORDS: Takes = Takes { command: "records", values: &[], flags: &["--json
 const FRAMES: Takes =
     Takes { command: "frames", values: &["--channel"], flags: &["--tolerant", "--check-fcs", "--json"] };
 const CHANNELS: Takes = Takes { command: "channels", values: &[], flags: &["--json"] };
+const SIZES: Takes =
+    Takes { command: "sizes", values: &["--channel"], flags: &["--tolerant", "--check-fcs", "--json"] };
 const CHECK: Takes = Takes { command: "check", values: &[], flags: &["--json"] };
 
 /// What was given: the trace, and options with their values.
@@ -117,6 +120,9 @@ pub fn parse(args: &[OsString]) -> Result<Command, String> {
         }),
         Some("channels") => command(&CHANNELS, help::CHANNELS, rest, |given| {
             given.look().map(|look| Command::Channels(look.trace, given.has("--json")))
+        }),
+        Some("sizes") => command(&SIZES, help::SIZES, rest, |given| {
+            given.look().map(|look| Command::Sizes(look, given.has("--json")))
         }),
         Some("check") => command(&CHECK, help::CHECK, rest, check),
         Some("--help" | "-h") => Ok(Command::Say(help::ALL.to_string())),

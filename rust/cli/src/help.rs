@@ -5,6 +5,7 @@ usage: lumbryth import TRACE --out DIR [options]
        lumbryth frames TRACE [options]
        lumbryth records TRACE [options]
        lumbryth channels TRACE [options]
+       lumbryth sizes TRACE [options]
        lumbryth check DIR [TRACE] [options]
        lumbryth COMMAND --help
 ";
@@ -17,6 +18,7 @@ usage: lumbryth import TRACE --out DIR [options]   write each frame to a file
        lumbryth frames TRACE [options]             list the frames
        lumbryth records TRACE [options]            list the records that carry them
        lumbryth channels TRACE [options]           list the channels, and which have frames
+       lumbryth sizes TRACE [options]              tell how much import needs and TRACE holds
        lumbryth check DIR [TRACE] [options]        check what import wrote
        lumbryth COMMAND --help                     more about a command
        lumbryth --version
@@ -153,6 +155,30 @@ program's own reading and is not proved; what import gives is proved.
   --json           an object a line: file; then handle, channel; then dlci, share (what
                    each adapter and handle has of it), refused
   --               what follows is no option
+";
+
+pub const SIZES: &str = "\
+usage: lumbryth sizes TRACE [options]
+
+Tells, before anything is imported, how many bytes the list of spans takes that import makes
+of TRACE, and how much TRACE holds: records, PDUs that were put together from their packets,
+and pieces of information, a line for each. So it says how much output the library needs. A
+trace that import refuses is refused in the same words. The numbers are proved.
+
+  --channel N      the list of RFCOMM channel N, 0 to 31; else of the first that carries
+                   frames
+  --tolerant       read a file that ends inside a record up to there; else such a file is
+                   refused
+  --check-fcs      pass over RFCOMM's UIH frames whose check byte, the FCS, is wrong; else
+                   it is not checked
+  --json           an object: sizes
+  --               what follows is no option
+
+The list has 14 bytes for each span, and the span's: from 3E through 3C, also where that
+does not unpack. Every whole record is counted, and every PDU that is whole, of each
+adapter, handle and channel. A piece is the information of a UIH frame that is taken, if
+it has any; those of every DLCI but 0 are counted, also of DLCIs that import does not
+take. Beside its output the library needs work, 8 times the bytes of the file.
 ";
 
 pub const CHECK: &str = "\

@@ -30,7 +30,7 @@ use std::process::ExitCode;
 use args::{Check, Command, Import, Look};
 use check::Fault;
 use look::Trace;
-use lumbryth::{import_stretches_with, plan, Fixture, Gaps, Imported, Stretch, TailRule};
+use lumbryth::{import_stretches_with, plan, sizes_with, Fixture, Gaps, Imported, Options, Stretch, TailRule};
 use refused::{refused, Asked};
 use set::Set;
 use words::{count, shown};
@@ -91,6 +91,7 @@ fn run(args: &[OsString]) -> Result<(), Failure> {
         Command::Frames(look, json) => run_frames(&look, json),
         Command::Records(trace, json) => run_records(&trace, json),
         Command::Channels(trace, json) => run_channels(&trace, json),
+        Command::Sizes(look, json) => run_sizes(&look, json),
         Command::Check(options) => run_check(&options),
     }
 }
@@ -124,12 +125,17 @@ fn found(look: &Look) -> Result<Found, Failure> {
     imported(look, source::read(&look.trace).map_err(Failure::Refused)?)
 }
 
+/// How a trace is asked for.
+fn options(look: &Look, trace: Trace) -> Options {
+    let tail = if look.tolerant { TailRule::Tolerant } else { TailRule::Strict };
+    let options = trace.options().with_tail(tail).with_check_fcs(look.check_fcs);
+    look.channel.map_or(options, |channel| options.with_channel(channel))
+}
+
 fn imported(look: &Look, file: Vec<u8>) -> Result<Found, Failure> {
     let trace = Trace::of(&file);
-    let tail = if look.tolerant { TailRule::Tolerant } else { TailRule::Strict };
-    let mut options = trace.options().with_tail(tail).with_check_fcs(look.check_fcs);
-    options.channel = look.channel;
-    match import_stretches_with(&file, &options).and_then(|found| Ok((found, trace.gaps(tail)?))) {
+    let options = options(look, trace);
+    match import_stretches_with(&file, &options).and_then(|found| Ok((found, trace.gaps(options.tail)?))) {
         Ok(((imported, open), gaps)) => Ok(Found { file, imported, open, gaps }),
         Err(refusal) => Err(Failure::Refused(refused(&look.trace, look.into(), trace, refusal))),
     }
@@ -200,6 +206,14 @@ fn run_channels(path: &Path, json: bool) -> Result<(), Failure> {
     let told = |refusal| Failure::Refused(refused(path, Asked::default(), trace, refusal));
     let (seen, gaps) = (look::look(trace, false).map_err(told)?, trace.gaps(TailRule::Tolerant).map_err(told)?);
     print(&if json { channels::objects(trace, &seen, &gaps) } else { channels::text(trace, &seen, &gaps) })
+}
+
+fn run_sizes(look: &Look, json: bool) -> Result<(), Failure> {
+    let file = source::read(&look.trace).map_err(Failure::Refused)?;
+    let trace = Trace::of(&file);
+    let told = |refusal| Failure::Refused(refused(&look.trace, look.into(), trace, refusal));
+    let sizes = sizes_with(&file, &options(look, trace)).map_err(told)?;
+    print(&if json { report::sizes_object(trace, &sizes) } else { report::sizes(trace, look, &sizes) })
 }
 
 fn run_check(options: &Check) -> Result<(), Failure> {

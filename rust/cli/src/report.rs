@@ -13,7 +13,7 @@ use crate::words::{
 };
 use crate::write::Done;
 use look::{adapters, Kind as Held, Link, Trace};
-use lumbryth::{unpack, Cut, Direction, Ending, Gaps, Imported, Records, Stretch};
+use lumbryth::{unpack, Cut, Direction, Ending, Gaps, Imported, Records, Sizes, Stretch};
 
 /// How many spans do not unpack.
 pub fn broken(imported: &Imported) -> usize {
@@ -341,4 +341,30 @@ pub fn record_objects(trace: Trace, found: &Records, gaps: &Gaps) -> String {
         ]);
     }
     text
+}
+
+/// The sizes of a trace, a line each, by how they were asked for; and how the file ends.
+pub fn sizes(trace: Trace, look: &Look, sizes: &Sizes) -> String {
+    let on = look.channel.map_or(String::new(), |channel| format!(" on channel {channel}"));
+    let fcs = if look.check_fcs { " with a right FCS" } else { "" };
+    let mut text = format!("Needed for the list of spans{on}: {} bytes.\n", sizes.needed);
+    let _ = writeln!(text, "Records: {}.", sizes.records);
+    let _ = writeln!(text, "PDUs put together: {}.", sizes.pdus);
+    let _ = writeln!(text, "Pieces of information{fcs}: {}.", sizes.pieces);
+    let (words, seen) = end_of(trace).unwrap_or_default();
+    let _ = writeln!(text, "{}", sentence(&words));
+    if seen {
+        text += "Whatever came later is missing.\n";
+    }
+    text
+}
+
+/// What `sizes` says, as an object.
+pub fn sizes_object(trace: Trace, sizes: &Sizes) -> String {
+    let numbers =
+        [("needed", sizes.needed), ("records", sizes.records), ("pdus", sizes.pdus), ("pieces", sizes.pieces)];
+    let mut fields = vec![("kind", string("sizes"))];
+    fields.extend(numbers.map(|(name, number)| (name, number.to_string())));
+    fields.extend(end_fields(trace));
+    object(&fields)
 }

@@ -22,6 +22,7 @@ fn help_and_version() {
         &["frames", "--help"],
         &["records", "--help"],
         &["channels", "--help"],
+        &["sizes", "--help"],
         &["check", "--help"],
         &["import", "x", "-h"],
     ] {
@@ -54,9 +55,13 @@ fn usage() {
         2,
         &["records has no option '--tolerant'; see lumbryth records --help"],
     );
+    fails(&run(&["sizes", "--json"]), 2, &["no trace is named; see lumbryth sizes --help"]);
+    fails(&run(&["sizes", "a", "b"]), 2, &["one trace at a time: 'b' is one too many; see lumbryth sizes --help"]);
+    fails(&run(&["sizes", "a", "--out", "b"]), 2, &["sizes has no option '--out'; see lumbryth sizes --help"]);
     for channel in ["32", "256", "-1", "+5", "", "x", "0x9", "99999999999999999999"] {
         let told = format!("--channel takes a number from 0 to 31, not '{channel}'");
         fails(&run(&["frames", "a", "--channel", channel]), 2, &[&told]);
+        fails(&run(&["sizes", "a", "--channel", channel]), 2, &[&told]);
     }
     fails(&run(&["check"]), 2, &["no directory is named; see lumbryth check --help"]);
     fails(&run(&["check", ""]), 2, &["the name of the directory is empty"]);

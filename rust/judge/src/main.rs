@@ -4,8 +4,9 @@
 //!
 //! For each trace tshark says which PDUs it put together, and which information it found on which DLCI. The PDUs are held to
 //! those of a plain reader here; the information, scanned for frames, to what the library imports for each DLCI: every span's
-//! bytes, direction and time, in order, how many are under way at the end, and where every byte of the information went. Cuts of the
-//! trace are held to what tshark found in the records that are left. Then faults are planted in what our side reads, and each of them
+//! bytes, direction and time, in order, how many are under way at the end, and where every byte of the information went. So are the
+//! sizes that it tells before: the bytes of the list, and how many records, PDUs and pieces there are. Cuts of the trace are held to
+//! what tshark found in the records that are left. Then faults are planted in what our side reads, and each of them
 //! has to show.
 //!
 //! Each import is judged with the FCS not checked and with it checked. tshark shows an FCS and does not say whether it is right; that
@@ -32,7 +33,9 @@ use std::{env, fs, process};
 
 use generate::Generated;
 use judged::{spans, Piece, Seen};
-use lumbryth::{import_with, records_with, unpack, Container, Imported, Options, Refusal, Span, TailRule};
+use lumbryth::{
+    import_with, records_with, sizes_with, unpack, Container, Imported, Options, Refusal, Sizes, Span, TailRule,
+};
 use rng::Rng;
 use trace::pcap::{Form, FORMS};
 
@@ -116,6 +119,17 @@ fn judge_bytes(imported: &Imported, there: &[Span], held: &[usize], pieces: &[Pi
     Ok(())
 }
 
+/// Holds the sizes that the library tells to the spans that tshark's information gives, its records and PDUs, and the pieces.
+fn judge_sizes(sizes: &Sizes, seen: &Seen, there: &[Span], pieces: &[Piece]) -> Result<(), String> {
+    let list: usize = there.iter().map(|span| 14 + span.wire.len()).sum();
+    let here = (sizes.needed, sizes.records, sizes.pdus, sizes.pieces);
+    let told = (list, seen.records, seen.pdus.len(), pieces.len());
+    if here != told {
+        return Err(format!("bytes of the list, records, PDUs, pieces: {here:?} here, {told:?} there"));
+    }
+    Ok(())
+}
+
 /// Holds what the library imports for each DLCI, and without a channel, to what tshark found on it.
 fn judge_by(
     check_fcs: bool,
@@ -137,14 +151,15 @@ fn judge_by(
     for (channel, dlci) in wanted.chain([(None, first)]) {
         let options = tolerant(made.container).with_check_fcs(check_fcs);
         let options = channel.iter().fold(options, |options, channel| options.with_channel(*channel));
-        let imported = import_with(file, &options);
+        let (imported, sizes) = (import_with(file, &options), sizes_with(file, &options));
         let Some(dlci) = dlci else {
-            if imported != Err(Refusal::NoStream) {
-                return Err(format!("channel {channel:?}: nothing there unpacks; here {imported:?}"));
+            if imported != Err(Refusal::NoStream) || sizes != Err(Refusal::NoStream) {
+                return Err(format!("channel {channel:?}: nothing there unpacks; here {imported:?}, {sizes:?}"));
             }
             continue;
         };
-        let imported = imported.map_err(|refusal| format!("DLCI {dlci}: refused ({}): {refusal}", refusal.number()))?;
+        let refused = |refusal: Refusal| format!("DLCI {dlci}: refused ({}): {refusal}", refusal.number());
+        let (imported, sizes) = (imported.map_err(refused)?, sizes.map_err(refused)?);
         let (there, held) = spans(pieces, dlci);
         for (i, (here, there)) in imported.spans.iter().zip(&there).enumerate() {
             if here != there {
@@ -160,6 +175,7 @@ fn judge_by(
             return Err(format!("DLCI, frames, spans, unfinished, tail, wrong FCS: {here:?} here, {told:?} there"));
         }
         judge_bytes(&imported, &there, &held, pieces)?;
+        judge_sizes(&sizes, seen, &there, pieces).map_err(|words| format!("DLCI {dlci}, {words}"))?;
         if channel.is_some() && check_fcs {
             tally.checked += frames;
             tally.wrong += wrong;
@@ -190,7 +206,8 @@ fn judge_cut(seen: &Seen, generated: &Generated, n: usize) -> Result<(), String>
     judge_records(left, generated.container, &generated.starts[..left], &generated.file[..n], tail)?;
     let pieces = seen.pieces.iter().filter(|piece| piece.record <= left).cloned().collect();
     let wrong = seen.wrong.iter().filter(|(record, _)| *record <= left).copied().collect();
-    let seen = Seen { pieces, wrong, ..Seen::default() };
+    let pdus = seen.pdus.iter().filter(|pdu| pdu.record <= left).cloned().collect();
+    let seen = Seen { records: left, pdus, pieces, wrong, ..Seen::default() };
     judge_spans(&seen, generated, &generated.file[..n], tail, &mut Tally::default())
         .map_err(|words| format!("cut at {n}: {words}"))
 }

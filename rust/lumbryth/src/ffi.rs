@@ -77,6 +77,16 @@ extern "C" {
         values: *mut u64,
         values_len: usize,
     ) -> u32;
+    fn lumbryth_sizes_with(
+        file: *const u8,
+        file_len: usize,
+        work: *mut u8,
+        work_len: usize,
+        options: *const u64,
+        options_len: usize,
+        values: *mut u64,
+        values_len: usize,
+    ) -> u32;
     fn lumbryth_import_stretches(
         file: *const u8,
         file_len: usize,
@@ -231,6 +241,22 @@ pub fn import_with(file: &[u8], work: &mut [u8], out: &mut [u8], options: &[u64]
             work.len(),
             out.as_mut_ptr(),
             out.len(),
+            options.as_ptr(),
+            options.len(),
+            values.as_mut_ptr(),
+            values.len(),
+        )
+    }
+}
+
+pub fn sizes_with(file: &[u8], work: &mut [u8], options: &[u64], values: &mut [u64]) -> u32 {
+    // Safety: as for `import_with`, without an output.
+    unsafe {
+        lumbryth_sizes_with(
+            file.as_ptr(),
+            file.len(),
+            work.as_mut_ptr(),
+            work.len(),
             options.as_ptr(),
             options.len(),
             values.as_mut_ptr(),

@@ -245,6 +245,23 @@ pub struct Imported {
     pub bytes: Account,
 }
 
+/// How much output an import needs, and how much a trace holds, as [`sizes`] tells them, of one reading of the file.
+#[derive(Debug, Clone, Copy, PartialEq, Eq, Hash)]
+#[non_exhaustive]
+pub struct Sizes {
+    /// How many bytes the library's import needs for its output: the length of its list of spans, [`Account::in_spans`] and 14 for
+    /// each span, and so 23 or more.
+    pub needed: usize,
+    /// How many whole records there are, whatever they hold.
+    pub records: usize,
+    /// How many PDUs were completed, of all connections, directions and channels, empty ones too. Those that were given up, or are
+    /// open at the end, are not counted.
+    pub pdus: usize,
+    /// How many UIH frames with information are taken, of all DLCIs but 0: those on channels that are RFCOMM or may be, with the FCS
+    /// checked those with a right one.
+    pub pieces: usize,
+}
+
 /// Where every information byte of a DLCI went: those of the UIH frames that an import takes in, with the FCS checked of those with
 /// a right one. Each byte counts in one of the four, so that their sum is [`Account::taken_in`].
 ///
@@ -433,6 +450,23 @@ fn with_output(
     }
 }
 
+/// Runs an import with work and exactly as much output as its list takes. How much that is, the file's length does not tell: spans of
+/// two bytes take eight times their bytes. So the file's sizes are asked for first, with the same work. That an import by the same
+/// options takes what they say, and refuses where they do, is proved. Gives the list, which is all of the output, and the values.
+fn with_list(
+    file: &[u8],
+    options: &[u64],
+    import: impl FnOnce(&mut [u8], &mut [u8], &mut [u64]) -> u32,
+) -> Result<(Vec<u8>, [u64; VALUES]), Refusal> {
+    let mut work = vec![0; 8 * lent(file)];
+    let needed = sizes_in(file, &mut work, options)?.needed;
+    let (mut list, mut values) = (vec![0; needed], [0; VALUES]);
+    match import(&mut work, &mut list, &mut values) {
+        0 => Ok((list, values)),
+        number => Err(Refusal::of(number, &values)),
+    }
+}
+
 /// Reads one frame, from its 3E through its 3C.
 ///
 /// ```
@@ -578,10 +612,70 @@ pub fn import(file: &[u8], channel: Option<u8>, tail: TailRule) -> Result<Import
 /// ```
 pub fn import_with(file: &[u8], options: &Options) -> Result<Imported, Refusal> {
     let options = options.numbers();
-    let size = lent(file);
-    let mut work = vec![0; 8 * size];
-    let (list, values) = with_output(2 * size, |out, values| ffi::import_with(file, &mut work, out, &options, values))?;
-    Ok(imported(list, &values))
+    let import =
+        |work: &mut [u8], list: &mut [u8], values: &mut [u64]| ffi::import_with(file, work, list, &options, values);
+    let (list, values) = with_list(file, &options, import)?;
+    Ok(imported(&list, &values))
+}
+
+/// The sizes of a btsnoop file, before it is imported: how much output the library's import needs, and how many records, PDUs and
+/// pieces the file holds. Refuses as [`import`] does. What is told is proved, also that [`import`], which lends that much, needs
+/// neither more nor less.
+///
+/// ```
+/// use lumbryth::{import, sizes, Refusal, TailRule};
+///
+/// let file = std::fs::read("../../examples/headset.btsnoop")?;
+/// let told = sizes(&file, None, TailRule::Strict)?;
+/// assert_eq!((told.needed, told.records, told.pdus, told.pieces), (927, 54, 48, 32));
+///
+/// // A span takes 14 bytes in the list, and its wire.
+/// let spans = import(&file, None, TailRule::Strict)?.spans;
+/// assert_eq!(told.needed, spans.iter().map(|span| 14 + span.wire.len()).sum());
+///
+/// assert_eq!(sizes(&file, Some(8), TailRule::Strict), Err(Refusal::NoStream));
+/// # Ok::<(), Box<dyn std::error::Error>>(())
+/// ```
+pub fn sizes(file: &[u8], channel: Option<u8>, tail: TailRule) -> Result<Sizes, Refusal> {
+    sizes_with(file, &Options { channel, tail, ..Options::default() })
+}
+
+/// The sizes of a btsnoop or a pcap file, as [`sizes`] tells them, by options. Records and PDUs do not depend on the channel and on
+/// whether the FCS is checked, pieces not on the channel. Refuses as [`import_with`] does.
+///
+/// ```
+/// use lumbryth::{sizes_with, Container, Options, Refusal, TailRule};
+///
+/// // The example is cut inside a record.
+/// let file = std::fs::read("../../examples/cut.pcap")?;
+/// let pcap = Options::default().with_container(Container::Pcap);
+/// assert_eq!(sizes_with(&file, &pcap), Err(Refusal::Truncated { offset: 2253 }));
+/// let left = sizes_with(&file, &pcap.with_tail(TailRule::Tolerant))?;
+/// assert_eq!((left.needed, left.records, left.pdus, left.pieces), (876, 52, 46, 30));
+///
+/// // Some UIH frames of the example have a wrong FCS.
+/// let file = std::fs::read("../../examples/noisy.btsnoop")?;
+/// let taken = sizes_with(&file, &Options::default())?;
+/// let checked = sizes_with(&file, &Options::default().with_check_fcs(true))?;
+/// assert_eq!((taken.pieces, checked.pieces), (14, 12));
+/// # Ok::<(), Box<dyn std::error::Error>>(())
+/// ```
+pub fn sizes_with(file: &[u8], options: &Options) -> Result<Sizes, Refusal> {
+    sizes_in(file, &mut vec![0; 8 * lent(file)], &options.numbers())
+}
+
+/// The sizes of a file, with work lent.
+fn sizes_in(file: &[u8], work: &mut [u8], options: &[u64]) -> Result<Sizes, Refusal> {
+    let mut values = [0; VALUES];
+    match ffi::sizes_with(file, work, options, &mut values) {
+        0 => Ok(Sizes {
+            needed: values[0] as usize,
+            records: values[1] as usize,
+            pdus: values[2] as usize,
+            pieces: values[3] as usize,
+        }),
+        number => Err(Refusal::of(number, &values)),
+    }
 }
 
 /// Imports as [`import`] does, and tells the stretches of the DLCI that hold bytes at the end, as many
@@ -602,14 +696,13 @@ pub fn import_with(file: &[u8], options: &Options) -> Result<Imported, Refusal> 
 /// # Ok::<(), Box<dyn std::error::Error>>(())
 /// ```
 pub fn import_stretches(file: &[u8], channel: Option<u8>, tail: TailRule) -> Result<(Imported, Vec<Stretch>), Refusal> {
+    let options = Options { channel, tail, ..Options::default() }.numbers();
     let (channel, tolerant) = numbers(channel, tail);
-    let size = lent(file);
-    let mut work = vec![0; 8 * size];
-    let mut stretches = vec![ffi::Stretch::default(); size / 24];
-    let (list, values) = with_output(2 * size, |out, values| {
-        ffi::import_stretches(file, &mut work, &mut stretches, out, channel, tolerant, values)
+    let mut stretches = vec![ffi::Stretch::default(); lent(file) / 24];
+    let (list, values) = with_list(file, &options, |work, list, values| {
+        ffi::import_stretches(file, work, &mut stretches, list, channel, tolerant, values)
     })?;
-    Ok(with_stretches(list, &values, &stretches))
+    Ok(with_stretches(&list, &values, &stretches))
 }
 
 /// Imports as [`import_stretches`] does, by options: a btsnoop or a pcap file, with the FCS of UIH frames checked or not.
@@ -627,17 +720,15 @@ pub fn import_stretches(file: &[u8], channel: Option<u8>, tail: TailRule) -> Res
 /// ```
 pub fn import_stretches_with(file: &[u8], options: &Options) -> Result<(Imported, Vec<Stretch>), Refusal> {
     let options = options.numbers();
-    let size = lent(file);
-    let mut work = vec![0; 8 * size];
-    let mut stretches = vec![ffi::Stretch::default(); size / 24];
-    let (list, values) = with_output(2 * size, |out, values| {
-        ffi::import_stretches_with(file, &mut work, &mut stretches, out, &options, values)
+    let mut stretches = vec![ffi::Stretch::default(); lent(file) / 24];
+    let (list, values) = with_list(file, &options, |work, list, values| {
+        ffi::import_stretches_with(file, work, &mut stretches, list, &options, values)
     })?;
-    Ok(with_stretches(list, &values, &stretches))
+    Ok(with_stretches(&list, &values, &stretches))
 }
 
 /// What an import answered, and the stretches that it told, among the places lent.
-fn with_stretches(list: Vec<u8>, values: &[u64; VALUES], places: &[ffi::Stretch]) -> (Imported, Vec<Stretch>) {
+fn with_stretches(list: &[u8], values: &[u64; VALUES], places: &[ffi::Stretch]) -> (Imported, Vec<Stretch>) {
     let imported = imported(list, values);
     let open = places.iter().take(imported.unfinished).map(Stretch::of).collect();
     (imported, open)
@@ -659,14 +750,13 @@ fn lent(file: &[u8]) -> usize {
 }
 
 /// What an import answered.
-fn imported(mut list: Vec<u8>, values: &[u64; VALUES]) -> Imported {
-    list.truncate(values[4] as usize);
+fn imported(list: &[u8], values: &[u64; VALUES]) -> Imported {
     Imported {
         dlci: values[0] as u8,
         frames: values[1] as usize,
         unfinished: values[2] as usize,
         tail: values[3] as usize,
-        spans: items::spans(&list),
+        spans: items::spans(list),
         wrong_fcs: values[5] as usize,
         bytes: Account {
             in_spans: values[6] as usize,
@@ -900,5 +990,56 @@ pub fn ending_with(file: &[u8], options: &Options) -> Result<Ending, Refusal> {
     match container.length(file, &file[cut.offset..]) {
         Some(length) if length > container.packet_max() => Ok(Ending::Length { offset: cut.offset, length }),
         _ => Ok(Ending::Inside(cut)),
+    }
+}
+
+#[cfg(test)]
+mod tests {
+    use super::{ffi, imported, sizes_with, with_list, Container, Options, Refusal, TailRule, VALUES};
+
+    /// An import is lent its work once, and exactly as much output as its list takes; with a byte less it is refused.
+    #[test]
+    fn an_import_is_lent_what_it_needs() {
+        let options = Options::default().with_tail(TailRule::Tolerant);
+        let pcap = options.with_container(Container::Pcap);
+        let traces: [(&[u8], Options, usize); 6] = [
+            (include_bytes!("../../../examples/headset.btsnoop"), options, 927),
+            (include_bytes!("../../../examples/headset.pcap"), pcap, 927),
+            (include_bytes!("../../../examples/cut.btsnoop"), options, 876),
+            (include_bytes!("../../../examples/two-adapters.btsnoop"), options, 248),
+            (include_bytes!("../../../examples/noisy.btsnoop"), options, 283),
+            (include_bytes!("../../../examples/noisy.btsnoop"), options.with_check_fcs(true), 250),
+        ];
+        for (file, options, needed) in traces {
+            assert_eq!(sizes_with(file, &options).map(|sizes| sizes.needed), Ok(needed));
+            let numbers = options.numbers();
+            let mut lent = Vec::new();
+            let (list, values) = with_list(file, &numbers, |work, list, values| {
+                lent.push((work.len(), list.len()));
+                let mut short = [0; VALUES];
+                let number = ffi::import_with(file, work, &mut list[1..], &numbers, &mut short);
+                assert_eq!(Refusal::of(number, &short), Refusal::OutShort { needed });
+                ffi::import_with(file, work, list, &numbers, values)
+            })
+            .unwrap();
+            assert_eq!(lent, [(8 * file.len(), needed)]);
+            assert_eq!((list.len(), list.capacity(), values[4]), (needed, needed, needed as u64));
+            let spans = imported(&list, &values).spans;
+            assert_eq!(spans.iter().map(|span| 14 + span.wire.len()).sum::<usize>(), needed);
+        }
+    }
+
+    /// What the sizes refuse is not imported, and no output is lent for it.
+    #[test]
+    fn no_output_for_a_refused_trace() {
+        let file = include_bytes!("../../../examples/cut.btsnoop");
+        for (file, refusal) in [
+            (&file[..], Refusal::Truncated { offset: 2453 }),
+            (&file[..15], Refusal::NotBtsnoop),
+            (&file[..16], Refusal::NoStream),
+        ] {
+            let answer = with_list(file, &Options::default().numbers(), |_, _, _| panic!("this is an import"));
+            assert_eq!(answer, Err(refusal));
+        }
     }
 }

@@ -1,5 +1,5 @@
 //! The calls by document 01's examples: each refusal with its number, values and words, and what is empty, long or full. Then the
-//! same of pcap files, and imports that check the FCS.
+//! same of pcap files, imports that check the FCS, and sizes.
 
 #[allow(dead_code)]
 #[path = "../../../examples/trace/mod.rs"]
@@ -7,8 +7,9 @@ mod trace;
 
 use lumbryth::{
     capture_order, cut, cut_with, ending, ending_with, fixture_name, gaps, gaps_with, import, import_stretches,
-    import_stretches_with, import_with, is_command_name, pack, plan, records, records_with, unpack, Container,
-    Direction, Ending, Fixture, Frame, FrameType, Gap, Gaps, Options, Records, Refusal, Span, TailRule,
+    import_stretches_with, import_with, is_command_name, pack, plan, records, records_with, sizes, sizes_with, unpack,
+    Container, Direction, Ending, Fixture, Frame, FrameType, Gap, Gaps, Options, Records, Refusal, Sizes, Span,
+    TailRule,
 };
 use trace::pcap::{twin, Form, FORMS, PLAIN};
 use trace::{control, uih, Trace};
@@ -421,6 +422,7 @@ fn pcap_refused() {
     let each = |file: &[u8], options: &Options, refusal: Refusal, number: u32, said: &[&str]| {
         refused(import_with(file, options), refusal, number, said);
         refused(import_stretches_with(file, options), refusal, number, said);
+        refused(sizes_with(file, options), refusal, number, said);
         if !matches!(refusal, Refusal::NoStream) {
             refused(gaps_with(file, options), refusal, number, said);
         }
@@ -467,6 +469,7 @@ fn the_container_is_the_callers() {
     for tail in [TailRule::Strict, TailRule::Tolerant] {
         refused(import(&pcap, None, tail), Refusal::NotBtsnoop, 3, &[]);
         refused(import_stretches(&pcap, None, tail), Refusal::NotBtsnoop, 3, &[]);
+        refused(sizes(&pcap, None, tail), Refusal::NotBtsnoop, 3, &[]);
         refused(gaps(&pcap, tail), Refusal::NotBtsnoop, 3, &[]);
         let options = Options::default().with_tail(tail);
         refused(import_with(&pcap, &options), Refusal::NotBtsnoop, 3, &[]);
@@ -500,6 +503,8 @@ fn btsnoop_with_options() {
                     import_stretches_with(file, &options.with_channel(9)),
                     import_stretches(file, Some(9), tail)
                 );
+                assert_eq!(sizes_with(file, &options), sizes(file, None, tail));
+                assert_eq!(sizes_with(file, &options.with_channel(9)), sizes(file, Some(9), tail));
                 assert_eq!(gaps_with(file, &options), gaps(file, tail));
                 assert_eq!(records_with(file, &options), records(file));
                 assert_eq!(ending_with(file, &options), ending(file));
@@ -879,4 +884,234 @@ fn only_imports_check_the_fcs() {
             assert_eq!(cut_with(file, 16, &on), cut_with(file, 16, &options));
         }
     }
+}
+
+/// Needed, records, PDUs and pieces.
+fn sized(file: &[u8], options: &Options) -> Result<[usize; 4], Refusal> {
+    sizes_with(file, options).map(|Sizes { needed, records, pdus, pieces, .. }| [needed, records, pdus, pieces])
+}
+
+/// The same of a file's whole records, in btsnoop and in pcap.
+#[track_caller]
+fn sized_in_both(file: &[u8], options: &Options) -> Result<[usize; 4], Refusal> {
+    let told = sized(file, options);
+    for form in FORMS {
+        assert_eq!(sized(&twin(file, form), &options.with_container(Container::Pcap)), told, "{form:?}");
+    }
+    told
+}
+
+/// The sizes are what the calls give that they are of, and are refused as an import is.
+#[track_caller]
+fn sizes_fit(file: &[u8], options: &Options) {
+    let needed = import_with(file, options).map(|found| found.spans.iter().map(|span| 14 + span.wire.len()).sum());
+    let told = sized(file, options);
+    assert_eq!(told.map(|told| told[0]), needed, "{} bytes, {options:?}", file.len());
+    if let Ok(told) = told {
+        assert_eq!(told[1], records_with(file, options).unwrap().starts.len());
+    }
+}
+
+#[test]
+fn sizes_of_the_examples() {
+    let (strict, tolerant) = (Options::default(), Options::default().with_tail(TailRule::Tolerant));
+    let headset: &[u8] = include_bytes!("../../../examples/headset.btsnoop");
+    let whole = Ok([927, 54, 48, 32]);
+    assert_eq!(sized_in_both(headset, &strict), whole);
+    assert_eq!(sized_in_both(headset, &tolerant.with_channel(9).with_check_fcs(true)), whole);
+    assert_eq!(sized_in_both(headset, &tolerant.with_channel(8)), Err(Refusal::NoStream));
+    // Cut inside a record, which is not counted: what is left of each.
+    let cut_short: [(&[u8], Container, usize); 2] = [
+        (include_bytes!("../../../examples/cut.btsnoop"), Container::Btsnoop, 2453),
+        (include_bytes!("../../../examples/cut.pcap"), Container::Pcap, 2253),
+    ];
+    for (file, container, offset) in cut_short {
+        assert_eq!(sized(file, &strict.with_container(container)), Err(Refusal::Truncated { offset }));
+        assert_eq!(sized(file, &tolerant.with_container(container)), Ok([876, 52, 46, 30]));
+    }
+    let late = include_bytes!("../../../examples/late.btsnoop");
+    assert_eq!(sized_in_both(late, &strict), Ok([193, 11, 11, 11]));
+    // A message on adapter 0, and with it a record, is not complete.
+    let adapters = include_bytes!("../../../examples/two-adapters.btsnoop");
+    assert_eq!(sized(adapters, &strict), Ok([248, 18, 15, 11]));
+    // Of three UIH frames with a wrong FCS one has no information.
+    let noisy = include_bytes!("../../../examples/noisy.btsnoop");
+    assert_eq!(sized_in_both(noisy, &strict), Ok([283, 17, 17, 14]));
+    assert_eq!(sized_in_both(noisy, &checked()), Ok([250, 17, 17, 12]));
+}
+
+/// What is written to a trace, and what it counts: records, PDUs, pieces, and pieces with the FCS checked.
+type Part<'a> = (&'a dyn Fn(&mut Trace), [usize; 4]);
+
+/// What counts, by what comes beside one whole frame.
+#[test]
+fn what_sizes_count() {
+    use Direction::{Rx, Tx};
+    let whole = |t: &mut Trace, frame: &[u8]| t.fragment(Rx, 0, 64, true, &trace::pdu(0x41, frame));
+    let text: &[u8] = &uih(40, false, None, b"AT");
+    let on = |cid| trace::pdu(cid, text);
+    let parts: [Part; 20] = [
+        (&|_| {}, [0, 0, 0, 0]),
+        // Records without an ACL packet, or with one that is not whole.
+        (&|t| t.record(1, 0, &[]), [1, 0, 0, 0]),
+        (&|t| t.hci_event(0, &[0x13, 0]), [1, 0, 0, 0]),
+        (&|t| t.record(1, 0, &[2, 0x40, 0x20, 4, 0, 0]), [1, 0, 0, 0]),
+        // PDUs that carry nothing: an empty one, a signal, one that is not tried, and other frames of RFCOMM.
+        (&|t| t.fragment(Rx, 0, 64, true, &trace::pdu(0, &[])), [1, 1, 0, 0]),
+        (&|t| t.fragment(Tx, 0, 64, true, &trace::signal(2, 1, &[3, 0x45])), [1, 1, 0, 0]),
+        (&|t| t.fragment(Rx, 0, 64, true, &on(0x3F)), [1, 1, 0, 0]),
+        (&|t| whole(t, &control(18, true, 0x3F)), [1, 1, 0, 0]),
+        (&|t| whole(t, &text[..text.len() - 1]), [1, 1, 0, 0]),
+        (&|t| whole(t, &uih(0, false, None, b"AT")), [1, 1, 0, 0]),
+        (&|t| whole(t, &uih(18, false, Some(7), &[])), [1, 1, 0, 0]),
+        // A channel that is named for another service.
+        (
+            &|t| {
+                t.fragment(Tx, 0, 64, true, &trace::signal(2, 1, &[0x1001, 0x50]));
+                t.fragment(Rx, 0, 64, true, &on(0x50));
+            },
+            [2, 2, 0, 0],
+        ),
+        // Pieces: of any DLCI, connection and direction, with a start marker or not.
+        (&|t| whole(t, text), [1, 1, 1, 1]),
+        (&|t| whole(t, &uih(18, false, None, &[0x3C])), [1, 1, 1, 1]),
+        (&|t| t.fragment(Tx, 0, 7, true, &on(0xFFFF)), [1, 1, 1, 1]),
+        (&|t| whole(t, &wrong(text.to_vec())), [1, 1, 1, 0]),
+        // What comes in two packets is one PDU; what comes behind its end is none.
+        (
+            &|t| {
+                t.fragment(Rx, 0, 64, true, &on(0x41)[..5]);
+                t.fragment(Rx, 0, 64, false, &[&on(0x41)[5..], &on(0x41)].concat());
+            },
+            [2, 1, 1, 1],
+        ),
+        // One that goes on with nothing, one that is given up, and one that is open at the end.
+        (&|t| t.fragment(Rx, 0, 64, false, &on(0x41)), [1, 0, 0, 0]),
+        (
+            &|t| {
+                t.fragment(Rx, 0, 64, true, &on(0x41)[..5]);
+                t.fragment(Rx, 0, 64, true, &on(0x41));
+            },
+            [2, 1, 1, 1],
+        ),
+        (&|t| t.fragment(Rx, 0, 64, true, &on(0x41)[..5]), [1, 0, 0, 0]),
+    ];
+    let frame = uih(18, false, None, &pack(0x01, 0, &[]).unwrap());
+    let is = |file: &[u8], [records, pdus, pieces, right]: [usize; 4]| {
+        for channel in [Options::default(), Options::default().with_channel(9)] {
+            assert_eq!(sized_in_both(file, &channel), Ok([23, 1 + records, 1 + pdus, 1 + pieces]));
+            let checked = channel.with_check_fcs(true);
+            assert_eq!(sized_in_both(file, &checked), Ok([23, 1 + records, 1 + pdus, 1 + right]));
+        }
+    };
+    let (mut all, mut sum) = (Trace::new(1002), [0; 4]);
+    whole(&mut all, &frame);
+    for (part, counts) in parts {
+        let mut behind = Trace::new(1002);
+        whole(&mut behind, &frame);
+        part(&mut behind);
+        is(&behind.file, counts);
+        let mut before = Trace::new(1002);
+        part(&mut before);
+        whole(&mut before, &frame);
+        is(&before.file, counts);
+        part(&mut all);
+        sum.iter_mut().zip(counts).for_each(|(sum, count)| *sum += count);
+        is(&all.file, sum);
+    }
+}
+
+/// What is needed is of the DLCI that is taken; the rest is of the file.
+#[test]
+fn sizes_by_options() {
+    use Direction::{Rx, Tx};
+    let wire = pack(0x01, 0, &[]).unwrap();
+    let two = [&wire[..], &wire].concat();
+    let file = frames_of(&[
+        (Rx, uih(18, false, None, b"AT")),
+        (Tx, wrong(uih(18, true, None, &wire))),
+        (Tx, uih(40, true, None, &two)),
+        (Rx, uih(40, false, None, &[0x3E, 0x3C, 0x3E])),
+    ]);
+    assert_eq!(sized_in_both(&file, &Options::default()), Ok([23, 4, 4, 4]));
+    assert_eq!(sized_in_both(&file, &Options::default().with_channel(9)), Ok([23, 4, 4, 4]));
+    assert_eq!(sized_in_both(&file, &Options::default().with_channel(20)), Ok([62, 4, 4, 4]));
+    assert_eq!(sized_in_both(&file, &checked()), Ok([62, 4, 4, 3]));
+    assert_eq!(sized_in_both(&file, &checked().with_channel(9)), Err(Refusal::NoStream));
+    // A record that passes the end is not counted, and the strict rule refuses it.
+    let cut_short = [&file[..], &[0; 23]].concat();
+    assert_eq!(sized(&cut_short, &Options::default()), Err(Refusal::Truncated { offset: file.len() }));
+    assert_eq!(sized(&cut_short, &Options::default().with_tail(TailRule::Tolerant)), Ok([23, 4, 4, 4]));
+    assert_eq!(sized(&[&file[..], &[0; 24]].concat(), &Options::default()), Ok([23, 5, 4, 4]));
+}
+
+#[test]
+fn sizes_refused() {
+    use TailRule::{Strict, Tolerant};
+    refused(sizes(&[0; 1_048_577], None, Strict), Refusal::FileLong, 1, &["1048576"]);
+    refused(sizes(&[], None, Strict), Refusal::NotBtsnoop, 3, &["btsnoop"]);
+    refused(sizes(&EXAMPLE[..15], None, Tolerant), Refusal::NotBtsnoop, 3, &[]);
+    let mut other = EXAMPLE;
+    other[15] = 0xEB;
+    refused(sizes(&other, None, Strict), Refusal::Datalink(1003), 4, &["1003"]);
+    refused(sizes(&EXAMPLE[..17], None, Strict), Refusal::Truncated { offset: 16 }, 5, &["byte 16"]);
+    refused(sizes(&EXAMPLE[..17], None, Tolerant), Refusal::NoStream, 6, &[]);
+    refused(sizes(&EXAMPLE[..16], None, Strict), Refusal::NoStream, 6, &[]);
+    refused(sizes(&EXAMPLE, Some(8), Strict), Refusal::NoStream, 6, &[]);
+    assert_eq!(sized(&EXAMPLE, &Options::default()), Ok([23, 1, 1, 1]));
+}
+
+/// Of the examples, cut anywhere, by each rule and with the FCS checked or not, in both containers.
+#[test]
+fn sizes_of_cuts() {
+    let traces: [&[u8]; 4] = [
+        include_bytes!("../../../examples/headset.btsnoop"),
+        include_bytes!("../../../examples/two-adapters.btsnoop"),
+        include_bytes!("../../../examples/noisy.btsnoop"),
+        include_bytes!("../../../examples/late.btsnoop"),
+    ];
+    let files = traces.iter().zip(FORMS).flat_map(|(trace, form)| {
+        [(trace.to_vec(), Options::default()), (twin(trace, form), Options::default().with_container(Container::Pcap))]
+    });
+    for (file, options) in files {
+        for n in (0..file.len()).step_by(3).chain([file.len()]) {
+            for options in [options, options.with_tail(TailRule::Tolerant)] {
+                sizes_fit(&file[..n], &options);
+                sizes_fit(&file[..n], &options.with_channel(9).with_check_fcs(true));
+            }
+        }
+    }
+}
+
+/// As much of each as a file can have beside a frame.
+#[test]
+fn sizes_of_full_files() {
+    let full = |mut file: Vec<u8>, record: &[u8]| {
+        let n = (1_048_576 - file.len()) / record.len();
+        file.extend(record.repeat(n));
+        (file, n)
+    };
+    let tail = TailRule::Tolerant;
+    // Records of no packet.
+    let (file, n) = full(EXAMPLE.to_vec(), &[0; 24]);
+    assert_eq!((n, sized(&file, &Options::default())), (43_688, Ok([23, 43_689, 1, 1])));
+    let (file, n) = full(twin(&EXAMPLE, PLAIN), &[0; 16]);
+    assert_eq!((n, sized(&file, &strict())), (65_531, Ok([23, 65_532, 1, 1])));
+    sizes_fit(&[&file[..], &[0; 14]].concat(), &tolerant());
+    // Empty PDUs, and pieces of a byte.
+    let pcap = |packet: &[u8]| PLAIN.record(0, 0, &[&[0, 0, 0, 1, 2, 0x40, 0x20], packet].concat());
+    let (file, n) = full(twin(&EXAMPLE, PLAIN), &pcap(&[4, 0, 0, 0, 0x41, 0]));
+    assert_eq!((n, sized(&file, &strict())), (36_155, Ok([23, 36_156, 36_156, 1])));
+    let (file, n) = full(twin(&EXAMPLE, PLAIN), &pcap(&[9, 0, 5, 0, 0x41, 0, 0x49, 0xEF, 3, 0x3C, 0x14]));
+    assert_eq!((n, sized(&file, &strict())), (30_838, Ok([23, 30_839, 30_839, 30_839])));
+    // Spans of two bytes take eight times as much of a list.
+    let information = [0x3E, 0x3C].repeat(16_000);
+    let mut trace = Trace::new(1002);
+    trace.fragment(Direction::Rx, 0, 64, true, &trace::pdu(0x41, &uih(18, false, None, &pack(0x01, 0, &[]).unwrap())));
+    trace.fragment(Direction::Rx, 0, 64, true, &trace::pdu(0x41, &uih(18, false, None, &information)));
+    let record = trace.file[trace.starts[1]..].to_vec();
+    let (file, n) = full(trace.file, &record);
+    let options = Options::default().with_tail(tail);
+    assert_eq!((n, sized(&file, &options)), (31, Ok([23 + 32 * 16_000 * 16, 33, 33, 33])));
+    sizes_fit(&file, &options);
 }
