@@ -3,8 +3,8 @@
 use std::env;
 use std::path::PathBuf;
 
-const GROUPS: [&str; 10] =
-    ["CODEC", "NAMES", "PLAN", "ORDER", "IMPORT", "TOLERANT", "STRETCHES", "GAPS", "PCAP", "SIZES"];
+const GROUPS: [&str; 11] =
+    ["CODEC", "NAMES", "PLAN", "ORDER", "IMPORT", "TOLERANT", "STRETCHES", "GAPS", "PCAP", "SIZES", "LINKS"];
 
 fn main() {
     println!("cargo:rerun-if-env-changed=LUMBRYTH_LIB_DIR");

@@ -26,6 +26,7 @@ static void import_checked(void) {
     lumbryth_import_with(file, file_len, work, 8 * file_len, plan, OUT, options, 4, values, LUMBRYTH_VALUES);
 }
 static void tell_sizes(void) { lumbryth_sizes_with(file, file_len, work, 8 * file_len, options, 3, values, LUMBRYTH_SIZES); }
+static void list_link(void) { lumbryth_one_link_with(file, file_len, work, 8 * file_len, plan, OUT, 0, 6, 18, options, 3, values, LUMBRYTH_LINK_LIST); }
 static void find_gaps(void) { lumbryth_gaps_with(file, file_len, work, 8 * file_len, options, 3, values, LUMBRYTH_GAPS); }
 static void make_plan(void) { lumbryth_plan(spans, spans_len, spans, 0, plan, OUT, values, 5); }
 static void order_names(void) { lumbryth_capture_order(names, names_len, plan, OUT, values, 5); }
@@ -37,7 +38,7 @@ static void name_frame(void) { lumbryth_fixture_name(1, 1, 1, plan, wire_len, sp
 static void ask_name(void) { lumbryth_is_command_name((const uint8_t *)"SYSTEM_NTFY_EXTENDED_PARAM", 26); }
 
 static const struct { const char *name; void (*call)(void); } calls[] = {
-    {"import", import_trace}, {"import, FCS checked", import_checked}, {"sizes", tell_sizes}, {"gaps", find_gaps}, {"plan", make_plan}, {"order", order_names},
+    {"import", import_trace}, {"import, FCS checked", import_checked}, {"sizes", tell_sizes}, {"one link", list_link}, {"gaps", find_gaps}, {"plan", make_plan}, {"order", order_names},
     {"pack", pack_frame}, {"unpack", unpack_frame}, {"fixture_name", name_frame}, {"is_command_name", ask_name},
 };
 

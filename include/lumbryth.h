@@ -32,6 +32,7 @@
  *   length needed. So a call with `out_len` 0 asks for the length. 7 is checked
  *   last: what is refused for another reason is refused so with any output. Of an
  *   import, lumbryth_sizes_with tells the length too, and how much the file holds.
+ *   Where nothing is to be written, as in an empty list, no output is too short.
  *
  *
  * Traces
@@ -115,7 +116,8 @@ extern "C" {
 #define LUMBRYTH_OK 0
 
 /* Of a trace, in the order in which they are checked; of a pcap file, 21 and 22 (below)
- * stand in the places of 3 and 4. */
+ * stand in the places of 3 and 4. Of one link's list there is no 6, and 23 (below) stands
+ * in its place. */
 #define LUMBRYTH_FILE_LONG 1     /* the file has over LUMBRYTH_FILE_MAX bytes */
 #define LUMBRYTH_WORK_SHORT 2    /* work has under 8 times the file's length */
 #define LUMBRYTH_NOT_BTSNOOP 3   /* under 16 bytes, or no btsnoop file of version 1 */
@@ -147,6 +149,9 @@ extern "C" {
 /* Of a trace that is asked for as pcap. */
 #define LUMBRYTH_NOT_PCAP 21     /* under 24 bytes, or none of the four magic numbers first */
 #define LUMBRYTH_LINK_TYPE 22    /* a link type, all 4 bytes, other than 201. Carries: it */
+
+/* Of what is asked for of one link. It is checked right after 5. */
+#define LUMBRYTH_NO_LINK 23      /* a handle over 4095, or a DLCI that is not 1 to 63 */
 
 /*
  * Reads one frame, from its 3E through its 3C, and writes its payload to `out`.
@@ -208,7 +213,7 @@ uint32_t lumbryth_capture_order(const uint8_t *names, size_t names_len,
  * A trace of datalink 2001 may be of several adapters, and each of its records tells the
  * adapter's index. Connections are told apart by index and handle, so that two adapters
  * may use the same handle. The list has the spans of all of them, and does not tell which
- * adapter or handle a span came from.
+ * adapter or handle a span came from; lumbryth_one_link_with lists those of one connection.
  *
  * `tolerant` 0 is the strict rule, which refuses a file that ends inside a record;
  * any other number reads what comes before that record.
@@ -408,6 +413,56 @@ uint32_t lumbryth_import_stretches(const uint8_t *file, size_t file_len,
 uint32_t lumbryth_import_stretches_with(const uint8_t *file, size_t file_len,
     uint8_t *work, size_t work_len, struct lumbryth_stretch *stretches, size_t stretches_len,
     uint8_t *out, size_t out_len,
+    const uint64_t *options, size_t options_len, uint64_t *values, size_t values_len);
+
+/*
+ * What lumbryth_one_link_with stores in `values`, with room for LUMBRYTH_LINK_LIST. Fields
+ * that are added later come at the end.
+ */
+struct lumbryth_link_list {
+    uint64_t spans;      /* every span in the list, also those that do not unpack */
+    uint64_t unfinished; /* how many stretches and directions hold bytes without an end marker */
+    uint64_t bytes;      /* the length of the list, in bytes */
+};
+#define LUMBRYTH_LINK_LIST (sizeof(struct lumbryth_link_list) / sizeof(uint64_t))
+
+/*
+ * Lists the spans of one connection and one DLCI, as of one of two headsets at one desk:
+ * writes them to `out` as lumbryth_import_with does, in the order in which they were
+ * complete. The connection is an adapter's `index` and a `handle`, 0 to 4095. `dlci` is the
+ * DLCI itself, 1 to 63, and not a channel: 18 and 19, both of channel 9, are two lists. The
+ * list has them nowhere, so the caller remembers what was asked for. `index` and `handle`
+ * have 16 bits, `dlci` has 8: C cuts a larger number before the call, and 23 then does not
+ * tell of it, so check it first. For example
+ *
+ *   struct lumbryth_link_list answer;
+ *   number = lumbryth_one_link_with(file, file_len, work, work_len, out, out_len, 0, 6, 18,
+ *       (const uint64_t *)&options, LUMBRYTH_OPTIONS,
+ *       (uint64_t *)&answer, LUMBRYTH_LINK_LIST);
+ *
+ * What it gives depends on that connection's own ACL packets alone: two files that are not
+ * refused and hold the same ones, with the same times, directions and order, give the same
+ * answer and list if enough output is lent, whatever else differs, the container too. So no
+ * other connection adds to the list, takes from it, or changes which channels are tried.
+ *
+ * Of the options only the container is looked at. The file is read by the strict rule, and
+ * the FCS is not checked. Nothing has to unpack: spans that do not are listed, and the list
+ * may be empty, of 0 bytes, which is an answer. So it is where no packet is of that
+ * connection, or no span of that DLCI. In btsnoop of datalink 1001 and 1002 and in pcap all
+ * packets have index 0, and any other index has the empty list.
+ *
+ * Where an import by the strict rule, with the FCS not checked, takes the DLCI, its list
+ * has the spans of all connections in the order in which they were complete, and its
+ * `frames`, `unfinished` and `bytes` are the sums of theirs.
+ *
+ * `work` is as for lumbryth_import.
+ *
+ * Values: the fields of struct lumbryth_link_list.
+ * Refusals: 1 to 5, 23, 7, in this order; of pcap 1, 2, 21, 22, 5, 23, 7. None is 6.
+ */
+uint32_t lumbryth_one_link_with(const uint8_t *file, size_t file_len,
+    uint8_t *work, size_t work_len, uint8_t *out, size_t out_len,
+    uint16_t index, uint16_t handle, uint8_t dlci,
     const uint64_t *options, size_t options_len, uint64_t *values, size_t values_len);
 
 /*

@@ -9,7 +9,7 @@ use oracle::capture::Direction::{self, Rx, Tx};
 use oracle::capture::BTSNOOP_EPOCH_DELTA_US as EPOCH;
 
 /// An adapter's index and a handle.
-type Pair = (u16, u16);
+pub type Pair = (u16, u16);
 
 /// What a link does: a PDU by direction, CID and payload, or a fragment on CID 0x43 by direction, flag and data.
 #[derive(Clone)]
@@ -78,7 +78,7 @@ fn made() -> Vec<Made> {
 }
 
 /// Pairs that a key with too few bits, or with bits of index and handle in one place, takes for one.
-fn pairs() -> Vec<[Pair; 2]> {
+pub fn pairs() -> Vec<[Pair; 2]> {
     let mut pairs = Vec::new();
     for bit in 0..16 {
         pairs.extend([0, 0xFFFF, 0x0101].map(|index: u16| [(index, 0x40), (index ^ 1 << bit, 0x40)]));

@@ -32,6 +32,11 @@ impl Answer {
         }
     }
 
+    /// The answer with the spans of one link's DLCI: how many there are, how many buffers are unfinished, and the list.
+    pub fn listed(spans: usize, unfinished: usize, list: Vec<u8>) -> Answer {
+        Answer::done(&[spans, unfinished, list.len()].map(|value| value as u64), list)
+    }
+
     /// Where the bytes went, of the answer of an import.
     pub fn bytes(&self) -> Option<Bytes> {
         self.values.get(BYTES..VALUES)?.try_into().ok()
@@ -114,6 +119,17 @@ pub trait Subject {
     fn gaps_with(&self, file: &[u8], work: &mut [u8], options: &[u64], values: &mut [u64]) -> u32;
     /// What an import by the same options would write and the file holds: bytes needed, records, PDUs and pieces.
     fn sizes_with(&self, file: &[u8], work: &mut [u8], options: &[u64], values: &mut [u64]) -> u32;
+    /// The spans of one link's DLCI, by a list of options of which only the container is looked at.
+    #[allow(clippy::too_many_arguments)]
+    fn one_link_with(
+        &self,
+        file: &[u8],
+        work: &mut [u8],
+        out: &mut [u8],
+        stream: Stream,
+        options: &[u64],
+        values: &mut [u64],
+    ) -> u32;
     /// Whether the call with stretches is linked.
     fn has_stretches(&self) -> bool {
         true
@@ -124,6 +140,10 @@ pub trait Subject {
     }
     /// Whether the call that tells sizes is linked.
     fn has_sizes(&self) -> bool {
+        true
+    }
+    /// Whether the call for one link is linked.
+    fn has_links(&self) -> bool {
         true
     }
 }
@@ -172,6 +192,29 @@ pub const BYTES: usize = 6;
 
 /// How many values the sizes are: bytes needed, records, PDUs, pieces.
 pub const SIZES: usize = 4;
+
+/// What the spans of one link are asked for by: an adapter's index, a handle and a DLCI.
+#[derive(Clone, Copy, Debug, PartialEq, Eq, PartialOrd, Ord)]
+pub struct Stream {
+    pub index: u16,
+    pub handle: u16,
+    pub dlci: u8,
+}
+
+impl Stream {
+    /// Index and handle in one number.
+    pub fn link(self) -> u32 {
+        4096 * u32::from(self.index) + u32::from(self.handle)
+    }
+
+    /// Whether there can be such a handle, and such a DLCI; else it is 23.
+    pub fn may_be(self) -> bool {
+        self.handle <= 4095 && (1..=63).contains(&self.dlci)
+    }
+}
+
+/// How many values the call for one link answers: spans, unfinished, bytes written.
+pub const LISTED: usize = 3;
 
 /// A stretch and direction with bytes held, as the library lays it out.
 #[repr(C)]
@@ -226,7 +269,7 @@ pub struct Lender {
 }
 
 /// One more than the highest number of a refusal.
-pub const NUMBERS: usize = 23;
+pub const NUMBERS: usize = 24;
 
 impl Lender {
     /// One call with `lent` bytes of output and room for `room` values. Everything is

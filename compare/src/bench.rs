@@ -11,7 +11,10 @@ use std::collections::BTreeSet;
 use std::hint::black_box;
 use std::path::Path;
 
-use crate::answer::{Answer, Case, Checked, Container, Difference, Lender, Subject, NO_CHANNEL, SIZES, VALUES};
+use crate::alone;
+use crate::answer::{
+    Answer, Case, Checked, Container, Difference, Lender, Stream, Subject, LISTED, NO_CHANNEL, SIZES, VALUES,
+};
 use crate::containers;
 use crate::expected::{self, LONGEST_FILE};
 use crate::gaps;
@@ -41,8 +44,8 @@ const PCAP: f64 = 1.1;
 /// What an import that checks the FCS is to cost at most, divided by one that does not.
 const FCS: f64 = 1.1;
 
-/// What the sizes of a file are to cost at most, divided by its import; and where import writes a single span, so that both
-/// do the same and chance says which takes longer.
+/// What the sizes of a file, and the list of one of its links, are to cost at most, divided by its import; and where both do
+/// the same, as import writes a single span or nearly all packets are of the link, so that chance says which takes longer.
 const SIZED: f64 = 1.0;
 const EVEN: f64 = 1.02;
 
@@ -412,6 +415,16 @@ impl Files {
         }
     }
 
+    /// The list of one link of each file, with the work of an import.
+    fn listed(&mut self, subject: &dyn Subject, streams: &[(Stream, Answer)]) {
+        let mut values = [0; LISTED];
+        for (file, (stream, answer)) in self.files.iter().zip(streams) {
+            let (work, out) = (&mut self.work[..], &mut self.out[..]);
+            let number = subject.one_link_with(black_box(file), work, out, *stream, &options(self.how), &mut values);
+            assert_eq!(number, answer.number);
+        }
+    }
+
     fn import(&mut self, subject: &dyn Subject) {
         let mut values = [0; VALUES];
         for (file, answer) in self.files.iter().zip(&self.answers) {
@@ -673,6 +686,74 @@ fn sizes_row(bench: &mut Bench, label: &str, how: How, files: Vec<Vec<u8>>) -> C
     Ok(())
 }
 
+/// The list of one link in turns with import of the same file: the typical trace, as pcap too; the other traces of import, of
+/// their longest size; traces of many adapters; and pcap files that are full of the smallest records.
+fn lists(bench: &mut Bench) -> Checked {
+    println!("{:64} {:>10} {:>10} {:>10} {:>7} {:>7}", "links", "bytes", "one link", "import", "ratio", "least");
+    let asked = bench.options.kib.clone();
+    for trace in hard::traces().into_iter().chain(hard::of_many_adapters()) {
+        let typical = trace.label.starts_with("typical");
+        let mut kibs = trace.sizes(asked.as_deref());
+        if asked.is_none() && !typical {
+            kibs.drain(..kibs.len() - 1);
+        }
+        for kib in kibs {
+            let Some(files) = trace.files(kib) else { continue };
+            lists_row(bench, &trace.label, Container::Btsnoop, files.clone())?;
+            if typical {
+                let others: Vec<Vec<u8>> = files.iter().map(|file| pcap::of_btsnoop(file, FORMS[0])).collect();
+                lists_row(bench, &format!("{}, pcap", trace.label), Container::Pcap, others)?;
+            }
+        }
+    }
+    for kib in asked.unwrap_or(vec![1024]) {
+        for (label, file) in containers::fullest(kib << 10) {
+            lists_row(bench, &format!("{label}, pcap"), Container::Pcap, vec![file])?;
+        }
+    }
+    Ok(())
+}
+
+/// The link of a file's first packet, with this DLCI; and how much of all packets are of that link.
+fn first_link(container: Container, file: &[u8], dlci: u64) -> (Stream, f64) {
+    let packets = alone::packets(container, file);
+    let (index, handle) = packets.first().map_or((0, 0x40), |packet| packet.link);
+    let own = packets.iter().filter(|packet| packet.link == (index, handle)).count();
+    (Stream { index, handle, dlci: dlci as u8 }, own as f64 / packets.len().max(1) as f64)
+}
+
+fn lists_row(bench: &mut Bench, label: &str, container: Container, files: Vec<Vec<u8>>) -> Checked {
+    if !bench.wants(label) {
+        return Ok(());
+    }
+    let (subject, bytes, count) = (bench.subject, files[0].len(), files.len() as f64);
+    let how = How { container, checks: Some(false) };
+    let mut ours = Files::checked_in(how, subject, label, files)?;
+    let (mut streams, mut parts) = (Vec::new(), Vec::new());
+    for (file, answer) in ours.files.iter().zip(&ours.answers) {
+        let (stream, part) = first_link(container, file, answer.values[0]);
+        let (expected, _) = expected::one_link(container, file, stream, &None);
+        let work = &mut ours.work;
+        check(label, &expected, &mut |out, values| {
+            subject.one_link_with(file, work, out, stream, &options(how), values)
+        })?;
+        streams.push((stream, expected));
+        parts.push(part);
+    }
+    let label = format!("{label} ({} of {} spans)", streams[0].1.values[0], ours.answers[0].values[1]);
+    let limit = if parts.iter().all(|part| *part > 0.9) { EVEN } else { SIZED };
+    // Both get the same work: where it lies makes a difference.
+    let ours = RefCell::new(ours);
+    let times = times::turns(&mut [&mut || ours.borrow_mut().listed(subject, &streams), &mut || {
+        ours.borrow_mut().import(subject)
+    }]);
+    let (ratio, least) = (times::ratio(&times[0], &times[1]), times::least(&times[0]) / times::least(&times[1]));
+    let [list, import] = [0, 1].map(|i| times::shown(times::median(times[i].clone()) / count));
+    println!("{label:64} {bytes:>10} {list:>10} {import:>10} {ratio:>7.3} {least:>7.3}");
+    bench.judge(&label, bytes, ratio, Some(limit));
+    Ok(())
+}
+
 fn words(form: Form) -> String {
     let order = if form.big { "big-endian" } else { "little-endian" };
     format!("{order} {}", if form.nano { "nanoseconds" } else { "microseconds" })
@@ -799,6 +880,7 @@ pub fn run(group: &str, subject: &dyn Subject, options: &Options) -> Option<Chec
         "pcap" => pcap,
         "fcs" => fcs,
         "sizes" => sizes,
+        "links" => lists,
         _ => return None,
     };
     times::keep_memory();
@@ -808,12 +890,12 @@ pub fn run(group: &str, subject: &dyn Subject, options: &Options) -> Option<Chec
 
 /// Imports of one trace and nothing else, to be counted or profiled: the trace of that label,
 /// or the first whose label has it; with the FCS checked or as pcap, if the label begins with `fcs` or `pcap`, or with both.
-/// With `sizes` before these the sizes are told instead.
+/// With `sizes` before these the sizes are told instead, and with `link` the spans of the first packet's link are listed.
 pub fn once(label: &str, kib: usize, subject: &dyn Subject, options: &Options) -> Result<(), String> {
     let traces = [hard::traces(), hard::of_many_adapters()].into_iter().flatten().collect::<Vec<Hard>>();
-    let (sized, label) = match label.strip_prefix("sizes ") {
-        Some(label) => (true, label),
-        None => (false, label),
+    let (call, label) = match label.split_once(' ') {
+        Some((call @ ("sizes" | "link"), label)) => (call, label),
+        _ => ("import", label),
     };
     let (checks, label) = match label.strip_prefix("fcs ") {
         Some(label) => (Some(true), label),
@@ -836,13 +918,21 @@ pub fn once(label: &str, kib: usize, subject: &dyn Subject, options: &Options) -
     let mut out = vec![0; 8 * bytes];
     let (mut number, mut values) = (0, [0; VALUES]);
     let how = How { container, checks };
+    let (all, (stream, _)) = (self::options(how), first_link(container, &file, 18));
     for _ in 0..options.times {
-        number = match sized {
-            true => subject.sizes_with(black_box(&file), &mut work, &self::options(how), &mut values[..SIZES]),
-            false => imported(how, subject, black_box(&file), &mut work, &mut out, &mut values),
+        let file = black_box(&file[..]);
+        number = match call {
+            "sizes" => subject.sizes_with(file, &mut work, &all, &mut values[..SIZES]),
+            "link" => subject.one_link_with(file, &mut work, &mut out, stream, &all, &mut values[..LISTED]),
+            _ => imported(how, subject, file, &mut work, &mut out, &mut values),
         };
     }
-    let values = if sized { &values[..SIZES] } else { &values };
+    let stored = match call {
+        "sizes" => SIZES,
+        "link" => LISTED,
+        _ => VALUES,
+    };
+    let values = &values[..stored];
     println!("{}: {bytes} bytes, number {number}, values {values:?}", trace.label);
     Ok(())
 }

@@ -77,9 +77,6 @@ fn pdus(words: &str) -> Vec<Step> {
             "untried" => step.cid = 0x20,
             "handle" => step.pair.1 = 0x41,
             "adapter" => step.pair.0 = 1,
-            "dlci0" => dlci = 0,
-            "dlci19" => dlci = 19,
-            "dlci20" => dlci = 20,
             "credit" => credit = Some(0x3E),
             "bad" => bad = true,
             "open" => step.open = true,
@@ -90,9 +87,10 @@ fn pdus(words: &str) -> Vec<Step> {
             "F" => information.extend(ack(1)),
             "h" => information.extend(&ack(1)[..5]),
             "t" => information.extend(&ack(1)[5..]),
-            _ => match word.split_once('x') {
-                Some((many, byte)) => information.extend(vec![hex(byte); many.parse().expect("how many")]),
-                None => information.push(hex(word)),
+            _ => match (word.strip_prefix("dlci"), word.split_once('x')) {
+                (Some(number), _) => dlci = number.parse().expect("a DLCI"),
+                (_, Some((many, byte))) => information.extend(vec![hex(byte); many.parse().expect("how many")]),
+                _ => information.push(hex(word)),
             },
         }
     }

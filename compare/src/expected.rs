@@ -8,7 +8,8 @@ use std::collections::{BTreeMap, BTreeSet};
 use std::path::Path;
 
 use crate::account;
-use crate::answer::{Answer, Container, NO_CHANNEL};
+use crate::alone;
+use crate::answer::{Answer, Container, Stream, NO_CHANNEL};
 use crate::fcs;
 use crate::items;
 use crate::model::{self, RIGHT};
@@ -317,4 +318,45 @@ pub fn counts(container: Container, file: &[u8]) -> [[u64; 3]; 2] {
         assert_eq!(rows(file).count() as u64, records, "both readings find as many records");
     }
     [[records, pdus, pieces], [records, pdus, on]]
+}
+
+/// What strict reading refuses a file by: 1 to 5, 21 or 22, for enough work. The oracle is asked by a channel that no DLCI has.
+pub fn refused(container: Container, file: &[u8]) -> Option<Answer> {
+    if container == Container::Pcap {
+        return pcap::refusal(file, usize::MAX, false, pcap::RIGHT);
+    }
+    if file.len() > LONGEST_FILE {
+        return Some(Answer::refused(1, &[]));
+    }
+    match capture::import(file, Some(255)) {
+        Err(ImportError::NotBtsnoop) => Some(Answer::refused(3, &[])),
+        Err(ImportError::Datalink(n)) => Some(Answer::refused(4, &[n.into()])),
+        Err(ImportError::Truncated(at)) => Some(Answer::refused(5, &[at as u64])),
+        Err(ImportError::NoStream) => None,
+        Ok(imported) => unreachable!("DLCI {} is of no such channel", imported.dlci),
+    }
+}
+
+/// The spans of one link's DLCI, of a file that is refused so, or not: the oracle's list of the file with that link's records
+/// alone, if it takes that DLCI. Else a frame of another handle stands before them, so that
+/// it does, and is left out of the list. The second says whether that was so.
+pub fn one_link(container: Container, file: &[u8], stream: Stream, refused: &Option<Answer>) -> (Answer, bool) {
+    if let Some(refused) = refused {
+        return (refused.clone(), false);
+    }
+    if !stream.may_be() {
+        return (Answer::refused(23, &[]), false);
+    }
+    let alone = alone::for_rust(container, file, (stream.index, stream.handle));
+    let channel = Some(stream.dlci / 2);
+    let listed =
+        |frames: &[items::Span], unfinished| Answer::listed(frames.len(), unfinished, items::span_list(frames));
+    if let Ok(imported) = capture::import(&alone, channel) {
+        if imported.dlci == stream.dlci {
+            return (listed(&imported.frames, imported.unfinished), false);
+        }
+    }
+    let imported = capture::import(&alone::behind_frame(&alone, stream), channel).expect("it has a frame");
+    assert_eq!(imported.dlci, stream.dlci, "the DLCI of the first frame is taken");
+    (listed(&imported.frames[1..], imported.unfinished), true)
 }

@@ -72,8 +72,10 @@ pub fn wrong(container: Container, file: &[u8]) -> Vec<Wrong> {
     pdus.iter().filter_map(|pdu| pdu.wrong(&channels)).collect()
 }
 
-/// The information of a UIH frame: its DLCI and how many bytes it has, whether its FCS is right, and whether its PDU is tried.
+/// The information of a UIH frame: its link (index and handle in one number) and DLCI, how many bytes it has, whether its
+/// FCS is right, and whether its PDU is tried.
 pub struct Information {
+    pub link: u32,
     pub dlci: u8,
     pub bytes: usize,
     pub right: bool,
@@ -86,7 +88,7 @@ pub fn information(container: Container, file: &[u8]) -> Vec<Information> {
     let channels = Channels::of(&pdus);
     let read = |pdu: &Pdu| {
         let (dlci, bytes, right) = pdu.frame()?;
-        Some(Information { dlci, bytes, right, tried: pdu.is_tried(&channels) })
+        Some(Information { link: pdu.side.0, dlci, bytes, right, tried: pdu.is_tried(&channels) })
     };
     pdus.iter().filter_map(read).collect()
 }

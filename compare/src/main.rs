@@ -2,6 +2,7 @@
 
 mod account;
 mod adapters;
+mod alone;
 mod answer;
 mod bench;
 mod bytes;
@@ -17,7 +18,9 @@ mod honest;
 mod import;
 mod items;
 mod lacking;
+mod links;
 mod misfiled;
+mod mislinked;
 mod misplaced;
 mod misprint;
 mod misread;
@@ -58,9 +61,9 @@ usage: compare GROUP [--seed N] [--size N] [--against proved|model]
        compare sample GROUP FILE
        compare stats import|pcap|honest|bench [--seed N] [--size N]
 
-GROUP is codec, names, plan, order, import, tolerant, gaps, pcap, fcs, bytes, sizes or
-vectors. --size is the number of random cases; what is exhaustive stays whole. `all` runs
-every group that this build links. There is no sample of gaps, pcap, fcs and sizes, and
+GROUP is codec, names, plan, order, import, tolerant, gaps, pcap, fcs, bytes, sizes, links
+or vectors. --size is the number of random cases; what is exhaustive stays whole. `all` runs
+every group that this build links. There is no sample of gaps, pcap, fcs, sizes and links, and
 neither sample nor bench of bytes and vectors.
 PROGRAM is the built traceprint.
 
@@ -68,11 +71,13 @@ PROGRAM is the built traceprint.
 `bench gaps` how long the signs take as a part of import, `bench adapters` one handle
 on many adapters against as many links that are spread over handles, `bench pcap` the
 same packets in pcap and in btsnoop, `bench fcs` import with the FCS checked against
-import without, `bench sizes` the sizes of a file against its import.
+import without, `bench sizes` the sizes of a file against its import, `bench links` one
+link's list against the file's import.
 --only takes the rows, or of selfcheck the faults, whose label has TEXT, --kib the sizes
 of the files of import (16 to 1024), and --judge says at the end which rows are over
 their limit. `once` imports the trace of a row --times times and does nothing else; with the FCS checked or
-as pcap, if LABEL begins with `fcs` or `pcap`; or tells its sizes, if LABEL begins with `sizes`.";
+as pcap, if LABEL begins with `fcs` or `pcap`; or tells its sizes, if LABEL begins with `sizes`;
+or lists one of its links, if LABEL begins with `link`.";
 
 /// What the command line says besides the command.
 pub struct Options {
@@ -138,7 +143,7 @@ fn cases(counts: &[u64]) -> String {
 
 pub type Group = fn(&dyn Subject, &Options) -> Checked;
 
-const GROUPS: [(&str, Group); 12] = [
+const GROUPS: [(&str, Group); 13] = [
     ("codec", codec::run),
     ("names", names::run),
     ("plan", plan::run),
@@ -150,6 +155,7 @@ const GROUPS: [(&str, Group); 12] = [
     ("fcs", sums::run),
     ("bytes", bytes::run),
     ("sizes", sizes::run),
+    ("links", links::run),
     ("vectors", vectors::run),
 ];
 
@@ -266,6 +272,7 @@ fn run() -> Result<bool, String> {
                 "adapters" => &["import", "gaps"],
                 "pcap" | "fcs" => &["import", "pcap"],
                 "sizes" => &["sizes", "pcap"],
+                "links" => &["links", "pcap"],
                 _ => &[group],
             };
             calls.iter().try_for_each(|call| need(call))?;
@@ -273,10 +280,11 @@ fn run() -> Result<bool, String> {
         }
         ["once", label, kib] => {
             let by_options = ["pcap ", "fcs "].iter().any(|word| label.starts_with(word));
-            need(match label.starts_with("sizes ") {
-                true => "sizes",
-                false if by_options => "pcap",
-                false => "import",
+            need(match label.split_once(' ') {
+                Some(("sizes", _)) => "sizes",
+                Some(("link", _)) => "links",
+                _ if by_options => "pcap",
+                _ => "import",
             })?;
             bench::once(label, size(kib)?, subject, &options).map(|()| true)
         }

@@ -23,7 +23,7 @@ const ALONE: fn(u32) -> u32 = |link| link % 4096;
 pub fn by_handle_alone() -> [(&'static str, Keys); 6] {
     [
         ("fragments put together", Keys { open: ALONE, ..BY_LINK }),
-        ("channels named", Keys { channel: ALONE, ..BY_LINK }),
+        ("channels named", Keys { named: ALONE, admitted: ALONE, ..BY_LINK }),
         ("an earlier request found", Keys { requested: ALONE, ..BY_LINK }),
         ("sessions counted", Keys { sessions: ALONE, ..BY_LINK }),
         ("links counted", Keys { links: ALONE, ..BY_LINK }),

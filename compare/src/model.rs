@@ -7,7 +7,7 @@ use std::borrow::Cow;
 use std::collections::BTreeMap;
 use std::sync::LazyLock;
 
-use crate::answer::{self, chosen, container, Answer, Asked, Bytes, Container, Subject, NO_CHANNEL};
+use crate::answer::{self, chosen, container, Answer, Asked, Bytes, Container, Stream, Subject, NO_CHANNEL};
 use crate::expected::{LONGEST_FILE, LONGEST_PAYLOAD};
 use crate::gaps;
 use crate::pcap;
@@ -135,6 +135,18 @@ impl Subject for Model {
 
     fn sizes_with(&self, file: &[u8], work: &mut [u8], options: &[u64], values: &mut [u64]) -> u32 {
         store(&sizes_with(file, work.len(), options, RIGHT), &mut [], values)
+    }
+
+    fn one_link_with(
+        &self,
+        file: &[u8],
+        work: &mut [u8],
+        out: &mut [u8],
+        stream: Stream,
+        options: &[u64],
+        values: &mut [u64],
+    ) -> u32 {
+        store(&one_link(container(options), file, work.len(), stream, RIGHT), out, values)
     }
 }
 
@@ -327,8 +339,9 @@ impl Fates {
 pub struct Keys {
     /// Open PDUs.
     pub open: fn(u32) -> u32,
-    /// The channel triple.
-    pub channel: fn(u32) -> u32,
+    /// The channel triple, where it is named and where it is admitted.
+    pub named: fn(u32) -> u32,
+    pub admitted: fn(u32) -> u32,
     /// An earlier PSM 3 request.
     pub requested: fn(u32) -> u32,
     pub sessions: fn(u32) -> u32,
@@ -339,8 +352,15 @@ pub struct Keys {
 const WHOLE: fn(u32) -> u32 = |link| link;
 
 /// All of the link everywhere.
-pub const BY_LINK: Keys =
-    Keys { open: WHOLE, channel: WHOLE, requested: WHOLE, sessions: WHOLE, links: WHOLE, stretch: WHOLE };
+pub const BY_LINK: Keys = Keys {
+    open: WHOLE,
+    named: WHOLE,
+    admitted: WHOLE,
+    requested: WHOLE,
+    sessions: WHOLE,
+    links: WHOLE,
+    stretch: WHOLE,
+};
 
 /// The upper 16 flag bits of 2001; 1001 and 1002 have one adapter.
 pub fn index(datalink: u64, flags: u64) -> Option<u32> {
@@ -639,6 +659,7 @@ pub struct Pdu {
 pub type Stretch = (u32, u16, u32, u32);
 
 pub struct Piece {
+    pub link: u32,
     pub dlci: u8,
     pub ms: u64,
     pub way: Way,
@@ -695,9 +716,9 @@ fn fragment(packet: &[u8]) -> Option<(u16, u16, &[u8])> {
 
 /// A packet all of whose fields are there.
 pub struct Packet<'a> {
-    ms: u64,
-    way: Way,
-    link: u32,
+    pub ms: u64,
+    pub way: Way,
+    pub link: u32,
     pub start: bool,
     pub data: &'a [u8],
 }
@@ -799,23 +820,22 @@ pub fn channels(pdus: &[Pdu], reading: Reading) -> (Vec<Triple>, Vec<Triple>) {
     let mut named = Vec::new();
     let mut requested: Vec<Triple> = Vec::new();
     for pdu in pdus.iter().filter(|p| p.cid == 1) {
-        let (own, asked) = ((reading.keys.channel)(pdu.link), (reading.keys.requested)(pdu.link));
+        let keys = reading.keys;
+        let (names, admits, asked) = ((keys.named)(pdu.link), (keys.admitted)(pdu.link), (keys.requested)(pdu.link));
         for (code, body) in commands(&pdu.payload) {
             let (Some(first), Some(second)) = (le16(body, 0), le16(body, 2)) else { continue };
             if code == 2 {
-                let triple = (own, !pdu.way, second);
-                named.push(triple);
+                named.push((names, !pdu.way, second));
                 if first == 3 {
                     if reading.request_admits {
-                        admitted.push(triple);
+                        admitted.push((admits, !pdu.way, second));
                     }
                     requested.push((asked, pdu.way, second));
                 }
             } else if code == 3 {
-                let triple = (own, !pdu.way, first);
-                named.push(triple);
+                named.push((names, !pdu.way, first));
                 if le16(body, 4) == Some(0) && requested.contains(&(asked, !pdu.way, second)) {
-                    admitted.push(triple);
+                    admitted.push((admits, !pdu.way, first));
                 }
             }
         }
@@ -874,9 +894,9 @@ pub fn frames(pdus: &[Pdu], checks: bool, reading: Reading) -> (Vec<Piece>, Vec<
         if !reading.whole_file {
             (admitted, named) = channels(&pdus[..=i], reading);
         }
-        let triple = ((keys.channel)(pdu.link), pdu.way, pdu.cid);
-        let guessed = pdu.cid >= 0x40 && named.binary_search(&triple).is_err();
-        let tried = guessed || admitted.binary_search(&triple).is_ok();
+        let triple = |link: u32| (link, pdu.way, pdu.cid);
+        let guessed = pdu.cid >= 0x40 && named.binary_search(&triple((keys.named)(pdu.link))).is_err();
+        let tried = guessed || admitted.binary_search(&triple((keys.admitted)(pdu.link))).is_ok();
         let asks = asks(pdu);
         let wrong = if checks || !sums.on_alone { wrong(&pdu.payload, sums) } else { None };
         wrongs.extend(wrong.map(|wrong| Wrong { tried, asks, before: pieces.len(), ..wrong }));
@@ -918,6 +938,7 @@ pub fn frames(pdus: &[Pdu], checks: bool, reading: Reading) -> (Vec<Piece>, Vec<
                 session = 0;
             }
             pieces.push(Piece {
+                link: pdu.link,
                 dlci,
                 ms: pdu.ms,
                 way: pdu.way,
@@ -930,7 +951,7 @@ pub fn frames(pdus: &[Pdu], checks: bool, reading: Reading) -> (Vec<Piece>, Vec<
 }
 
 /// 01's rule on one buffer: what is taken from it, and what it then holds.
-fn split(mut buffer: Vec<u8>, longest: usize) -> (Vec<Vec<u8>>, Vec<u8>) {
+pub fn split(mut buffer: Vec<u8>, longest: usize) -> (Vec<Vec<u8>>, Vec<u8>) {
     let mut spans = Vec::new();
     loop {
         match buffer.iter().position(|&b| b == 0x3E) {
@@ -956,6 +977,16 @@ pub type Spans = Vec<(u64, Way, Vec<u8>)>;
 pub fn spans(pieces: &[&Piece], reading: Reading) -> (Spans, usize) {
     let (spans, buffers) = buffers(pieces, reading);
     (spans, buffers.len())
+}
+
+/// The list of spans.
+pub fn span_list(spans: &Spans) -> Vec<u8> {
+    let mut list = Vec::new();
+    for (ms, way, wire) in spans {
+        let span: Vec<u8> = (0..8).map(|i| (ms >> (8 * i)) as u8).chain(wire.iter().copied()).collect();
+        item(&mut list, if *way { 1 } else { 2 }, &span);
+    }
+    list
 }
 
 /// The spans of one DLCI's pieces, and the buffers that are left nonempty.
@@ -1143,11 +1174,7 @@ pub fn import_from(container: Container, file: &[u8], work: usize, asked: Asked,
         if spans.iter().all(|(_, _, wire)| body(wire).is_err()) {
             continue;
         }
-        let mut list = Vec::new();
-        for (ms, way, wire) in &spans {
-            let span: Vec<u8> = (0..8).map(|i| (ms >> (8 * i)) as u8).chain(wire.iter().copied()).collect();
-            item(&mut list, if *way { 1 } else { 2 }, &span);
-        }
+        let list = span_list(&spans);
         let counted: Vec<&Wrong> = wrong.iter().filter(|wrong| (reading.sums.counts)(wrong, dlci)).collect();
         let taken: Vec<&Piece> = pieces.iter().filter(|p| (reading.account.own)(p.dlci, dlci, dlcis[0])).collect();
         let mut fates = fates(&taken, reading.account);
@@ -1198,4 +1225,20 @@ pub fn sizes_from(container: Container, file: &[u8], work: usize, asked: Asked, 
         0 => import.sizes(lists(container, file, asked.checks, reading).counts()),
         _ => import,
     }
+}
+
+/// The spans of one link's DLCI: of the packets of that link alone, by what import makes of them.
+pub fn one_link(container: Container, file: &[u8], work: usize, stream: Stream, reading: Reading) -> Answer {
+    if let Some(refusal) = refusal(container, file, work, false, reading) {
+        return refusal;
+    }
+    if !stream.may_be() {
+        return Answer::refused(23, &[]);
+    }
+    let mut packets = packets(container, file, reading).0;
+    packets.retain(|packet| packet.link == stream.link());
+    let pieces = pieces(&pdus(&packets, reading), reading);
+    let own: Vec<&Piece> = pieces.iter().filter(|piece| piece.dlci == stream.dlci).collect();
+    let (spans, unfinished) = spans(&own, reading);
+    Answer::listed(spans.len(), unfinished, span_list(&spans))
 }

@@ -1,9 +1,10 @@
 //! Wrong answers planted on purpose: each must be reported, or the comparison could
 //! not fail.
 
-use crate::answer::{chosen, Answer, Asked, Container, Stretch, Subject, BYTES, NO_CHANNEL};
+use crate::answer::{chosen, Answer, Asked, Container, Stream, Stretch, Subject, BYTES, NO_CHANNEL};
 use crate::expected::LONGEST_FILE;
 use crate::misfiled::{self, Change, Misfiled, Store};
+use crate::mislinked::{self, Given, Mislinked};
 use crate::misplaced;
 use crate::misread::{self, Misread};
 use crate::missized::{self, Missized};
@@ -11,7 +12,7 @@ use crate::misspelt;
 use crate::missummed;
 use crate::mistaken::{self, RANDOM};
 use crate::model::{self, Reading, Spelling, RIGHT, SPELT};
-use crate::{bytes, containers, import, names, plan, signs, sizes, sums, tolerant, Group, Options};
+use crate::{bytes, containers, import, links, names, plan, signs, sizes, sums, tolerant, Group, Options};
 
 /// The model with some of its calls replaced.
 #[derive(Clone, Copy)]
@@ -47,6 +48,8 @@ struct Planted {
     misfiled: Misfiled,
     /// The call that tells sizes.
     missized: Missized,
+    /// The call for one link.
+    mislinked: Mislinked,
 }
 
 fn read(file: &[u8], work: usize, channel: u32, tolerant: bool, reading: Reading) -> Answer {
@@ -81,6 +84,7 @@ const NONE: Planted = Planted {
     gaps: misread::NONE,
     misfiled: misfiled::NONE,
     missized: missized::NONE,
+    mislinked: mislinked::NONE,
 };
 
 fn by_options(file: &[u8], work: usize, asked: Asked) -> Answer {
@@ -205,6 +209,19 @@ impl Subject for Planted {
         self.missized.call(self.reading, file, work, options, values)
     }
 
+    fn one_link_with(
+        &self,
+        file: &[u8],
+        work: &mut [u8],
+        out: &mut [u8],
+        stream: Stream,
+        options: &[u64],
+        values: &mut [u64],
+    ) -> u32 {
+        let given = Given { reading: self.reading, file, work: work.len(), options, stream };
+        self.mislinked.call(given, work, out, values)
+    }
+
     fn gaps(&self, file: &[u8], work: &mut [u8], tolerant: u32, values: &mut [u64]) -> u32 {
         self.gaps.call(file, work, tolerant != 0, values)
     }
@@ -229,7 +246,7 @@ const FRAGMENTS: &str = "import, every three fragments of two PDUs";
 const CID_1: &str = "import, every four PDUs on CID 1";
 const STRICT: &str = "tolerant, switched to strict";
 const LARGE: &str = "import, long files";
-const PARTS: [(&str, Group); 46] = [
+const PARTS: [(&str, Group); 53] = [
     (misspelt::TYPES, names::run_types),
     (misspelt::ABOUT, names::run_about),
     (misspelt::JOINS, names::run_joins),
@@ -276,6 +293,13 @@ const PARTS: [(&str, Group); 46] = [
     (missized::HONEST, sizes::run_honest),
     (missized::LONG, sizes::run_long),
     (missized::LAW, sizes::run_law),
+    (mislinked::BY_HAND, links::run_by_hand),
+    (mislinked::RANDOM, links::run_random),
+    (mislinked::SHORT, links::run_short),
+    (mislinked::STEPS, links::run_steps),
+    (mislinked::LONG, links::run_long),
+    (mislinked::BESIDE, links::run_beside),
+    (mislinked::APART, links::run_apart),
 ];
 
 const EXCESS: Planted = Planted { reading: Reading { excess_dropped: false, ..RIGHT }, ..NONE };
@@ -1358,6 +1382,8 @@ fn all() -> Vec<(&'static str, String, Planted)> {
     let missized = missized::faults().into_iter();
     all.extend(missized.map(|(group, label, missized)| (group, label, Planted { missized, ..NONE })));
     all.extend(faults_of_needed());
+    let mislinked = mislinked::faults().into_iter();
+    all.extend(mislinked.map(|(group, label, mislinked)| (group, label, Planted { mislinked, ..NONE })));
     all
 }
 

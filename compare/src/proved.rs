@@ -6,7 +6,7 @@
 
 #![allow(clippy::too_many_arguments)]
 
-use crate::answer::{Stretch, Subject};
+use crate::answer::{Stream, Stretch, Subject};
 
 pub struct Proved;
 
@@ -25,6 +25,7 @@ pub fn has(group: &str) -> bool {
         // The switch is one of the options.
         ("fcs", cfg!(feature = "pcap")),
         ("sizes", cfg!(feature = "sizes")),
+        ("links", cfg!(feature = "links")),
         // What imports.
         ("bytes", cfg!(all(feature = "import", feature = "pcap"))),
         // What the cases call.
@@ -91,6 +92,9 @@ call!("pcap", lumbryth_gaps_with(
 call!("sizes", lumbryth_sizes_with(
     file: *const u8, file_len: usize, work: *mut u8, work_len: usize, options: *const u64, options_len: usize,
     values: *mut u64, values_len: usize));
+call!("links", lumbryth_one_link_with(
+    file: *const u8, file_len: usize, work: *mut u8, work_len: usize, out: *mut u8, out_len: usize, index: u16,
+    handle: u16, dlci: u8, options: *const u64, options_len: usize, values: *mut u64, values_len: usize));
 
 // Safety, of each call: the pointers and lengths are those of slices that live
 // through it, and the slices written do not overlap any other.
@@ -357,6 +361,34 @@ impl Subject for Proved {
         }
     }
 
+    fn one_link_with(
+        &self,
+        file: &[u8],
+        work: &mut [u8],
+        out: &mut [u8],
+        stream: Stream,
+        options: &[u64],
+        values: &mut [u64],
+    ) -> u32 {
+        unsafe {
+            lumbryth_one_link_with(
+                file.as_ptr(),
+                file.len(),
+                work.as_mut_ptr(),
+                work.len(),
+                out.as_mut_ptr(),
+                out.len(),
+                stream.index,
+                stream.handle,
+                stream.dlci,
+                options.as_ptr(),
+                options.len(),
+                values.as_mut_ptr(),
+                values.len(),
+            )
+        }
+    }
+
     fn has_stretches(&self) -> bool {
         has("stretches")
     }
@@ -367,5 +399,9 @@ impl Subject for Proved {
 
     fn has_sizes(&self) -> bool {
         has("sizes")
+    }
+
+    fn has_links(&self) -> bool {
+        has("links")
     }
 }

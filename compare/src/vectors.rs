@@ -4,9 +4,12 @@
 use std::collections::BTreeMap;
 use std::path::PathBuf;
 
-use crate::answer::{Answer, Asked, Checked, Container, Difference, Subject, NO_CHANNEL, SIZES, VALUES};
+use crate::answer::{
+    Answer, Asked, Checked, Container, Difference, Stream, Subject, LISTED, NO_CHANNEL, SIZES, VALUES,
+};
 use crate::expected;
 use crate::import::{Import, Rule};
+use crate::links::Links;
 use crate::model::{self, RIGHT};
 use crate::sizes::Sizes;
 use crate::Options;
@@ -39,7 +42,7 @@ const LATER: [(&str, Asks); 2] = [
 /// What a case is called that has no name.
 const UNNAMED: &str = "a case";
 
-/// The calls that are run.
+/// The calls that are run, besides that for one link, where it is linked.
 const CALLS: [&str; 1] = ["import"];
 
 /// A case as it stands in its file.
@@ -155,6 +158,9 @@ struct Tally {
     lost: [u64; 3],
     /// How many told the number of records.
     records: u64,
+    /// Of one link: how many list spans, list none, and are refused, and how many were run of each file.
+    one: [u64; 3],
+    one_of: BTreeMap<&'static str, u64>,
     /// How many the sizes were held to: those that tell them, those that tell the list alone, those that are refused by 1 to
     /// 6, 21 or 22, and those that are refused by 7.
     sizes: [u64; 4],
@@ -178,11 +184,15 @@ struct Vectors<'a> {
     subject: &'a dyn Subject,
     imports: Vec<Import<'a>>,
     sizes: Sizes<'a>,
+    links: Links<'a>,
     tally: Tally,
 }
 
 impl Vectors<'_> {
     fn case(&mut self, line: &Line) -> Checked {
+        if line.call == "one" && self.subject.has_links() {
+            return self.one_link(line);
+        }
         self.records(line)?;
         let asked = (line.container(), line.tolerant());
         let linked = self.imports.iter().any(|import| (import.container(), import.tolerant()) == asked);
@@ -232,6 +242,49 @@ impl Vectors<'_> {
         let held = rooms.try_for_each(|room| self.sizes.call(container, file, asked, work, room, &expected));
         let checked = held.and_then(|()| self.sizes.less(container, file, asked, &expected));
         checked.map_err(|found| line.differs(&found.call, found.expected, found.got))
+    }
+}
+
+impl Vectors<'_> {
+    /// A case of one link: some times with the work and the output that it lends, then with outputs about what is needed and
+    /// with less work.
+    fn one_link(&mut self, line: &Line) -> Checked {
+        let told = one(line);
+        let file = bytes(line.get("file").expect("a file"));
+        let number = |name| line.number_of(name).expect("a number");
+        let (index, handle, dlci) = (number("index") as u16, number("handle") as u16, number("dlci") as u8);
+        let (container, stream) = (line.container(), Stream { index, handle, dlci });
+        let (work, out) = (line.number_of("work_len"), line.number_of("out_len"));
+        *self.tally.one_of.entry(line.file).or_default() += 1;
+        self.tally.one[if told.number != 0 { 2 } else { usize::from(told.values[0] == 0) }] += 1;
+        let refused = expected::refused(container, &file);
+        let rust = expected::one_link(container, &file, stream, &refused).0;
+        let model = model::one_link(container, &file, work.unwrap_or(usize::MAX), stream, RIGHT);
+        for (what, found) in [("the Rust", &rust), ("the model", &model)] {
+            let found = found.within(out.unwrap_or(usize::MAX));
+            if *found != told && (told.number != 2 || what == "the model") {
+                return Err(line.differs(what, format!("{told:?}"), format!("{found:?}")));
+            }
+        }
+        let lent = (work.unwrap_or(8 * file.len()), out.unwrap_or(rust.written.len()));
+        let links = &mut self.links;
+        let held = (0..=LISTED + 1).try_for_each(|_| links.call(container, &file, stream, lent, &model));
+        let all = held.and_then(|()| links.held(container, &file, stream, &rust));
+        let checked = all.and_then(|()| links.less(container, &file, stream, &rust));
+        checked.map_err(|found| line.differs(&found.call, found.expected, found.got))
+    }
+}
+
+/// The answer for one link that a line tells: after `ok` spans, unfinished and the list.
+fn one(line: &Line) -> Answer {
+    let words: Vec<&str> = line.answer.split(' ').collect();
+    let number = |word: &str| word.parse::<usize>().expect("a number");
+    match words[..] {
+        ["ok", spans, unfinished, list] => Answer::listed(number(spans), number(unfinished), bytes(list)),
+        ["refused", refused, ref values @ ..] => {
+            Answer::refused(number(refused) as u32, &values.iter().map(|n| number(n) as u64).collect::<Vec<u64>>())
+        }
+        _ => panic!("{} line {}: no answer: {:.200}", line.file, line.number, line.answer),
     }
 }
 
@@ -325,7 +378,8 @@ pub fn run(subject: &dyn Subject, options: &Options) -> Checked {
             imports.extend([Rule::Strict, Rule::Tolerant].map(|rule| Import::by_container(subject, rule, container)));
         }
     }
-    let mut vectors = Vectors { subject, imports, sizes: Sizes::new(subject), tally: Tally::default() };
+    let mut vectors =
+        Vectors { subject, imports, sizes: Sizes::new(subject), links: Links::new(subject), tally: Tally::default() };
     for file in FILES {
         let path = directory().join(file);
         let text = std::fs::read_to_string(&path)
@@ -342,7 +396,7 @@ pub fn run(subject: &dyn Subject, options: &Options) -> Checked {
             name = UNNAMED;
         }
     }
-    let Tally { run, pcap, checked, wrong, bytes, lost, records, sizes, passed } = vectors.tally;
+    let Tally { run, pcap, checked, wrong, bytes, lost, records, one, one_of, sizes, passed } = vectors.tally;
     if run.is_empty() {
         return Err(unusable("cases to run", "none".into()));
     }
@@ -364,6 +418,12 @@ pub fn run(subject: &dyn Subject, options: &Options) -> Checked {
         println!(
             "vectors: sizes as {told} cases tell them, {list} by the list alone, {refused} that are refused likewise, {short} \
              by what 7 carries"
+        );
+        let [listed, empty, refused] = one;
+        println!(
+            "vectors: {} cases of one link, {listed} that list spans, {empty} that list none, {refused} refused: {}",
+            listed + empty + refused,
+            shown(one_of.iter().map(|(file, n)| format!("{file} {n}")).collect())
         );
         let total: u64 = passed.values().sum();
         let reasons = passed.iter().map(|(why, n)| format!("{why} {n}")).collect();

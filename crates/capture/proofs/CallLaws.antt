@@ -3,25 +3,20 @@ use Rattle.std.specs.Prelude.{Result, Ok, Err, None, ok_or}
 use Rattle.std.specs.Result.{result_ok}
 use Prim.Native.Nat.{ℕ, ◌<◌, ◌≤◌}
 use mathlib.Core.Path.{◌≡◌, refl, sym, ap, ◌∙◌}
-use mathlib.Core.List.{List, [], ◌∷◌}
+use mathlib.Core.List.{List, []}
 use native.Mathlib.Omega.{arith}
 use lib.ListN.{length, get_or}
 use Rattle.laws.proofs.Choice.{no_way}
-use Rattle.laws.specs.Answers.{Answer, accepted, refused, Meets}
+use Rattle.laws.specs.Answers.{accepted, Meets}
 use Rattle.laws.specs.Stores.{Writes}
 use Rattle.laws.proofs.Answers.{meets_refused, meets_short, meets_wrote}
 use Rattle.trace.specs.Formats.{container_of, format_of}
 use Rattle.trace.proofs.Formats.{lawful}
 use Rattle.trace.specs.declared.Container.{Container}
 use Rattle.trace.specs.declared.Refusal.{Refusal}
-use Rattle.trace.specs.declared.Refusal.TheVariants.{FileLong, WorkShort, NotBtsnoop, Datalink, NotPcap, LinkType, Truncated}
-use Rattle.packets.specs.PacketTable.{packets_from}
 use Rattle.packets.specs.Adding.{ReadTo}
 use Rattle.packets.specs.declared.Packets.{Packets}
-use Rattle.l2cap.specs.Pdus.{pdus}
-use Rattle.l2cap.specs.PduTable.{Reassembled}
-use Rattle.channels.specs.Passing.{ReadChannels}
-use Rattle.gathering.specs.Gathering.{ReadPieces}
+use Rattle.gathering.specs.Gathering.{Gathers}
 use Rattle.gathering.specs.declared.Gathered.{Gathered}
 use Rattle.streams.specs.Streams.{ChoosesStream, Choice, kept_list, WriteListPre}
 use Rattle.streams.specs.declared.Stream.{Stream}
@@ -31,8 +26,9 @@ use Rattle.outcome.specs.Sizes.{sizes, sized}
 use Rattle.outcome.proofs.Sizes.{foretells}
 use Rattle.cut.proofs.Theorem.{cut_claim}
 use Rattle.cut.proofs.SizesLeft.{sizes_claim}
-use Rattle.opening.specs.Opening.{opened, Opens}
-use Rattle.opening.proofs.AsImport.{or_given, import_opened, opened_sized}
+use Rattle.opening.specs.Opening.{opened, or_given, Opens}
+use Rattle.opening.proofs.AsImport.{import_opened, opened_sized, Refusing}
+use Rattle.opening.proofs.AsImport as opening
 use Rattle.opening.specs.declared.Opened.{Opened}
 use Rattle.capture.specs.Options.{options_of}
 use Rattle.capture.specs.Calls.{told_find_error, list_on, with_list, Stands, Finds, PacketsFind, unfound, told_imported, Imported, Left, Imports, told_sizing, Sizing}
@@ -48,55 +44,32 @@ use Rattle.capture.proofs.PassLaws.{passed_none, passed_some}
 -- ---- from the packets on
 
 module _
-    (f w : List ℕ) (p : Packets) (o : Options) (rp : ReadTo (format_of o.container f) f w p) (v : List ℕ) (made : ℕ) (ra : Reassembled f v made (pdus (packets_from f w 0 p.count)))
-    (x : List ℕ) (rows : ℕ) (rc : ReadChannels f v made x rows) (u : List ℕ) (g : Gathered) (rps : ReadPieces o.fcs f x made u g)
+    (f w : List ℕ) (p : Packets) (o : Options) (rp : ReadTo (format_of o.container f) f None w p) (u : List ℕ) (g : Gathered) (ga : Gathers o.fcs f w p.count u g)
     (y : List ℕ) (c : Choice) (cs : ChoosesStream f u g.pieces o.channel y c) (l : Result Stream FindError) (z : c ≡ result_ok l) (k : l ≡ ok_or c NoStream) where
-  passes : Passes f o p made g c y
-  passes = record {
-    w₁ = w;
-    w₂ = v;
-    w₃ = x;
-    w₄ = u;
-    rows = rows;
-    read_packets = rp;
-    reassemble = ra;
-    read_channels = rc;
-    read_pieces = rps;
-    choose_stream = cs;
-  }
+  passes : Passes f o p g c y
+  passes = record { w₁ = w; w₂ = u; read_packets = rp; gather = ga; choose_stream = cs }
 
   pub packets_none : (e : FindError) → l ≡ Err e → PacketsFind o.container f (options_of o) (Err e) y
   packets_none e q =
       let n : c ≡ None = z ∙ ap result_ok q in
       let i : e ≡ NoStream = (let j : ◌≡◌ {A = Result Stream FindError} (Err e) (Err NoStream) = sym q ∙ k ∙ ap (λ (y : Choice). ok_or y NoStream) n in cc) in
-      rw i (passed_none f o p made g c y passes n)
+      rw i (passed_none f o p g c y passes n)
 
-  pub packets_some : (s : Stream) → l ≡ Ok s → (n : ℕ) → n ≡ get_or g.wrong s.dlci 0 → PacketsFind o.container f (options_of o) (Ok (record { stream = s; records = p.records; pdus = made; pieces = g.pieces; tail = p.tail; wrong = n })) y
-  packets_some s q n en = passed_some f o p made g c y passes s (z ∙ ap result_ok q) n en
+  pub packets_some : (s : Stream) → l ≡ Ok s → (n : ℕ) → n ≡ get_or g.wrong s.dlci 0 → PacketsFind o.container f (options_of o) (Ok (record { stream = s; records = p.records; pdus = g.pdus; pieces = g.pieces; tail = p.tail; wrong = n })) y
+  packets_some s q n en = passed_some f o p g c y passes s (z ∙ ap result_ok q) n en
 
 -- ---- what is found
 
-pub find_needs : (b : Container) (f w : List ℕ) (t : import.Tail) (x : Result Opened Refusal) (v : List ℕ) → Opens b f w t x v → (o : Opened) → x ≡ Ok o → ReadTo (format_of b f) f v o.packets
+pub find_needs : (b : Container) (f w : List ℕ) (t : import.Tail) (x : Result Opened Refusal) (v : List ℕ) → Opens b f w t None x v → (o : Opened) → x ≡ Ok o → ReadTo (format_of b f) f None v o.packets
 find_needs b f w t x v op o e = let r = op.read o e in rw r.says at r.reads
 
--- a refusal is told by a number and values
-record Refusing (a : Answer) : Type 0 where
-  number : ℕ
-  values : List ℕ
-  is : a ≡ refused number values
-
+-- why nothing is found is told by a number and values
 refusing : (e : FindError) → Refusing (told_find_error e)
-refusing (Refused FileLong) = record { number = 1; values = []; is = refl }
-refusing (Refused WorkShort) = record { number = 2; values = []; is = refl }
-refusing (Refused NotBtsnoop) = record { number = 3; values = []; is = refl }
-refusing (Refused (Datalink n)) = record { number = 4; values = n ∷ []; is = refl }
-refusing (Refused NotPcap) = record { number = 21; values = []; is = refl }
-refusing (Refused (LinkType n)) = record { number = 22; values = n ∷ []; is = refl }
-refusing (Refused (Truncated n)) = record { number = 5; values = n ∷ []; is = refl }
+refusing (Refused y) = opening.refusing y
 refusing NoStream = record { number = 6; values = []; is = refl }
 
 -- a trace opened so
-module _ (b : Container) (f w : List ℕ) (o : import.Options) (x : Result Opened Refusal) (v : List ℕ) (op : Opens b f w o.tail x v) where
+module _ (b : Container) (f w : List ℕ) (o : import.Options) (x : Result Opened Refusal) (v : List ℕ) (op : Opens b f w o.tail None x v) where
   pub find_refused : (y : Refusal) → x ≡ Err y → Finds b f w o (Err (Refused y)) v
   unfolding or_given
   find_refused y e = record {

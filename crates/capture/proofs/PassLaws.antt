@@ -7,10 +7,10 @@ use Rattle.laws.proofs.Choice.{no_way}
 use Rattle.container.specs.Container.{packets_in, records, tail_offset}
 use Rattle.trace.specs.Formats.{container_of}
 use Rattle.trace.proofs.Formats.{packets_of_law, records_of, tail_of_law}
+use Rattle.packets.specs.PacketTable.{packets_from}
+use Rattle.packets.specs.Adding.{asked}
 use Rattle.packets.specs.declared.Packets.{Packets}
 use Rattle.l2cap.specs.Pdus.{pdus}
-use Rattle.l2cap.specs.PduTable.{pdus_from}
-use Rattle.l2cap.proofs.PduFrames.{length_pdus}
 use Rattle.rfcomm.specs.Pieces.{judged, Piece}
 use mathlib.Core.Option.{Option}
 use Rattle.rfcomm.proofs.PieceRows.{length_pieces}
@@ -28,7 +28,7 @@ use Rattle.capture.specs.declared.FindError.TheVariants.{NoStream}
 use Rattle.capture.specs.declared.Options.{Options}
 use Rattle.capture.specs.declared.Summary.{Summary}
 
-module _ (f : List ℕ) (o : Options) (p : Packets) (made : ℕ) (g : Gathered) (c : Choice) (w' : List ℕ) (s : Passes f o p made g c w') where
+module _ (f : List ℕ) (o : Options) (p : Packets) (g : Gathered) (c : Choice) (w' : List ℕ) (s : Passes f o p g c w') where
   abbrev all_pieces : List Piece
   all_pieces = file_pieces (container_of o.container) (options_of o).judging f
 
@@ -42,27 +42,28 @@ module _ (f : List ℕ) (o : Options) (p : Packets) (made : ℕ) (g : Gathered) 
   abbrev dlci : Option ℕ
   dlci = chosen (channel_of o.channel) all_pieces
 
-  -- the PDUs in the table are the file's
-  file_pdus : pdus_from f s.w₃ (2 * (length f / 4)) 0 made ≡ pdus (packets_in (container_of o.container) f)
-  file_pdus = s.read_channels.signalled.pdus.list ∙ s.reassemble.list ∙ rw (s.read_packets.read.list, packets_of_law o.container f)
+  -- the packets in the table are the file's
+  file_packets : packets_from f s.w₁ 0 p.count ≡ packets_in (container_of o.container) f
+  unfolding asked
+  file_packets = s.read_packets.list ∙ packets_of_law o.container f
 
   -- and so are the pieces
-  file_pieces_law : table_pieces f s.w₄ g.pieces ≡ all_pieces
+  file_pieces_law : table_pieces f s.w₂ g.pieces ≡ all_pieces
   unfolding file_pieces judged
-  file_pieces_law = rw file_pdus at s.read_pieces.pieced.list
+  file_pieces_law = rw file_packets at s.gather.pieced.list
 
   -- and the wrong frames
   file_wrong_law : (d : ℕ) → d < 64 → count_of g.wrong d ≡ wrongs d
   unfolding judged
-  file_wrong_law d h = rw file_pdus at (s.read_pieces.wrongs d h)
+  file_wrong_law d h = rw file_packets at (s.gather.wrongs d h)
 
   -- and how many there are of each
-  file_counts : p.records ∷ made ∷ g.pieces ∷ [] ≡ counts (container_of o.container) (options_of o).judging f
+  file_counts : p.records ∷ g.pdus ∷ g.pieces ∷ [] ≡ counts (container_of o.container) (options_of o).judging f
   unfolding counts
   file_counts =
       let r : p.records ≡ length (records (container_of o.container) f) = s.read_packets.records ∙ ap length (records_of o.container f) in
-      let q : made ≡ length (pdus (packets_in (container_of o.container) f)) = sym (length_pdus f s.w₃ (2 * (length f / 4)) 0 made) ∙ ap length file_pdus in
-      let n : g.pieces ≡ length all_pieces = sym (length_pieces f s.w₄ (5 * (length f / 4)) 0 g.pieces) ∙ ap length file_pieces_law in
+      let q : g.pdus ≡ length (pdus (packets_in (container_of o.container) f)) = rw file_packets at s.gather.many in
+      let n : g.pieces ≡ length all_pieces = sym (length_pieces f s.w₂ (5 * (length f / 4)) 0 g.pieces) ∙ ap length file_pieces_law in
       rw (← r, ← q, ← n)
 
   choice : c ≡ choice_of all_pieces dlci
@@ -85,7 +86,7 @@ module _ (f : List ℕ) (o : Options) (p : Packets) (made : ℕ) (g : Gathered) 
     tail_is = s.read_packets.tail ∙ tail_of_law o.container f
 
     abbrev pub summary : Summary
-    summary = record { stream = x; records = p.records; pdus = made; pieces = g.pieces; tail = p.tail; wrong = n }
+    summary = record { stream = x; records = p.records; pdus = g.pdus; pieces = g.pieces; tail = p.tail; wrong = n }
 
     stands : Stands o.container f (options_of o) summary w'
     stands = record {

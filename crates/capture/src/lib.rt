@@ -1,7 +1,7 @@
 // Import: from the bytes of a trace to the list of the spans of one DLCI; and the sizes, told before import writes it.
 #![tactic(auto)]
 
-ghost use Rattle.std.specs.Prelude.{◌≡◌, get_or};
+ghost use Rattle.std.specs.Prelude.{None, ◌≡◌, get_or};
 ghost use Rattle.trace.specs.Formats.{format_of};
 ghost use Rattle.packets.specs.Adding.{ReadTo};
 ghost use Rattle.capture.specs.Options.{options_of};
@@ -9,9 +9,7 @@ ghost use Rattle.capture.specs.declared.FindError.TheVariants as finding;
 ghost use Rattle.capture.specs.declared.ImportError.TheVariants as importing;
 ghost use Rattle.capture.specs.Calls.{unfound, PacketsFind, Finds, Imports, Sizing};
 
-use channels::read_channels;
-use gathering::read_pieces;
-use l2cap::reassemble;
+use gathering::gather;
 use opening::{Tail, open_trace};
 use packets::Packets;
 use streams::{Stream, choose_stream, write_list};
@@ -97,28 +95,26 @@ impl From<FindError> for ImportError {
 fn find(file: &[u8], work: &mut [u8], options: Options) -> Result<Summary, FindError>
     ensures { Finds options.container file.now work.old (options_of options) result work.new }
 {
-    let opened = open_trace(file, work, options.container, options.tail)?;
+    let opened = open_trace(file, work, options.container, options.tail, None)?;
     find_packets(file, work, options, opened.packets)
 }
 
-// The same for a trace whose packets stand in work, by four passes over it.
+// The same for a trace whose packets stand in work.
 fn find_packets(
     file: &[u8],
     work: &mut [u8],
     options: Options,
     p: Packets,
 ) -> Result<Summary, FindError>
-    requires { ReadTo (format_of options.container file.now) file.now work.old p }
+    requires { ReadTo (format_of options.container file.now) file.now None work.old p }
     ensures { PacketsFind options.container file.now (options_of options) result work.new }
 {
-    let t = reassemble(file, work, p.count);
-    let rows = read_channels(file, work, t.made);
-    let g = read_pieces(file, work, t.made, rows, options.fcs);
+    let g = gather(file, work, p.count, options.fcs);
     let stream = choose_stream(file, work, g.pieces, options.channel).ok_or(FindError::NoStream)?;
     Ok(Summary {
         stream,
         records: p.records,
-        pdus: t.made,
+        pdus: g.pdus,
         pieces: g.pieces,
         tail: p.tail,
         wrong: wrong_on(&g.wrong, stream.dlci),

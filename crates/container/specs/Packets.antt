@@ -1,6 +1,7 @@
 -- ACL packets: what the bytes of one say, from whatever record they come.
 use Rattle.std.specs.Prelude.{ℕ, ◌+◌, ◌*◌, ◌/◌, ◌%◌, Bool, cond, not, List, [], ◌∷◌, length, get_or, take, drop, leb, eqb}
 use Rattle.std.proofs.Math.Option.{Option, none, some}
+use Rattle.laws.specs.Keyed.{keep}
 use Rattle.laws.specs.Numbers.{le16}
 
 -- an ACL packet whose fields are all there: a fragment of a PDU
@@ -45,3 +46,7 @@ or_none (some p) ps = p ∷ ps
 unfoldable pub packets : (List ℕ → Option Packet) → List (List ℕ) → List Packet
 packets read [] = []
 packets read (r ∷ rs) = or_none (read r) (packets read rs)
+
+-- the packets of one link, in order
+unfoldable pub of_link : ℕ → List Packet → List Packet
+of_link l ps = keep (λ a. eqb a.link l) ps

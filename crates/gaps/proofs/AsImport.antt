@@ -7,8 +7,8 @@ use Rattle.laws.specs.Answers.{Answer, accepted, refused, refuses}
 use Rattle.trace.specs.Formats.{container_of, format_of}
 use Rattle.trace.specs.declared.Container.{Container}
 use Rattle.outcome.specs.Import.{Options, read, given, imported}
-use Rattle.opening.specs.Opening.{opened}
-use Rattle.opening.proofs.AsImport.{or_given, import_opened}
+use Rattle.opening.specs.Opening.{opened, or_given}
+use Rattle.opening.proofs.AsImport.{import_opened}
 use Rattle.signs.specs.Gaps.{gaps}
 use Rattle.gaps.specs.Calls.{or_values, gaps_of}
 

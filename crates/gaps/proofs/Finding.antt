@@ -1,5 +1,5 @@
 -- From the walks to the call: the signs found, and each refusal.
-use Rattle.std.specs.Prelude.{Result, Ok, Err}
+use Rattle.std.specs.Prelude.{Result, Ok, Err, None}
 use Prim.Native.Nat.{ℕ}
 use mathlib.Core.Path.{◌≡◌, refl, sym, ◌∙◌}
 use mathlib.Core.List.{List, [], ◌++◌}
@@ -13,6 +13,7 @@ use Rattle.trace.specs.declared.Format.{Format}
 use Rattle.trace.specs.declared.Refusal.{Refusal}
 use Rattle.trace.specs.declared.Refusal.TheVariants.{FileLong, WorkShort, NotBtsnoop, Datalink, NotPcap, LinkType, Truncated}
 use Rattle.packets.specs.PacketTable.{Read}
+use Rattle.packets.specs.Adding.{asked}
 use Rattle.outcome.specs.Import.{Tail}
 use Rattle.opening.specs.Opening.{opened, Opens}
 use Rattle.opening.proofs.AsImport.{opened_sized}
@@ -60,7 +61,7 @@ stays (LinkType n) ws = refl
 stays (Truncated n) ws = refl
 
 -- a trace opened so
-module _ (b : Container) (f w : List ℕ) (tail : Tail) (x : Result Opened Refusal) (v : List ℕ) (op : Opens b f w tail x v) where
+module _ (b : Container) (f w : List ℕ) (tail : Tail) (x : Result Opened Refusal) (v : List ℕ) (op : Opens b f w tail None x v) where
   pub find_refused : (y : Refusal) → x ≡ Err y → Finds b f w tail (Err y) v
   unfolding gaps_of
   find_refused y e =
@@ -69,7 +70,8 @@ module _ (b : Container) (f w : List ℕ) (tail : Tail) (x : Result Opened Refus
 
   module _ (t : Opened) (e : x ≡ Ok t) where
     pub find_packets : Read t.trace.format t.trace.file.now v t.packets.count
-    find_packets = rw (op.read t e).file (op.read t e).reads.read
+    unfolding asked
+    find_packets = let r = (op.read t e).reads in rw (op.read t e).file (record { tabled = r.tabled; list = r.list })
 
     reads : opened (container_of b) f (length w) tail ≡ accepted []
     reads = sym op.answers ∙ rw e

@@ -51,7 +51,7 @@ pub fn find_gaps(
 ) -> Result<Signs, Refusal>
     ensures { Finds container file.now work.old (tail_of tail) result work.new }
 {
-    let t = open_trace(file, work, container, tail)?;
+    let t = open_trace(file, work, container, tail, None)?;
     Ok(find_signs(t.trace, work, t.packets.count))
 }
 

@@ -20,12 +20,13 @@ use Rattle.words.specs.Rows.{put_words}
 use Rattle.words.proofs.Rows.{length_puts, front_puts, puts_above}
 use Rattle.table.specs.Table.{lookup, Stored, Agree}
 use Rattle.table.proofs.Table.{long_agree}
-use Rattle.l2cap.specs.Pdus.{Pdu}
-use Rattle.l2cap.specs.PduTable.{pdu_at, pdus_from, pays_of}
-use Rattle.l2cap.proofs.PduFrames.{reassembled_lent, pdus_next, pdus_none, pays_next, pays_mono, pays_agree, pdus_agree}
+use Rattle.packets.specs.PacketTable.{packets_from}
+use Rattle.l2cap.specs.Pdus.{Pdu, pdus}
+use Rattle.l2cap.specs.PduTable.{pdu_at, pdus_from, pays_of, Reassembled}
+use Rattle.l2cap.proofs.PduFrames.{length_pdus, reassembled_lent, pdus_next, pdus_none, pays_next, pays_mono, pays_agree, pdus_agree}
 use Rattle.channels.specs.Signals.{Signal, signals}
 use Rattle.channels.specs.ChannelTable.{Tells}
-use Rattle.channels.specs.Passing.{Signalled}
+use Rattle.channels.specs.Passing.{Signalled, ReadChannels}
 use Rattle.channels.proofs.Passing.{signalled_front}
 use Rattle.rfcomm.specs.Pieces.{Kind, asks, opens, wrong, passed, kind_of, judged, kinds, is_wrong, wrong_on, Counts, counted, piece_of, brought, no_counts, pieces}
 use Rattle.rfcomm.proofs.Pieces.{judged_is}
@@ -48,7 +49,7 @@ use Rattle.gathering.specs.declared.Taken.{Taken}
 use Rattle.rfcomm.specs.declared.Verdict.{Verdict}
 use Rattle.gathering.specs.declared.Gathered.{Gathered}
 use Rattle.rfcomm.specs.declared.Verdict.TheVariants.{Asks, Opens, Carries, Wrong, Passed}
-use Rattle.gathering.specs.Gathering.{part_of, TakePre, Ready, TakenIn, PiecesPre, PiecesBegun, ReadPieces, Gathering}
+use Rattle.gathering.specs.Gathering.{part_of, TakePre, Ready, TakenIn, PiecesPre, PiecesBegun, ReadPieces, Gathers, Gathering}
 
 take_put : (w : List ℕ) (row : ℕ) (t : Table) (i : Info) (at : ℕ) (p : Part) → TakePre w row t i at → p ≡ part_of w row t i → PutPre w at p
 unfolding part_of
@@ -398,8 +399,9 @@ module _ (fcs : Bool) (f : List ℕ) (ps : List Pdu) (w₀ w : List ℕ) (made r
   gather_wrongs h e l = let z = rw (pdus_none f w (2 * (length f / 4)) j made h) at (g.wrongs e l) in omega (arith, z)
 
 pub gathered : (fcs : Bool) (f w₀ w : List ℕ) (made rows : ℕ) (t : Taken) (j : ℕ) (v : List ℕ) → Gathering fcs f (pdus_from f w₀ (2 * (length f / 4)) 0 made) w₀ w made rows t j v → made ≤ j →
-    ReadPieces fcs f w₀ made w (record { pieces = t.pieces; wrong = v })
+    ReadPieces fcs f w₀ made w (record { pdus = made; pieces = t.pieces; wrong = v })
 gathered fcs f w₀ w made rows t j v g h = record {
+  pdus = refl;
   pieced = gather_end fcs f (pdus_from f w₀ (2 * (length f / 4)) 0 made) w₀ w made rows t j v g h;
   wrongs = gather_wrongs fcs f (pdus_from f w₀ (2 * (length f / 4)) 0 made) w₀ w made rows t j v g h;
   size = g.size;
@@ -428,4 +430,18 @@ module _ (f w : List ℕ) (made rows : ℕ) (p : PiecesPre f w made rows) (x : T
     pieces_begun = record { pre = record { signalled = rw kept.pdus.list kept }; indexed = rw ex at c.indexed }
 
     pub pieces_cleared : (fcs : Bool) (u : List ℕ) (r : Gathered) → ReadPieces fcs f v made u r → ReadPieces fcs f w made u r
-    pieces_cleared fcs u r g = record { pieced = rw kept.pdus.list at g.pieced; wrongs = rw kept.pdus.list at g.wrongs; size = g.size ∙ c.size }
+    pieces_cleared fcs u r g = record { pdus = g.pdus; pieced = rw kept.pdus.list at g.pieced; wrongs = rw kept.pdus.list at g.wrongs; size = g.size ∙ c.size }
+
+-- ---- from the packets on
+
+module _ (f w : List ℕ) (packets : ℕ) (v : List ℕ) (made : ℕ) (ra : Reassembled f v made (pdus (packets_from f w 0 packets))) (x : List ℕ) (rows : ℕ) (rc : ReadChannels f v made x rows) where
+  -- the PDUs in the table are those of the packets
+  table_pdus : pdus_from f x (2 * (length f / 4)) 0 made ≡ pdus (packets_from f w 0 packets)
+  table_pdus = rc.signalled.pdus.list ∙ ra.list
+
+  pub gathers : (fcs : Bool) (u : List ℕ) (r : Gathered) → ReadPieces fcs f x made u r → Gathers fcs f w packets u r
+  gathers fcs u r g = record {
+    many = g.pdus ∙ sym (length_pdus f x (2 * (length f / 4)) 0 made) ∙ ap length table_pdus;
+    pieced = rw table_pdus at g.pieced;
+    wrongs = rw table_pdus at g.wrongs;
+  }

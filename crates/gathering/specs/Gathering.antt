@@ -5,7 +5,8 @@ use Rattle.laws.specs.Keyed.{put, run}
 use Rattle.words.specs.Words.{word}
 use Rattle.words.specs.Front.{Front}
 use Rattle.table.specs.Table.{lookup}
-use Rattle.l2cap.specs.Pdus.{Pdu}
+use Rattle.packets.specs.PacketTable.{packets_from}
+use Rattle.l2cap.specs.Pdus.{Pdu, pdus}
 use Rattle.l2cap.specs.PduTable.{pdu_at, pdus_from, pays_of, Inside}
 use Rattle.l2cap.specs.PduFrames.{Lent}
 use Rattle.channels.specs.Signals.{Signal, signals}
@@ -93,11 +94,18 @@ pub record PiecesBegun (f w : List ℕ) (made rows : ℕ) : Type 0 where
   pub pre : PiecesPre f w made rows
   pub indexed : Indexed w (count_index (6 * (length f / 4))) 0
 
--- the pieces, by their definition; and for each DLCI how many frames have a wrong FCS
+-- how many PDUs, the pieces, by their definition; and for each DLCI how many frames have a wrong FCS
 pub record ReadPieces (fcs : Bool) (f w : List ℕ) (made : ℕ) (u : List ℕ) (r : Gathered) : Type 0 where
+  pub pdus : r.pdus ≡ made
   pub pieced : Pieced f u r.pieces (pieces (judged fcs (pdus_from f w (2 * (length f / 4)) 0 made)))
   pub wrongs : (e : ℕ) → e < 64 → get_or r.wrong e 0 ≡ wrong_on e (kinds (judged fcs (pdus_from f w (2 * (length f / 4)) 0 made)))
   pub size : length u ≡ length w
+
+-- the same from the packets on
+pub record Gathers (fcs : Bool) (f w : List ℕ) (packets : ℕ) (u : List ℕ) (r : Gathered) : Type 0 where
+  pub many : r.pdus ≡ length (pdus (packets_from f w 0 packets))
+  pub pieced : Pieced f u r.pieces (pieces (judged fcs (pdus (packets_from f w 0 packets))))
+  pub wrongs : (e : ℕ) → e < 64 → get_or r.wrong e 0 ≡ wrong_on e (kinds (judged fcs (pdus (packets_from f w 0 packets))))
 
 pub record Gathering (fcs : Bool) (f : List ℕ) (ps : List Pdu) (w₀ w : List ℕ) (made rows : ℕ) (t : Taken) (j : ℕ) (v : List ℕ) : Type 0 where
   pub all : j ≤ made

@@ -1,4 +1,5 @@
-// Sessions and links counted, the pieces of information that UIH frames carry gathered, and how many of these frames have a wrong FCS.
+// Sessions and links counted, the pieces of information that UIH frames carry gathered, and how many of these frames have a wrong FCS; and the way from
+// the table of packets to that of pieces.
 #![tactic(auto)]
 
 ghost use Rattle.std.specs.Prelude.{◌≡◌, ◌+◌, ◌*◌, ◌/◌, ◌≤◌, ◌<◌, length, get_or, set};
@@ -7,8 +8,11 @@ ghost use Rattle.rfcomm.specs.PieceRows.{row_of};
 ghost use Rattle.table.specs.Table.{lookup};
 ghost use Rattle.words.specs.Rows.{put_words};
 ghost use Rattle.words.specs.Words.{long};
-ghost use Rattle.gathering.specs.Gathering.{part_of, PiecePre, TakePre, Ready, TakenIn, PiecesPre, PiecesBegun, ReadPieces};
+ghost use Rattle.packets.specs.PacketTable.{Tabled};
+ghost use Rattle.gathering.specs.Gathering.{part_of, PiecePre, TakePre, Ready, TakenIn, PiecesPre, PiecesBegun, ReadPieces, Gathers};
 
+use channels::read_channels;
+use l2cap::reassemble;
 use rfcomm::{Info, Part, Verdict, judge, put_piece};
 use table::Row;
 use tree::{Forest, Seating, Table, Tree, clear, seat};
@@ -207,9 +211,10 @@ fn take_pdu(
     }
 }
 
-// What all PDUs bring: so many pieces, and for each DLCI so many frames with a wrong FCS.
+// What all PDUs, so many, bring: so many pieces, and for each DLCI so many frames with a wrong FCS.
 #[derive(Clone, Copy)]
 pub struct Gathered {
+    pub pdus: usize,
     pub pieces: usize,
     pub wrong: [u32; 64],
 }
@@ -225,16 +230,27 @@ fn take_pdus(file: &[u8], w: &mut [u8], made: usize, rows: usize, fcs: bool) -> 
         t = take_pdu(file, w, rows, fcs, &mut wrong, t, j);
     }
     Gathered {
+        pdus: made,
         pieces: t.pieces,
         wrong,
     }
 }
 
 // Reads the pieces of all PDUs into their table, with FCS checked or not.
-pub fn read_pieces(file: &[u8], w: &mut [u8], made: usize, rows: usize, fcs: bool) -> Gathered
+fn read_pieces(file: &[u8], w: &mut [u8], made: usize, rows: usize, fcs: bool) -> Gathered
     requires { PiecesPre file.now w.old made rows }
     ensures { ReadPieces fcs file.now w.old made w.new result }
 {
     clear(w, index_of(6 * (file.len() / 4)));
     take_pdus(file, w, made, rows, fcs)
+}
+
+// From the table of packets to the table of pieces, by three passes: the PDUs, the channels that they name and admit, the pieces.
+pub fn gather(file: &[u8], w: &mut [u8], packets: usize, fcs: bool) -> Gathered
+    requires { Tabled file.now w.old packets }
+    ensures { Gathers fcs file.now w.old packets w.new result }
+{
+    let made = reassemble(file, w, packets).made;
+    let rows = read_channels(file, w, made);
+    read_pieces(file, w, made, rows, fcs)
 }

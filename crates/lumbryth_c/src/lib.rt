@@ -11,6 +11,7 @@ ghost use Rattle.order.specs.Order.{capture_order};
 ghost use Rattle.gaps.specs.Calls.{GapsCalls};
 ghost use Rattle.imports.specs.Imports.{ImportCalls, SizesCalls};
 ghost use Rattle.imports.specs.Numbers.{options_in, options_number};
+ghost use Rattle.onelink.specs.Calls.{LinkCalls};
 ghost use Rattle.options.specs.Numbers.{tail_number, tail_in, container_in};
 ghost use Rattle.places.specs.Stretches.{StretchCalls};
 ghost use Rattle.telling.specs.Telling.{Calls};
@@ -144,6 +145,26 @@ pub extern "C" fn lumbryth_sizes_with(
     ensures { SizesCalls (container_in options.now) file.now work.old (options_in options.now) values.old result work.new values.new }
 {
     lumbryth::lumbryth_sizes_with(file, work, options, values)
+}
+
+// Lists the spans of one adapter index, handle and DLCI, in order of completion, at the front of out; the list may be empty. It reads strictly, FCS
+// unchecked, and what it gives depends on that handle's own ACL packets alone, the handle taken with its index. Of the list of options
+// only the container counts. Values: spans, unfinished, bytes written. Refused as import is by 1 to 5 (of pcap 21 and 22 for 3 and 4), then by 23 for
+// a handle over 4,095 or a DLCI not 1 to 63, then by 7.
+#[unsafe(no_mangle)]
+pub extern "C" fn lumbryth_one_link_with(
+    file: &[u8],
+    work: &mut [u8],
+    out: &mut [u8],
+    index: u16,
+    handle: u16,
+    dlci: u8,
+    options: &[u64],
+    values: &mut [u64],
+) -> u32
+    ensures { LinkCalls (container_in options.now) file.now work.old index handle dlci out.old values.old result work.new out.new values.new }
+{
+    lumbryth::lumbryth_one_link_with(file, work, out, index, handle, dlci, options, values)
 }
 
 // Stores where each whole record of a btsnoop file starts at the front of starts, as many as there is room for. Values: records,

@@ -17,7 +17,7 @@ use Rattle.trace.specs.declared.Format.{Format}
 use Rattle.trace.specs.declared.Trace.{Trace}
 use Rattle.trace.specs.declared.Refusal.{Refusal}
 use Rattle.trace.specs.declared.Refusal.TheVariants.{FileLong, WorkShort}
-use Rattle.packets.specs.Adding.{ReadPre}
+use Rattle.packets.specs.Adding.{Which, ReadPre}
 use Rattle.outcome.specs.Import.{ends_well, fits, work_suffices}
 use Rattle.outcome.specs.Import as import
 use Rattle.opening.specs.Opening.{ends, heads, opened, Sized, Unsized, SizesChecked, Opens, HeaderOpens, ends_by, RecordsOpen}
@@ -41,12 +41,12 @@ module _ (b : Container) (f : List ℕ) (h : Result Format Refusal) (m : HeaderI
       let l : (container_of b).head ≤ length f = (lawful b).long f k.0 in
       record { some = rw (k.2, head_of b f) l; small = size.small; room = size.room }
 
-  module _ (tail : import.Tail) where
-    header_refused : (x : Refusal) → h ≡ Err x → (u : List ℕ) → HeaderOpens b f tail (Err x) u
+  module _ (tail : import.Tail) (only : Which) where
+    header_refused : (x : Refusal) → h ≡ Err x → (u : List ℕ) → HeaderOpens b f tail only (Err x) u
     unfolding heads
     header_refused x q u = record { answers = header_as b f h (Err x) m q (ends (container_of b) f tail); read = λ t e. no_read cc }
 
-    header_read : (t : Trace) → t.file.now ≡ f → h ≡ Ok t.format → (r : Result Opened Refusal) (u : List ℕ) → RecordsOpen t tail r u → HeaderOpens b f tail r u
+    header_read : (t : Trace) → t.file.now ≡ f → h ≡ Ok t.format → (r : Result Opened Refusal) (u : List ℕ) → RecordsOpen t tail only r u → HeaderOpens b f tail only r u
     unfolding heads headed
     header_read t s q r u o =
         let k = header_as b f h (Ok t.format) m q in
@@ -73,12 +73,12 @@ module _ (f w : List ℕ) where
   pub sized : (r : Result ⊤ Refusal) → SizesChecked f w r → (u : ⊤) → r ≡ Ok u → Sized f w
   sized r s u e = rw e at s
 
-module _ (b : Container) (f w : List ℕ) (tail : import.Tail) where
-  open_long : 1048576 < length f → Opens b f w tail (Err FileLong) w
+module _ (b : Container) (f w : List ℕ) (tail : import.Tail) (only : Which) where
+  open_long : 1048576 < length f → Opens b f w tail only (Err FileLong) w
   unfolding opened fits
   open_long h = record { answers = rw (lt-leb (length f) 1048576 h); read = λ t e. no_read cc; spared = λ e. refl }
 
-  open_short : length f ≤ 1048576 → length w < 8 * length f → Opens b f w tail (Err WorkShort) w
+  open_short : length f ≤ 1048576 → length w < 8 * length f → Opens b f w tail only (Err WorkShort) w
   unfolding opened fits work_suffices
   open_short h g = record {
     answers = rw (le-leb (length f) 1048576 h, lt-leb (8 * length f) (length w) g);
@@ -86,10 +86,10 @@ module _ (b : Container) (f w : List ℕ) (tail : import.Tail) where
     spared = λ e. refl;
   }
 
-  pub open_unsized : (x : Refusal) → Unsized f w x → Opens b f w tail (Err x) w
+  pub open_unsized : (x : Refusal) → Unsized f w x → Opens b f w tail only (Err x) w
   open_unsized x s = ⊎_elim (λ l. rw l.1 (open_long l.0)) (λ l. rw l.2 (open_short l.0 l.1)) s
 
-  open_read : Sized f w → (r : Result Opened Refusal) (w' : List ℕ) → HeaderOpens b f tail r w' → Opens b f w tail r w'
+  open_read : Sized f w → (r : Result Opened Refusal) (w' : List ℕ) → HeaderOpens b f tail only r w' → Opens b f w tail only r w'
   unfolding opened fits work_suffices
   open_read s r w' m = record {
     answers = rw (le-leb (length f) 1048576 s.small, le-leb (8 * length f) (length w) s.room) m.answers;
@@ -101,9 +101,9 @@ module _ (b : Container) (f w : List ℕ) (s : Sized f w) (k : Result Format Ref
   pub sized_pre : (x : Format) → k ≡ Ok x → ReadPre x f w
   sized_pre x q = header_pre b f k m w s x q
 
-  module _ (tail : import.Tail) where
-    pub sized_refused : (x : Refusal) → k ≡ Err x → Opens b f w tail (Err x) w
-    sized_refused x q = open_read b f w tail s (Err x) w (header_refused b f k m tail x q w)
+  module _ (tail : import.Tail) (only : Which) where
+    pub sized_refused : (x : Refusal) → k ≡ Err x → Opens b f w tail only (Err x) w
+    sized_refused x q = open_read b f w tail only s (Err x) w (header_refused b f k m tail only x q w)
 
-    pub sized_read : (t : Trace) → t.file.now ≡ f → k ≡ Ok t.format → (r : Result Opened Refusal) (u : List ℕ) → RecordsOpen t tail r u → Opens b f w tail r u
-    sized_read t e q r u o = open_read b f w tail s r u (header_read b f k m tail t e q r u o)
+    pub sized_read : (t : Trace) → t.file.now ≡ f → k ≡ Ok t.format → (r : Result Opened Refusal) (u : List ℕ) → RecordsOpen t tail only r u → Opens b f w tail only r u
+    sized_read t e q r u o = open_read b f w tail only s r u (header_read b f k m tail only t e q r u o)

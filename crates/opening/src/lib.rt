@@ -33,13 +33,18 @@ fn is_truncated(tail: Tail, at: usize, end: usize) -> bool
     }
 }
 
-// Reads the packets of a trace whose header is read.
+// Reads the packets of a trace whose header is read, of one link if it is named.
 #[tactic(auto, unfolding(crate::specs::Opening::truncates))]
-fn open_records<'a>(trace: Trace<'a>, work: &mut [u8], tail: Tail) -> Result<Opened<'a>, Refusal>
+fn open_records<'a>(
+    trace: Trace<'a>,
+    work: &mut [u8],
+    tail: Tail,
+    only: Option<u32>,
+) -> Result<Opened<'a>, Refusal>
     requires { ReadPre trace.format trace.file.now work.old }
-    ensures { RecordsOpen trace.entry (tail_of tail) result work.new }
+    ensures { RecordsOpen trace.entry (tail_of tail) only result work.new }
 {
-    let packets = read_packets(trace, work);
+    let packets = read_packets(trace, work, only);
     let at = packets.tail;
     if is_truncated(tail, at, trace.file.len()) {
         return Err(Refusal::Truncated(at));
@@ -61,16 +66,17 @@ pub fn check_sizes(file: &[u8], work: &[u8]) -> Result<(), Refusal>
     Ok(())
 }
 
-// Opens a trace. A file that is too long, and work that is too short, are refused first.
+// Opens a trace, for the packets of one link if it is named. A file that is too long, and work that is too short, are refused first.
 pub fn open_trace<'a>(
     file: &'a [u8],
     work: &mut [u8],
     container: Container,
     tail: Tail,
+    only: Option<u32>,
 ) -> Result<Opened<'a>, Refusal>
-    ensures { Opens container file.now work.old (tail_of tail) result work.new }
+    ensures { Opens container file.now work.old (tail_of tail) only result work.new }
 {
     check_sizes(file, work)?;
     let format = read_header(file, container)?;
-    open_records(Trace { file, format }, work, tail)
+    open_records(Trace { file, format }, work, tail, only)
 }

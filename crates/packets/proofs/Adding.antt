@@ -1,10 +1,10 @@
 -- The table of packets, one packet more, and the loop over the records.
 use Rattle.std.specs.Prelude.{Option, Some, None}
 use Rattle.std.specs.Int.{from_bool}
-use Prim.Native.Nat.{ℕ, suc, ◌+◌, ◌-◌, ◌*◌, ◌<◌, ◌≤◌}
+use Prim.Native.Nat.{ℕ, suc, ◌+◌, ◌-◌, ◌*◌, ◌/◌, ◌<◌, ◌≤◌}
 use mathlib.Core.Path.{◌≡◌, refl, sym, ap, ◌∙◌}
 use mathlib.Core.Bool.{Bool, true, false, cond}
-use mathlib.Core.List.{List, [], ◌++◌, append_assoc, append-nil}
+use mathlib.Core.List.{List, [], ◌∷◌, ◌++◌, append_assoc, append-nil}
 use mathlib.Core.Option.{Option as Maybe, none, some}
 use native.Mathlib.Omega.{arith}
 use native.Mathlib.Numerals.{add-one}
@@ -13,13 +13,15 @@ use lib.Seq.{length-take-le}
 use borrow.Author.Tests.{le-leb, lt-leb, eqb-true}
 use lib.Dec.{eqb}
 use Rattle.laws.proofs.Choice.{split≤, split_b}
+use Rattle.laws.specs.Keyed.{keep}
+use Rattle.laws.proofs.Keyed.{keep_append}
 use Rattle.words.specs.Words.{word, put_word, long, put_long}
 use Rattle.words.specs.Front.{Front}
 use Rattle.words.proofs.Front.{front_word}
 use Rattle.words.specs.Rows.{put_words}
 use Rattle.words.proofs.Rows.{length_puts, front_puts, word_puts, long_puts}
 use Rattle.container.specs.Container.{is_whole}
-use Rattle.container.specs.Packets.{Packet, or_none, packets}
+use Rattle.container.specs.Packets.{Packet, or_none, packets, of_link}
 use Rattle.acl.specs.Reading.{Held, StandsIn, between, bytes_in, end_of, packet_from, shown}
 use Rattle.acl.specs.declared.excerpt.Excerpt.{Excerpt}
 use Rattle.acl.specs.declared.Fragment.{Fragment}
@@ -29,7 +31,7 @@ use Rattle.btsnoop.specs.declared.Datalink.{Datalink}
 use Rattle.pcap.specs.Reading as pcap_reading
 use Rattle.pcap.specs.Packets as pcap_packets
 use Rattle.pcap.specs.declared.Encoding.{Encoding}
-use Rattle.trace.specs.Formats.{record_head, size_by, time_by, packet_by, records_from}
+use Rattle.trace.specs.Formats.{record_head, size_by, time_by, packet_by, packets_by, records_from}
 use Rattle.trace.proofs.Formats.{head_least, head_most, file_head_least, size_least, packet_room, packet_none, time_part}
 use Rattle.trace.specs.Walk.{RecordAt, is_empty}
 use Rattle.trace.specs.Reader.{Moves, Starts}
@@ -45,7 +47,7 @@ use Rattle.trace.specs.declared.reader.Reader.{Reader}
 use Rattle.packets.specs.declared.Empty.{Empty}
 use Rattle.packets.specs.PacketTable.{packet_at, packets_from, data_of}
 use Rattle.packets.proofs.PacketFrames.{packets_front, packets_snoc, data_front}
-use Rattle.packets.specs.Adding.{RecordIs, AddPre, Added, Passed, ReadPre, ReadTo, Walking, put_packet, row_of}
+use Rattle.packets.specs.Adding.{RecordIs, Which, is_asked, asked, AddPre, Added, Passed, ReadPre, ReadTo, Walking, put_packet, row_of}
 
 -- ---- the packet and the time of a record, by the case that the format is
 
@@ -113,31 +115,63 @@ pub put_all : (w : List ℕ) (i : ℕ) (x : Fragment) (t : ℕ) (a b c d u : Lis
 unfolding put_packet
 put_all w i x t a b c d u y p o q r s e = e ∙ rw (s, r, q, p, o, bool_word x.start) (put_is w (6 * i) x t)
 
+-- ---- those asked for
+
+asked_nil : (only : Which) → asked only [] ≡ []
+unfolding asked of_link keep
+asked_nil None = refl
+asked_nil (Some l) = refl
+
+asked_one : (only : Which) (p : Packet) → asked only (p ∷ []) ≡ cond (is_asked only p.link) (p ∷ []) []
+unfolding asked is_asked of_link keep
+asked_one None p = refl
+asked_one (Some l) p = refl
+
+asked_append : (only : Which) (ps qs : List Packet) → asked only (ps ++ qs) ≡ asked only ps ++ asked only qs
+unfolding asked of_link
+asked_append None ps qs = refl
+asked_append (Some l) ps qs = keep_append (λ (a : Packet). eqb a.link l) ps qs
+
 -- ---- one packet more
 
-module _ (r : Record) (w : List ℕ) (count : ℕ) (pre : AddPre r w count) (x : Option Fragment) (is : RecordIs r x) where
+module _ (r : Record) (w : List ℕ) (only : Which) (count : ℕ) (pre : AddPre r w count) (x : Option Fragment) (is : RecordIs r x) where
   abbrev g : Format
   g = r.trace.format
 
   abbrev f : List ℕ
   f = r.trace.file.now
 
-  pub add_none : x ≡ None → Added r w count w count
-  unfolding shown
-  add_none e =
-      let q : packet_by g (bytes_of r) ≡ none = is.shows ∙ rw e in
-      record {
-        list = rw (q, append-nil);
-        fits = pre.fits;
-        total = omega arith;
-        more = omega arith;
-        size = refl;
-      }
+  -- nothing is added
+  add_nothing : asked only (or_none (packet_by g (bytes_of r)) []) ≡ [] → Added r w only count w count
+  add_nothing q = record {
+    list = rw (q, append-nil);
+    fits = pre.fits;
+    total = omega arith;
+    more = omega arith;
+    size = refl;
+  }
 
-  module _ (y : Fragment) (e : x ≡ Some y) (ms : ℕ) (em : ms ≡ time_by g (drop r.at f)) (u : List ℕ) (eu : u ≡ put_packet w count y ms) where
+  pub add_none : x ≡ None → Added r w only count w count
+  unfolding shown
+  add_none e = let q : packet_by g (bytes_of r) ≡ none = is.shows ∙ rw e in add_nothing (rw q (asked_nil only))
+
+  module _ (y : Fragment) (e : x ≡ Some y) where
     held : y.place + y.len ≤ r.end
     held = rw e at is.held
 
+    shows_it : packet_by g (bytes_of r) ≡ some (packet_from f (time_by g (drop r.at f)) y)
+    unfolding shown
+    shows_it = is.shows ∙ rw (e, time_part g f r.at r.end r.whole.least r.whole.most)
+
+    -- the packet alone, if it is asked for
+    alone : asked only (or_none (packet_by g (bytes_of r)) []) ≡ cond (is_asked only (y.key / 2)) (packet_from f (time_by g (drop r.at f)) y ∷ []) []
+    unfolding packet_from
+    alone = rw shows_it (asked_one only (packet_from f (time_by g (drop r.at f)) y))
+
+    pub add_unasked : (b : Bool) → b ≡ is_asked only (y.key / 2) → b ≡ false → Added r w only count w count
+    add_unasked b eb q = let k : is_asked only (y.key / 2) ≡ false = sym eb ∙ q in add_nothing (alone ∙ rw k)
+
+  module _ (y : Fragment) (e : x ≡ Some y) (b : Bool) (eb : b ≡ is_asked only (y.key / 2)) (q : b ≡ true) (ms : ℕ) (em : ms ≡ time_by g (drop r.at f)) (u : List ℕ) (eu : u ≡ put_packet w count y ms) where
     front : Front (24 * count) u w
     unfolding put_packet
     front = rw eu (front_puts (24 * count) (row_of y ms) w (6 * count) (omega arith))
@@ -153,38 +187,35 @@ module _ (r : Record) (w : List ℕ) (count : ℕ) (pre : AddPre r w count) (x :
         let t : long u (6 * count + 4) ≡ ms = rw eu (long_puts (row_of y ms) w (6 * count) 4 ms (omega (arith, pre.room)) (omega arith) refl refl) in
         rw (a, row 1 (omega arith), row 2 (omega arith), row 3 (omega arith), t, start_back y.start)
 
-    shows_it : packet_by g (bytes_of r) ≡ some (packet_from f ms y)
-    unfolding shown
-    shows_it = is.shows ∙ rw (e, time_part g f r.at r.end r.whole.least r.whole.most, ← em)
-
     -- a record has 25 bytes besides the packet's
     spent : 25 + y.len ≤ r.end - r.at
     unfolding packet_from
     spent =
-        let l : length (take y.len (drop y.place f)) ≡ y.len = length-take-le y.len (drop y.place f) (simp length-drop (omega (arith, held, r.whole.most))) in
-        let k : 25 + length (take y.len (drop y.place f)) ≤ length (bytes_of r) = packet_room g (bytes_of r) (packet_from f ms y) shows_it in
+        let l : length (take y.len (drop y.place f)) ≡ y.len = length-take-le y.len (drop y.place f) (simp length-drop (omega (arith, held y e, r.whole.most))) in
+        let k : 25 + length (take y.len (drop y.place f)) ≤ length (bytes_of r) = packet_room g (bytes_of r) (packet_from f (time_by g (drop r.at f)) y) (shows_it y e) in
         omega (arith, bytes_length r)
 
-    pub add_one_packet : Added r w count u (count + 1)
+    pub add_one_packet : Added r w only count u (count + 1)
     unfolding data_of row_of put_packet
     add_one_packet =
+        let k : is_asked only (y.key / 2) ≡ true = sym eb ∙ q in
         let z : 0 + count ≡ count = omega arith in
         let d : data_of u (suc count) ≡ data_of w count + y.len = rw (data_front (24 * count) u w count (omega arith) front, row 3 (omega arith)) in
         record {
-          list = rw (add-one, packets_snoc f u 0 count, z, packets_front (24 * count) f u w 0 count (omega arith) front, packet_is, shows_it);
+          list = rw (add-one, packets_snoc f u 0 count, z, packets_front (24 * count) f u w 0 count (omega arith) front, packet_is, alone y e, k, em);
           fits = record {
             fits = λ i h. split≤ (suc i) count
                 (λ l. rw (front_word (24 * count) u w (6 * i + 2) (omega arith) front, front_word (24 * count) u w (6 * i + 3) (omega arith) front) (pre.fits.fits i l))
-                (λ l. let v : i ≡ count = omega arith in rw (v, row 2 (omega arith), row 3 (omega arith)) (omega (arith, held, r.whole.most)));
+                (λ l. let v : i ≡ count = omega arith in rw (v, row 2 (omega arith), row 3 (omega arith)) (omega (arith, held y e, r.whole.most)));
           };
           total = rw add-one (omega (arith, d, spent));
           more = omega arith;
           size = rw eu (length_puts (row_of y ms) w (6 * count));
         }
 
-pub walk_start : (t : Trace) (w : List ℕ) → ReadPre t.format t.file.now w → (q : Reader) → Starts t q → Walking t w w q 0 0
+pub walk_start : (t : Trace) (only : Which) (w : List ℕ) → ReadPre t.format t.file.now w → (q : Reader) → Starts t q → Walking t only w w q 0 0
 unfolding packets_from data_of
-walk_start t w p q s = record {
+walk_start t only w p q s = record {
   trace = s.trace;
   least = omega (arith, file_head_least t.format, s.at);
   within = rw s.at p.some;
@@ -199,6 +230,9 @@ walk_start t w p q s = record {
 or_none_append : (o : Maybe Packet) (xs : List Packet) → or_none o [] ++ xs ≡ or_none o xs
 or_none_append none xs = refl
 or_none_append (some p) xs = refl
+
+asked_next : (only : Which) (o : Maybe Packet) (xs : List Packet) → asked only (or_none o []) ++ asked only xs ≡ asked only (or_none o xs)
+asked_next only o xs = sym (asked_append only (or_none o []) xs) ∙ ap (λ (l : List Packet). asked only l) (or_none_append o xs)
 
 -- ---- records without a packet
 
@@ -252,7 +286,7 @@ module _ (g : Format) (f : List ℕ) (head : ℕ) (eh : head ≡ record_head g) 
 
 -- ---- all records
 
-module _ (t : Trace) (w₀ : List ℕ) (p : ReadPre t.format t.file.now w₀) (w : List ℕ) (q : Reader) (count whole : ℕ) (v : Walking t w₀ w q count whole) where
+module _ (t : Trace) (only : Which) (w₀ : List ℕ) (p : ReadPre t.format t.file.now w₀) (w : List ℕ) (q : Reader) (count whole : ℕ) (v : Walking t only w₀ w q count whole) where
   abbrev by : Format
   by = t.format
 
@@ -270,10 +304,10 @@ module _ (t : Trace) (w₀ : List ℕ) (p : ReadPre t.format t.file.now w₀) (w
       to_end : z.at ≡ r.end
       to_end = found_end t q v.trace x z n r e
 
-      pub walk_turn : (u : List ℕ) (c : ℕ) → Added r w count u c → Walking t w₀ u z c (whole + 1)
+      pub walk_turn : (u : List ℕ) (c : ℕ) → Added r w only count u c → Walking t only w₀ u z c (whole + 1)
       unfolding packets
       walk_turn u c a =
-          let l : packets_from file u 0 c ≡ packets_from file w 0 count ++ or_none (packet_by by (between file q.at r.end)) [] = rw (found.same, found.starts) at a.list in
+          let l : packets_from file u 0 c ≡ packets_from file w 0 count ++ asked only (or_none (packet_by by (between file q.at r.end)) []) = rw (found.same, found.starts) at a.list in
           record {
             trace = reads_same t q v.trace x z n;
             least = omega (arith, v.least, here.least, head_least by, to_end);
@@ -285,7 +319,7 @@ module _ (t : Trace) (w₀ : List ℕ) (p : ReadPre t.format t.file.now w₀) (w
               to_end,
               l,
               append_assoc,
-              or_none_append (packet_by by (between file q.at r.end)) (packets (packet_by by) (records_from by file r.end)),
+              asked_next only (packet_by by (between file q.at r.end)) (packets (packet_by by) (records_from by file r.end)),
             ) (rw here.list at v.same);
             number = rw to_end (omega (arith, v.number, ap length here.list));
             tail = rw to_end (sym (flat_step by file q.at r.end here) ∙ v.tail);
@@ -295,7 +329,7 @@ module _ (t : Trace) (w₀ : List ℕ) (p : ReadPre t.format t.file.now w₀) (w
         passed : Passed by file q.at (record { end = y.end; count = 1 + y.count })
         passed = pass_then by file q.at (record { end = r.end; count = 1 }) y (pass_one by file q.at r.end here (h ∙ rw (eh, found.starts))) b
 
-        pub walk_pass : Walking t w₀ w k count (whole + 1 + y.count)
+        pub walk_pass : Walking t only w₀ w k count (whole + 1 + y.count)
         walk_pass = record {
           trace = m.trace ∙ reads_same t q v.trace x z n;
           least = omega (arith, v.least, passed.least, m.at);
@@ -308,16 +342,15 @@ module _ (t : Trace) (w₀ : List ℕ) (p : ReadPre t.format t.file.now w₀) (w
           tail = rw m.at (sym passed.tail ∙ v.tail);
         }
 
-    pub ended : x ≡ None → ReadTo by file w (record { count = count; records = whole; tail = z.at })
+    pub ended : x ≡ None → ReadTo by file only w (record { count = count; records = whole; tail = z.at })
     unfolding packets
     ended m =
         let s : records_from by file q.at ≡ [] = found_none t q v.trace x z n m in
         let o : z.at ≡ q.at = none_end t q v.trace x z n m in
+        let k : packets_from file w 0 count ++ asked only [] ≡ asked only (packets_by by file) = rw s at v.same in
         record {
-          read = record {
-            tabled = record { fits = v.fits; total = omega (arith, v.total, v.within); small = p.small; room = rw v.size p.room };
-            list = sym (append-nil (packets_from file w 0 count)) ∙ (rw s at v.same);
-          };
+          tabled = record { fits = v.fits; total = omega (arith, v.total, v.within); small = p.small; room = rw v.size p.room };
+          list = sym (append-nil (packets_from file w 0 count)) ∙ (rw (asked_nil only) at k);
           records = omega (arith, v.number, ap length s);
           tail = rw o ((let z : q.at + 0 ≡ q.at = omega arith in sym z) ∙ (rw s at v.tail));
         }

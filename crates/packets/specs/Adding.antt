@@ -1,8 +1,8 @@
 -- The table of packets, one packet more, and the loop over the records.
-use Rattle.std.specs.Prelude.{ℕ, Option, cond, ◌+◌, ◌-◌, ◌*◌, ◌/◌, ◌%◌, ◌≤◌, ◌≡◌, List, [], ◌∷◌, ◌++◌, length}
+use Rattle.std.specs.Prelude.{ℕ, Option, None, Some, ◌+◌, ◌-◌, ◌*◌, ◌/◌, ◌%◌, ◌≤◌, ◌≡◌, Bool, true, cond, List, [], ◌∷◌, ◌++◌, length, eqb}
 use Rattle.laws.specs.Lists.{flat}
 use Rattle.words.specs.Rows.{put_words}
-use Rattle.container.specs.Packets.{or_none, packets}
+use Rattle.container.specs.Packets.{Packet, or_none, packets, of_link}
 use Rattle.acl.specs.Reading.{shown, Held}
 use Rattle.acl.specs.declared.Fragment.{Fragment}
 use Rattle.trace.specs.Formats.{file_head, time_by, packet_by, records_from, records_by, packets_by, tail_by}
@@ -11,7 +11,7 @@ use Rattle.trace.specs.declared.Format.{Format}
 use Rattle.trace.specs.declared.Trace.{Trace}
 use Rattle.trace.specs.declared.record.Record.{Record}
 use Rattle.trace.specs.declared.reader.Reader.{Reader}
-use Rattle.packets.specs.PacketTable.{packets_from, data_of, Fits, Read}
+use Rattle.packets.specs.PacketTable.{packets_from, data_of, Fits, Tabled}
 use Rattle.packets.specs.declared.Packets.{Packets}
 use Rattle.packets.specs.declared.Empty.{Empty}
 
@@ -20,6 +20,20 @@ use Rattle.packets.specs.declared.Empty.{Empty}
 pub record RecordIs (r : Record) (x : Option Fragment) : Type 0 where
   pub shows : packet_by r.trace.format (bytes_of r) ≡ shown r.trace.file.now (time_by r.trace.format (bytes_of r)) x
   pub held : Held r.end x
+
+-- ---- the packets asked for
+
+-- one link's, or any
+abbrev pub Which : Type 0
+Which = Option ℕ
+
+unfoldable pub is_asked : Which → ℕ → Bool
+is_asked None l = true
+is_asked (Some k) l = eqb l k
+
+unfoldable pub asked : Which → List Packet → List Packet
+asked None ps = ps
+asked (Some l) ps = of_link l ps
 
 -- ---- a packet as a row of words
 
@@ -35,8 +49,8 @@ pub record AddPre (r : Record) (w : List ℕ) (count : ℕ) : Type 0 where
   pub fits : Fits r.trace.file.now w count
   pub room : 24 * count + 24 ≤ length w
 
-pub record Added (r : Record) (w : List ℕ) (count : ℕ) (u : List ℕ) (n : ℕ) : Type 0 where
-  pub list : packets_from r.trace.file.now u 0 n ≡ packets_from r.trace.file.now w 0 count ++ or_none (packet_by r.trace.format (bytes_of r)) []
+pub record Added (r : Record) (w : List ℕ) (only : Which) (count : ℕ) (u : List ℕ) (n : ℕ) : Type 0 where
+  pub list : packets_from r.trace.file.now u 0 n ≡ packets_from r.trace.file.now w 0 count ++ asked only (or_none (packet_by r.trace.format (bytes_of r)) [])
   pub fits : Fits r.trace.file.now u n
   pub total : 25 * n + data_of u n ≤ 25 * count + data_of w count + (r.end - r.at)
   pub more : n ≤ count + 1
@@ -59,19 +73,21 @@ pub record ReadPre (g : Format) (f w : List ℕ) : Type 0 where
   pub small : length f ≤ 1048576
   pub room : 8 * length f ≤ length w
 
-pub record ReadTo (g : Format) (f u : List ℕ) (r : Packets) : Type 0 where
-  pub read : Read g f u r.count
+-- the table holds the packets asked for, of the file's whole records
+pub record ReadTo (g : Format) (f : List ℕ) (only : Which) (u : List ℕ) (r : Packets) : Type 0 where
+  pub tabled : Tabled f u r.count
+  pub list : packets_from f u 0 r.count ≡ asked only (packets_by g f)
   pub records : r.records ≡ length (records_by g f)
   pub tail : r.tail ≡ tail_by g f
 
--- a reader of the trace, after so many whole records, whose packets are in the table
-pub record Walking (t : Trace) (w₀ w : List ℕ) (q : Reader) (count whole : ℕ) : Type 0 where
+-- a reader of the trace, after so many whole records, whose packets, those asked for, are in the table
+pub record Walking (t : Trace) (only : Which) (w₀ w : List ℕ) (q : Reader) (count whole : ℕ) : Type 0 where
   pub trace : q.trace ≡ t
   pub least : 16 + 16 * whole ≤ q.at
   pub within : q.at ≤ length t.file.now
   pub size : length w ≡ length w₀
   pub fits : Fits t.file.now w count
   pub total : 16 + 25 * count + data_of w count ≤ q.at
-  pub same : packets_from t.file.now w 0 count ++ packets (packet_by t.format) (records_from t.format t.file.now q.at) ≡ packets_by t.format t.file.now
+  pub same : packets_from t.file.now w 0 count ++ asked only (packets (packet_by t.format) (records_from t.format t.file.now q.at)) ≡ asked only (packets_by t.format t.file.now)
   pub number : whole + length (records_from t.format t.file.now q.at) ≡ length (records_by t.format t.file.now)
   pub tail : q.at + length (flat (records_from t.format t.file.now q.at)) ≡ tail_by t.format t.file.now

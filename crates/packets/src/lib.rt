@@ -1,10 +1,10 @@
 // The ACL packets of a trace's whole records, in a table at the start of work.
 #![tactic(auto)]
 
-ghost use Rattle.std.specs.Prelude.{◌≡◌, ◌+◌, ◌*◌, ◌≤◌, length, drop};
+ghost use Rattle.std.specs.Prelude.{◌≡◌, ◌+◌, ◌*◌, ◌/◌, ◌≤◌, length, drop};
 ghost use Rattle.trace.specs.Formats.{time_by};
 ghost use Rattle.trace.specs.Walk.{is_empty};
-ghost use Rattle.packets.specs.Adding.{RecordIs, put_packet, AddPre, Added, Passed, ReadPre, ReadTo};
+ghost use Rattle.packets.specs.Adding.{RecordIs, is_asked, put_packet, AddPre, Added, Passed, ReadPre, ReadTo};
 
 use acl::{Excerpt, Fragment};
 use trace::{Format, Record, Trace, record_head};
@@ -48,20 +48,31 @@ fn put_packet(w: &mut [u8], i: usize, g: Fragment, ms: u64)
     put64(w, at + 4, ms);
 }
 
-// Adds the packet of a record to the table, if there is one, and returns the count of packets.
-fn add_packet(r: Record, w: &mut [u8], count: usize) -> usize
+// Whether a packet is asked for: its link is the one, or none is named.
+#[tactic(auto, unfolding(crate::specs::Adding::is_asked))]
+fn is_asked(only: Option<u32>, link: u32) -> bool
+    ensures { result ≡ is_asked only link }
+{
+    only.is_none_or(|l| link == l)
+}
+
+// Adds the packet of a record to the table, if there is one and it is asked for, and returns the count of packets.
+fn add_packet(r: Record, w: &mut [u8], only: Option<u32>, count: usize) -> usize
     requires { AddPre r w.old count }
-    ensures { Added r.entry w.old count w.new result }
+    ensures { Added r.entry w.old only count w.new result }
 {
     let Some(g) = read_packet(r) else {
         return count;
     };
+    if !is_asked(only, g.key / 2) {
+        return count;
+    }
     let ms = time_of(r);
     put_packet(w, count, g, ms);
     count + 1
 }
 
-// What reading a file finds: how many packets, how many whole records, and where the first record starts that passes the end.
+// What reading a file finds: how many packets of those asked for, how many whole records, and where the first record starts that passes the end.
 #[derive(Clone, Copy)]
 pub struct Packets {
     pub count: usize,
@@ -105,10 +116,11 @@ fn pass_empty(trace: Trace, at: usize) -> Empty
     Empty { end: i, count }
 }
 
-// Reads the packets of the trace's whole records into the table at the start of work, by a reader, and counts the packets and the records.
-pub fn read_packets(trace: Trace, w: &mut [u8]) -> Packets
+// Reads the packets of the trace's whole records, of one link if it is named, into the table at the start of work, by a reader, and counts these
+// packets and the records.
+pub fn read_packets(trace: Trace, w: &mut [u8], only: Option<u32>) -> Packets
     requires { ReadPre trace.format trace.file.now w.old }
-    ensures { ReadTo trace.entry.format trace.entry.file.now w.new result }
+    ensures { ReadTo trace.entry.format trace.entry.file.now only w.new result }
 {
     let head = record_head(trace.format);
     let mut records = trace.records();
@@ -121,7 +133,7 @@ pub fn read_packets(trace: Trace, w: &mut [u8]) -> Packets
             whole += passed.count;
             records = records.moved(passed.end);
         } else {
-            count = add_packet(r, w, count);
+            count = add_packet(r, w, only, count);
         }
     }
     Packets {

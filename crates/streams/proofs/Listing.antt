@@ -1,5 +1,5 @@
 -- What stands in work once a DLCI is chosen; what the list of its spans is, by the definition of import; and how it is written.
-use Prim.Native.Nat.{ℕ, ◌+◌, ◌*◌, ◌/◌, ◌≤◌}
+use Prim.Native.Nat.{ℕ, ◌+◌, ◌*◌, ◌/◌, ◌<◌, ◌≤◌}
 use mathlib.Core.Path.{◌≡◌, refl, sym, ap, ◌∙◌}
 use mathlib.Core.List.{List, [], ◌∷◌}
 use mathlib.Core.Option.{Option, none, some}
@@ -8,22 +8,25 @@ use lib.ListN.{length}
 use Rattle.laws.specs.Answers.{gives, refuses}
 use Rattle.laws.specs.Stores.{Writes}
 use Rattle.words.specs.Front.{Front}
-use Rattle.words.proofs.Front.{front_less}
+use Rattle.words.proofs.Front.{front_refl, front_less}
 use Rattle.items.specs.Items.{span_list}
 use Rattle.rfcomm.specs.Pieces.{Piece}
 use Rattle.rfcomm.specs.PieceTable.{infos_of}
 use Rattle.rfcomm.proofs.PieceRows.{pieces_front, infos_front, within_front}
 use Rattle.spans.specs.Spans.{spans, on_dlci}
-use Rattle.split.specs.Rows.{all}
+use Rattle.split.specs.Rows.{all, Laid}
 use Rattle.split.specs.Walks.{LinkRoom, LinkedTo, Lying}
 use Rattle.split.proofs.Fronts.{laid_lying}
 use Rattle.split.specs.declared.Plan.{Plan}
+use Rattle.measuring.specs.Counting.{CountIs}
+use Rattle.measuring.specs.declared.Sums.{Sums}
 use Rattle.writing.specs.Writing.{ListPre}
 use Rattle.outcome.specs.Import.{chosen, listed, given}
-use Rattle.streams.specs.Streams.{channel_of, plan_of, table_pieces, Tabled, Ready, stream_of, choice_of, Chooses, Leaves, ChoosesStream, kept_list, WriteListPre, Channel, Choice}
+use Rattle.streams.specs.Streams.{channel_of, plan_of, table_pieces, Tabled, Ready, below, Accountable, stream_summed, stream_of, choice_of, Chooses, Leaves, ChoosesStream, CountsStream, kept_list, WriteListPre, Channel, Choice}
 use Rattle.streams.specs.declared.Stream.{Stream}
 use Rattle.std.specs.Prelude.{None, Some}
-use Rattle.streams.proofs.Choosing.{laid_later, all_same}
+use Rattle.streams.proofs.Choosing.{laid_table, laid_later, all_same, front_plan}
+use Rattle.streams.proofs.Summing.{accountable, stream_summed_law}
 
 -- ---- what import gives, by the choice
 
@@ -134,3 +137,31 @@ module _ (f w : List ℕ) (n : ℕ) (t : Tabled f w n) (p : Plan) (ep : p ≡ pl
 
     pub link_chooses : length u ≡ length w → (channel : Channel) (v : List ℕ) (c : Choice) → Chooses f u n channel v c → length v ≡ length u → ChoosesStream f w n channel v c
     link_chooses e channel v c q k = let y = chooses_stream f u n (link_ready e) channel v c q k in record { chooses = rw same at y.chooses; left = rw same at y.left; small = y.small }
+
+    pub link_counts : (d : ℕ) (v : List ℕ) (x : Stream) → CountsStream f u n d v x → CountsStream f w n d v x
+    link_counts d v x y = record { counts = rw same at y.counts; pieces = rw same at y.pieces; kept = y.kept }
+
+-- ---- those of a DLCI counted then
+
+module _ (f w : List ℕ) (n : ℕ) (r : Ready f w n) (d : ℕ) (small : d < 256) (p : Plan) (ep : p ≡ plan_of (length f / 4) n d) where
+  pub count_laid : Laid f w p
+  count_laid = rw ep (laid_table f w n r d)
+
+  module _ (u : List ℕ) (s : Sums) (c : CountIs f w p u s) where
+    pub count_account : Accountable d s
+    count_account = accountable f w p u s c d small
+
+    pub counts_stream : length u ≡ length w → (x : Stream) → x ≡ stream_summed d s → CountsStream f w n d u x
+    unfolding plan_of
+    counts_stream k x e =
+        let g : Front (below f n) u w = front_plan f u w n d p ep c.front in
+        record {
+          counts = e ∙ stream_summed_law f w p u s c (table_pieces f w n) d (all_same f w n r w (front_refl (below f n) w) p d ep);
+          pieces = all_same f w n r u g (plan_of (length f / 4) n d) d refl;
+          kept = record {
+            laid = laid_later f w n r u g k (plan_of (length f / 4) n d) d refl;
+            told = rw ep at c.told;
+            few = omega (arith, r.tabled.few);
+            small = r.tabled.small;
+          };
+        }

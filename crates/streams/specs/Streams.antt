@@ -112,6 +112,14 @@ pub record ChoosesStream (f w : List ℕ) (n : ℕ) (channel : Channel) (u : Lis
   pub left : (s : Stream) → r ≡ Some s → Leaves f (table_pieces f w n) (channel_of channel) n u s.dlci
   pub small : (s : Stream) → r ≡ Some s → s.dlci < 64
 
+-- ---- a DLCI given
+
+-- what is counted of it by the definition; and what its list is written by
+pub record CountsStream (f w : List ℕ) (n d : ℕ) (u : List ℕ) (r : Stream) : Type 0 where
+  pub counts : r ≡ stream_of (table_pieces f w n) d
+  pub pieces : all f u (plan_of (length f / 4) n d) ≡ on_dlci d (table_pieces f w n)
+  pub kept : Kept f u n d
+
 -- ---- the list
 
 -- of the spans of the pieces that work has for the DLCI d

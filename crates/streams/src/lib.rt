@@ -1,10 +1,10 @@
-// The DLCI chosen, and the list of its spans, which is written once there is room for it.
+// A DLCI, chosen or given, with what is counted of it; and the list of its spans, which is written once there is room for it.
 #![tactic(auto)]
 
 ghost use Rattle.std.specs.Prelude.{◌≡◌, ◌*◌, ◌/◌, ◌≤◌, ◌<◌};
 ghost use Rattle.outcome.specs.Import.{on_channel};
 ghost use Rattle.laws.specs.Stores.{Writes};
-ghost use Rattle.streams.specs.Streams.{channel_of, plan_of, Tabled, Ready, Accountable, stream_summed, Chooses, ChoosesStream, kept_list, WriteListPre};
+ghost use Rattle.streams.specs.Streams.{channel_of, plan_of, Tabled, Ready, Accountable, stream_summed, Chooses, ChoosesStream, CountsStream, kept_list, WriteListPre};
 
 use measuring::{Sums, count_spans};
 use split::{Pieces, Plan, link_pieces};
@@ -105,7 +105,21 @@ pub fn choose_stream(file: &[u8], w: &mut [u8], n: usize, channel: Option<u8>) -
     choose_dlci(file, w, n, channel)
 }
 
-// Writes the list of the spans of the DLCI chosen, and returns its length.
+// Links the n pieces in the table, and counts those of one DLCI. Work keeps what was counted, by which their list is written.
+pub fn count_stream(file: &[u8], w: &mut [u8], n: usize, dlci: u8) -> Stream
+    requires { Tabled file.now w.old n }
+    ensures { CountsStream file.now w.old n dlci w.new result }
+{
+    let q = file.len() / 4;
+    let all = plan(q, n, 0);
+    link_pieces(w, all, 7 * q);
+    let d = dlci as u32;
+    let p = plan(q, n, d);
+    let s = count_spans(file, w, p);
+    stream_of(d, s)
+}
+
+// Writes the list of the spans of the DLCI chosen, or counted, and returns its length.
 pub fn write_list(file: &[u8], w: &[u8], n: usize, dlci: u8, out: &mut [u8]) -> usize
     requires { WriteListPre file.now w.now n dlci out.old }
     ensures { Writes out.old 0 (kept_list file.now w.now n dlci) result out.new }

@@ -3,10 +3,12 @@
 use std::ffi::{OsStr, OsString};
 use std::os::unix::ffi::OsStrExt;
 use std::path::PathBuf;
+use std::str::FromStr;
 
+use crate::found::Alone;
 use crate::help;
 use crate::words::shown;
-use lumbryth::is_command_name;
+use lumbryth::{is_command_name, Link};
 
 /// A trace, and how to import it.
 #[derive(Debug, PartialEq)]
@@ -16,6 +18,8 @@ pub struct Look {
     pub tolerant: bool,
     /// Whether UIH frames with a wrong FCS are passed over.
     pub check_fcs: bool,
+    /// The one link and DLCI to take; then the rule is strict, and neither a channel nor the FCS is looked at.
+    pub alone: Option<Alone>,
 }
 
 #[derive(Debug, PartialEq)]
@@ -56,12 +60,15 @@ struct Takes {
 
 const IMPORT: Takes = Takes {
     command: "import",
-    values: &["--out", "--channel", "--exclude"],
+    values: &["--out", "--channel", "--link", "--dlci", "--exclude"],
     flags: &["--tolerant", "--check-fcs", "--dry-run"],
 };
 const RECORDS: Takes = Takes { command: "records", values: &[], flags: &["--json"] };
-const FRAMES: Takes =
-    Takes { command: "frames", values: &["--channel"], flags: &["--tolerant", "--check-fcs", "--json"] };
+const FRAMES: Takes = Takes {
+    command: "frames",
+    values: &["--channel", "--link", "--dlci"],
+    flags: &["--tolerant", "--check-fcs", "--json"],
+};
 const CHANNELS: Takes = Takes { command: "channels", values: &[], flags: &["--json"] };
 const SIZES: Takes =
     Takes { command: "sizes", values: &["--channel"], flags: &["--tolerant", "--check-fcs", "--json"] };
@@ -102,7 +109,35 @@ impl Given {
             [_, second, ..] => return Err(format!("one trace at a time: '{}' is one too many", shown(second))),
         };
         let channel = self.once("--channel")?.map(|value| channel(value)).transpose()?;
-        Ok(Look { trace, channel, tolerant: self.has("--tolerant"), check_fcs: self.has("--check-fcs") })
+        let (tolerant, check_fcs, alone) = (self.has("--tolerant"), self.has("--check-fcs"), self.alone()?);
+        Ok(Look { trace, channel, tolerant, check_fcs, alone })
+    }
+
+    /// The one link and DLCI to take, if they are given. What does not go with them is refused, so that nothing is asked for and not
+    /// done.
+    fn alone(&self) -> Result<Option<Alone>, String> {
+        let link = self.once("--link")?.map(|value| link(value)).transpose()?;
+        let dlci = self.once("--dlci")?.map(|value| dlci(value)).transpose()?;
+        let alone = match (link, dlci) {
+            (Some(link), Some(dlci)) => Alone { link, dlci },
+            (None, None) => return Ok(None),
+            (Some(_), None) => return Err("--link needs --dlci beside it, the DLCI to take".to_string()),
+            (None, Some(_)) => return Err("--dlci needs --link beside it, the link to take".to_string()),
+        };
+        if !self.all("--channel").is_empty() {
+            return Err(
+                "--channel does not go with --link, which takes one DLCI, by --dlci; a channel has two".to_string()
+            );
+        }
+        if self.has("--tolerant") {
+            return Err("--tolerant does not go with --link, which reads by the strict rule: it refuses a file that \
+                 ends inside a record"
+                .to_string());
+        }
+        if self.has("--check-fcs") {
+            return Err("--check-fcs does not go with --link, which does not check the FCS".to_string());
+        }
+        Ok(Some(alone))
     }
 }
 
@@ -113,7 +148,11 @@ pub fn parse(args: &[OsString]) -> Result<Command, String> {
     match first.to_str() {
         Some("import") => command(&IMPORT, help::IMPORT, rest, import),
         Some("frames") => command(&FRAMES, help::FRAMES, rest, |given| {
-            given.look().map(|look| Command::Frames(Look { tolerant: true, ..look }, given.has("--json")))
+            // A file that is cut is listed up to there; not that of one link, whose list is strict.
+            given.look().map(|look| {
+                let tolerant = look.alone.is_none();
+                Command::Frames(Look { tolerant, ..look }, given.has("--json"))
+            })
         }),
         Some("records") => command(&RECORDS, help::RECORDS, rest, |given| {
             given.look().map(|look| Command::Records(look.trace, given.has("--json")))
@@ -191,11 +230,40 @@ fn read(takes: &Takes, args: &[OsString]) -> Result<Given, String> {
 }
 
 fn channel(value: &OsStr) -> Result<u8, String> {
-    let number = value.to_str().filter(|text| text.bytes().all(|b| b.is_ascii_digit()));
-    match number.and_then(|text| text.parse().ok()) {
+    match value.to_str().and_then(decimal) {
         Some(channel @ 0..=31) => Ok(channel),
         _ => Err(format!("--channel takes a number from 0 to 31, not '{}'", shown(value))),
     }
+}
+
+/// A number in digits alone.
+fn decimal<N: FromStr>(text: &str) -> Option<N> {
+    text.bytes().all(|b| b.is_ascii_digit()).then(|| text.parse().ok()).flatten()
+}
+
+/// A connection by its adapter and handle, as `--link` takes it.
+pub fn read_link(text: &str) -> Option<Link> {
+    let (adapter, handle) = text.split_once(':')?;
+    Some(Link { adapter: decimal(adapter)?, handle: decimal(handle).filter(|handle| *handle <= 4095)? })
+}
+
+/// A DLCI, as `--dlci` takes it.
+pub fn read_dlci(text: &str) -> Option<u8> {
+    decimal(text).filter(|dlci| (1..=63).contains(dlci))
+}
+
+fn link(value: &OsStr) -> Result<Link, String> {
+    value.to_str().and_then(read_link).ok_or_else(|| {
+        format!(
+            "--link takes an adapter's index, 0 to 65535, a colon and a handle, 0 to 4095, such as 0:6, not '{}'",
+            shown(value)
+        )
+    })
+}
+
+fn dlci(value: &OsStr) -> Result<u8, String> {
+    let words = || format!("--dlci takes a number from 1 to 63, not '{}'", shown(value));
+    value.to_str().and_then(read_dlci).ok_or_else(words)
 }
 
 /// Whether a frame can have a command of this name; those without one, such as acknowledgements, have NO_COMMAND.

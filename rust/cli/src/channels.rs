@@ -6,12 +6,12 @@ use crate::bytes::{self, In};
 use crate::losses;
 use crate::report::{end_fields, end_of, sentence};
 use crate::words::{capital, count, datalink, datalink_fields, named, null_or, object, string, way};
-use look::{Channel, Dlci, Handle, Link, Seen, Share, Standing, Trace};
-use lumbryth::Gaps;
+use look::{Channel, Dlci, Handle, Seen, Share, Standing, Trace};
+use lumbryth::{Gaps, Imported, Link};
 
 /// How import is asked to read the file: one that ends inside a record is read by the tolerant rule only.
 fn import(trace: Trace, seen: &Seen) -> &'static str {
-    if seen.tail < trace.file.len() {
+    if is_cut(trace, seen) {
         "import --tolerant"
     } else {
         "import"
@@ -108,13 +108,28 @@ fn numbers(share: &Share) -> String {
     )
 }
 
-fn dlci_lines(import: &str, seen: &Seen, dlci: &Dlci, several: bool) -> String {
+/// How import is asked for one link and DLCI.
+fn alone(link: Link, dlci: u8) -> String {
+    format!("--link {link} --dlci {dlci}")
+}
+
+/// Whether the file ends inside a record. Of such a file nothing is taken by --link, which reads by the strict rule.
+fn is_cut(trace: Trace, seen: &Seen) -> bool {
+    seen.tail < trace.file.len()
+}
+
+fn dlci_lines(trace: Trace, seen: &Seen, dlci: &Dlci, several: bool) -> String {
+    let import = import(trace, seen);
     let mut text = format!("DLCI {}, channel {}: {}.\n", dlci.dlci, dlci.channel(), numbers(&dlci.all));
-    for (link, share) in dlci.links.iter().filter(|_| several) {
+    for (link, share) in dlci.links.iter().filter(|_| several || dlci.links.len() > 1) {
         let _ = writeln!(text, "DLCI {} on {}: {}.", dlci.dlci, named(*link, several), numbers(share));
     }
     let _ = writeln!(text, "{}", bytes::line(dlci.dlci, &bytes::words(&dlci.all.bytes, In::Spans)));
     let _ = writeln!(text, "DLCI {}: {}.", dlci.dlci, taking(import, seen, dlci));
+    for (link, _) in dlci.links.iter().filter(|(_, share)| share.spans > 0 && !is_cut(trace, seen)) {
+        let (name, asks) = (named(*link, several), alone(*link, dlci.dlci));
+        let _ = writeln!(text, "DLCI {} on {name}: import {asks} takes it alone.", dlci.dlci);
+    }
     if dlci.wrong_fcs > 0 {
         let frames = count(dlci.wrong_fcs, "UIH frame has", "UIH frames have");
         let them = if dlci.wrong_fcs == 1 { "it" } else { "them" };
@@ -147,7 +162,7 @@ fn none(seen: &Seen) -> Option<&'static str> {
 
 /// Handles, channels and DLCIs, a line for each fact.
 pub fn text(trace: Trace, seen: &Seen, gaps: &Gaps) -> String {
-    let (import, adapters) = (import(trace, seen), seen.adapters().len());
+    let adapters = seen.adapters().len();
     let several = adapters > 1;
     let mut text = if several { format!("{adapters} adapters, ") } else { String::new() };
     let _ = writeln!(
@@ -165,9 +180,12 @@ pub fn text(trace: Trace, seen: &Seen, gaps: &Gaps) -> String {
     }
     text += &losses::lines(trace, gaps);
     text.extend(seen.handles.iter().map(|handle| handle_lines(handle, several)));
-    text.extend(seen.dlcis.iter().map(|dlci| dlci_lines(import, seen, dlci, several)));
+    text.extend(seen.dlcis.iter().map(|dlci| dlci_lines(trace, seen, dlci, several)));
     if let Some(words) = none(seen) {
-        let _ = writeln!(text, "{} refuses the trace (6): {words}.", import.replace("import", "Import"));
+        let _ = writeln!(text, "{} refuses the trace (6): {words}.", capital(import(trace, seen)));
+    }
+    if is_cut(trace, seen) && seen.dlcis.iter().any(|dlci| dlci.all.spans > 0) {
+        text += "Import --link refuses the trace (5), for it reads whole files only.\n";
     }
     text
 }
@@ -235,6 +253,7 @@ fn dlci_objects(seen: &Seen, dlci: &Dlci) -> String {
         text += &object(&[
             ("kind", string("share")),
             ("dlci", dlci.dlci.to_string()),
+            ("link", string(&link.to_string())),
             ("adapter", link.adapter.to_string()),
             ("handle", link.handle.to_string()),
             ("pieces", share.pieces.to_string()),
@@ -254,6 +273,30 @@ fn dlci_objects(seen: &Seen, dlci: &Dlci) -> String {
         ]);
     }
     text
+}
+
+/// The links that have spans on a DLCI, in the order of their first pieces.
+pub fn links(trace: Trace, check_fcs: bool, dlci: u8) -> Vec<Link> {
+    let Ok(seen) = look::look(trace, check_fcs) else { return Vec::new() };
+    let line = seen.dlcis.iter().find(|line| line.dlci == dlci);
+    let with_spans = line.iter().flat_map(|line| &line.links).filter(|(_, share)| share.spans > 0);
+    with_spans.map(|(link, _)| *link).collect()
+}
+
+/// How one link is taken alone, if the frames of an import are of several.
+pub fn links_line(trace: Trace, check_fcs: bool, imported: &Imported) -> Option<String> {
+    let (links, dlci) = (links(trace, check_fcs, imported.dlci), imported.dlci);
+    let (first, more) = links.split_first().filter(|(_, more)| !more.is_empty())?;
+    let several = format!("The frames are of {} links.", links.len());
+    if imported.tail < trace.file.len() {
+        return Some(format!("{several} --link takes one alone, but not of a file that ends inside a record."));
+    }
+    let others = match more {
+        [second] => alone(*second, dlci),
+        _ => format!("one of {} more that lumbryth channels shows", more.len()),
+    };
+    let fcs = if check_fcs { ", with the FCS not checked" } else { "" };
+    Some(format!("{several} For one alone{fcs}: {}, or {others}.", alone(*first, dlci)))
 }
 
 /// The DLCIs with frames but for the one taken, if one is.

@@ -6,6 +6,7 @@ use std::io::{self, Read};
 use std::path::Path;
 
 use crate::bytes;
+use crate::found::Alone;
 use crate::losses;
 use crate::set::{self, Set};
 use crate::sha256::sum;
@@ -144,15 +145,22 @@ pub fn verdict(faults: &[Fault]) -> String {
 pub fn told(set: &Set) -> String {
     let fact = |name| set.fact(name).unwrap_or("not told");
     let (name, end) = (fact("trace name"), fact("end"));
-    format!("{} frames in the trace, end {end}: {name}\n", fact("frames"))
+    let frames = fact("frames");
+    match set.alone() {
+        Some(alone) => format!("{frames} frames of one link in the trace, {alone}, end {end}: {name}\n"),
+        None => format!("{frames} frames in the trace, end {end}: {name}\n"),
+    }
 }
 
 /// What a list says that the set lacks. Of UIH frames with a wrong FCS a line, if they were passed over; where the bytes went, a line,
-/// also if it does not say; of losses a line for each, and one if it does not say; none if none was seen.
+/// also if it does not say, unless the set is of one link, whose list never says it; of losses a line for each, and one if it does not say; none if none was seen.
 pub fn lacks(set: &Set) -> String {
     let dlci = set.fact("dlci").unwrap_or("not told");
     let wrong = set.wrong_fcs().map_or(String::new(), |n| wrong_fcs(dlci, n) + "\n");
-    let bytes = bytes::line(dlci, set.fact("bytes").unwrap_or("the list does not tell")) + "\n";
+    let bytes = match (set.fact("bytes"), set.fact(set::ONE_LINK)) {
+        (None, Some(_)) => String::new(),
+        (told, _) => bytes::line(dlci, told.unwrap_or("the list does not tell")) + "\n",
+    };
     let told = set.all("losses");
     if told.is_empty() {
         return wrong + &bytes + "Losses: the list does not tell.\n";
@@ -161,12 +169,22 @@ pub fn lacks(set: &Set) -> String {
     wrong + &bytes + &losses.collect::<String>()
 }
 
-/// An object for what the list says of losses, of the FCS and of the bytes, each fixture that is as it should be, and each fault.
+/// An object for what the list says of losses, of the one link if it is of one, of the FCS and of the bytes, each fixture that is as it
+/// should be, and each fault.
 pub fn objects(set: &Set, faults: &[Fault]) -> String {
     let wrong: BTreeSet<&str> = faults.iter().map(|fault| &*fault.what).collect();
     let right = set.fixtures.keys().filter(|name| !wrong.contains(&***name));
     let of = |kind: &str, field: &str, what: &str| object(&[("kind", string(kind)), (field, string(what))]);
     let mut text: String = set.all("losses").iter().map(|loss| of("losses", "told", loss)).collect();
+    text.extend(set.alone().map(|Alone { link, dlci }| {
+        object(&[
+            ("kind", string("link")),
+            ("link", string(&link.to_string())),
+            ("adapter", link.adapter.to_string()),
+            ("handle", link.handle.to_string()),
+            ("dlci", dlci.to_string()),
+        ])
+    }));
     text += &object(&[
         ("kind", string("fcs")),
         ("check_fcs", (set.fcs() == set::CHECKED).to_string()),

@@ -45,6 +45,10 @@ lumbryth check DIR checks the set by it; so does, in DIR, sha256sum -c fixtures.
                    kept and what is missing; else such a file is refused
   --check-fcs      pass over RFCOMM's UIH frames whose check byte, the FCS, is wrong, as
                    a noisy adapter gives them, and say how many; else it is not checked
+  --link INDEX:HANDLE
+                   only the frames of one connection, by the adapter's index and the
+                   handle, such as 0:6; needs --dlci
+  --dlci N         with --link: the DLCI whose frames are taken, 1 to 63
   --exclude NAME   leave out the frames of a command, such as POWER_GET_STATUS, or of
                    none, NO_COMMAND; may be given again for more
   --dry-run        write nothing: print the names of the files, and on standard error
@@ -88,6 +92,18 @@ unfinished, and a loss that is an adapter's, is told with the adapter. The frame
 adapters come in one list, in order of completion, with one counter, and names do not tell
 the adapters apart; hints go by that list, and may take one adapter's frame for another's.
 lumbryth channels TRACE shows how many frames each adapter has.
+
+Where two headsets share a desk, --link and --dlci take the frames of one of them alone. A
+link is one connection, an adapter's index and a handle; lumbryth channels TRACE shows what
+to give for each link and DLCI. Where the frames that are taken without --link are of several
+links, that is said, with an example. What is taken depends on that link's own packets alone,
+which is proved: no other link adds a frame, takes one away or changes one. The file is read
+by the strict rule, the FCS is not checked, and a DLCI is taken, not a channel, so that
+--tolerant, --check-fcs and --channel do not go with --link. Nothing has to unpack: where the
+link has no frame, or none that unpacks, that is said and not refused, and the set has no
+fixture, only its list. The list says that the set is of one link, and of which. Hints go by
+that link's frames, losses are of the whole file. Of what is unfinished, the program tells
+how many frames are begun, and not how many bytes.
 ";
 
 pub const FRAMES: &str = "\
@@ -105,11 +121,20 @@ If the trace has more than one adapter, what is unfinished, and a loss that is a
 is told with the adapter. The frames of all adapters come in one list, in order of
 completion, which does not tell the adapters apart.
 
+With --link and --dlci only the frames of one link are listed: of one connection, which is an
+adapter's index and a handle. lumbryth channels TRACE shows what to give for each link and
+DLCI. No other link changes that list, which may be empty. The FCS is not checked for it, and
+a file that ends inside a record is refused.
+
   --channel N      only RFCOMM channel N, 0 to 31; else the first that carries frames
   --check-fcs      pass over RFCOMM's UIH frames whose check byte, the FCS, is wrong, and
                    say how many there are on the DLCI; else it is not checked
+  --link INDEX:HANDLE
+                   only the frames of one connection, by the adapter's index and the
+                   handle, such as 0:6; needs --dlci
+  --dlci N         with --link: the DLCI whose frames are listed, 1 to 63
   --json           an object a line: import, unfinished, hint, frame, then other, for each
-                   other DLCI that has frames
+                   other DLCI that has frames; with --link link, hint, frame
   --               what follows is no option
 ";
 
@@ -134,13 +159,15 @@ handle, with packets and PDUs each way (rx is from the headset). Under it its ch
 direction, what it is, PSM if a request tells it, PDUs. Then each DLCI, in the order in
 which import looks at them: its RFCOMM channel, frames (spans that unpack), spans (bytes
 from 3E through 3C), pieces, and how many are unfinished; where every byte of its pieces
-went, as import tells it; how import takes it; how many UIH frames on it have a wrong FCS, if
-any, which import --check-fcs passes over; and why spans do not unpack. If import takes none,
-the last line says why.
+went, as import tells it; how import takes it; for each handle with spans on it, the --link
+and --dlci by which import and frames take it alone; how many UIH frames on it have a wrong
+FCS, if any, which import --check-fcs passes over; and why spans do not unpack. If import
+takes none, a line at the end says why. A file that ends inside a record is not taken by
+--link; if a DLCI has spans, the last line says so.
 
 If the trace has more than one adapter, each handle is told with its adapter, since two
-adapters may use the same handle; and what each DLCI has is also told for each adapter and
-handle.
+adapters may use the same handle. What each DLCI has is also told for each adapter and handle,
+if the trace has several adapters or the DLCI several handles.
 
 A channel is one of these:
   admitted       signals say that it is RFCOMM, PSM 0x0003: it is tried
@@ -178,7 +205,8 @@ The list has 14 bytes for each span, and the span's: from 3E through 3C, also wh
 does not unpack. Every whole record is counted, and every PDU that is whole, of each
 adapter, handle and channel. A piece is the information of a UIH frame that is taken, if
 it has any; those of every DLCI but 0 are counted, also of DLCIs that import does not
-take. Beside its output the library needs work, 8 times the bytes of the file.
+take. Beside its output the library needs work, 8 times the bytes of the file. Of one
+link's list the program tells no sizes.
 ";
 
 pub const CHECK: &str = "\
@@ -188,11 +216,12 @@ Checks a set of fixtures that import wrote to DIR, by its list, fixtures.sha256:
 fixture that is missing, changed or unreadable, and each that is extra. With TRACE, imports that again
 as the set was asked for, and names in what it differs. Files that are no fixtures are
 passed over. Where the bytes went and the losses that the list tells are told again, and if
-import was asked to check the FCS, how many UIH frames it passed over.
+import was asked to check the FCS, how many UIH frames it passed over. If the set is of one
+link alone, its adapter, handle and DLCI are told, and TRACE is imported so.
 
-  --json           an object a line: losses; fcs; bytes; each fixture, ok, missing,
-                   changed, unreadable or extra; and what is wrong with the list, or
-                   differs from the trace
+  --json           an object a line: losses; link, if the set is of one; fcs; bytes; each
+                   fixture, ok, missing, changed, unreadable or extra; and what is wrong
+                   with the list, or differs from the trace
   --               what follows is no option
 
 Exit status: 0 if nothing is wrong; 1 if something is, or cannot be read; 2 if the command

@@ -7,6 +7,7 @@ mod args;
 mod bytes;
 mod channels;
 mod check;
+mod found;
 mod help;
 mod hints;
 mod losses;
@@ -29,8 +30,9 @@ use std::process::ExitCode;
 
 use args::{Check, Command, Import, Look};
 use check::Fault;
+use found::List;
 use look::Trace;
-use lumbryth::{import_stretches_with, plan, sizes_with, Fixture, Gaps, Imported, Options, Stretch, TailRule};
+use lumbryth::{import_stretches_with, plan, sizes_with, Fixture, Gaps, Options, TailRule};
 use refused::{refused, Asked};
 use set::Set;
 use words::{count, shown};
@@ -104,12 +106,10 @@ fn print(text: &str) -> Result<(), Failure> {
     Ok(())
 }
 
-/// A trace that was read and imported.
+/// A trace that was read, and what was found in it.
 struct Found {
     file: Vec<u8>,
-    imported: Imported,
-    /// The stretches of its DLCI that are open at the end.
-    open: Vec<Stretch>,
+    list: List,
     /// The signs that something is not in it.
     gaps: Gaps,
 }
@@ -135,23 +135,29 @@ fn options(look: &Look, trace: Trace) -> Options {
 fn imported(look: &Look, file: Vec<u8>) -> Result<Found, Failure> {
     let trace = Trace::of(&file);
     let options = options(look, trace);
-    match import_stretches_with(&file, &options).and_then(|found| Ok((found, trace.gaps(options.tail)?))) {
-        Ok(((imported, open), gaps)) => Ok(Found { file, imported, open, gaps }),
+    let list = match look.alone {
+        Some(alone) => alone.list(&file, &options).map(|list| List::Link(alone, list)),
+        None => import_stretches_with(&file, &options).map(|(imported, open)| List::Import(imported, open)),
+    };
+    match list.and_then(|list| Ok((list, trace.gaps(options.tail)?))) {
+        Ok((list, gaps)) => Ok(Found { file, list, gaps }),
         Err(refusal) => Err(Failure::Refused(refused(&look.trace, look.into(), trace, refusal))),
     }
 }
 
 /// The fixtures of an import, and the list of their set.
 fn planned(look: &Look, exclude: &[String], found: &Found) -> Result<(Vec<Fixture>, Set), Failure> {
-    let fixtures = plan(&found.imported.spans, exclude).map_err(|refusal| {
+    let fixtures = plan(found.list.spans(), exclude).map_err(|refusal| {
         Failure::Refused(format!("refused ({}): {refusal}: {}", refusal.number(), shown(&look.trace)))
     })?;
-    let set = Set::of(found.trace(), look, exclude, &found.imported, &found.gaps, &fixtures);
+    let set = Set::of(found.trace(), look, exclude, &found.list, &found.gaps, &fixtures);
     Ok((fixtures, set))
 }
 
-/// The DLCI that is taken where the FCS is not checked, if it is another, and the other DLCIs that carry frames, a line each.
-fn others(trace: Trace, look: &Look, imported: &Imported) -> String {
+/// The DLCI that is taken where the FCS is not checked, if it is another, and the other DLCIs that carry frames, a line each. Where one
+/// link is asked for, nothing else is told.
+fn others(trace: Trace, look: &Look, list: &List) -> String {
+    let List::Import(imported, _) = list else { return String::new() };
     let taken = Some(imported.dlci);
     let unchecked = look.check_fcs.then(|| channels::unchecked_line(trace, look.channel, taken)).flatten();
     let others = channels::other_lines(trace, look.check_fcs, taken);
@@ -161,11 +167,11 @@ fn others(trace: Trace, look: &Look, imported: &Imported) -> String {
 fn run_import(options: &Import) -> Result<(), Failure> {
     let found = found(&options.look)?;
     let (fixtures, set) = planned(&options.look, &options.exclude, &found)?;
-    let (trace, Found { imported, open, gaps, .. }) = (found.trace(), &found);
-    let mut findings = report::findings(trace, &options.look, imported, open, "among the fixtures");
-    findings += &report::missing(trace, imported, gaps);
-    findings += &others(trace, &options.look, imported);
-    let excluded = imported.frames - report::broken(imported) - fixtures.len();
+    let (trace, Found { list, gaps, .. }) = (found.trace(), &found);
+    let mut findings = report::findings(trace, &options.look, list, "among the fixtures");
+    findings += &report::missing(trace, list, gaps);
+    findings += &others(trace, &options.look, list);
+    let excluded = list.spans().len() - report::broken(list.spans()) - fixtures.len();
     if !options.exclude.is_empty() {
         findings += &format!("{} left out by --exclude.\n", count(excluded, "frame", "frames"));
     }
@@ -181,15 +187,18 @@ fn run_import(options: &Import) -> Result<(), Failure> {
 
 fn run_frames(look: &Look, json: bool) -> Result<(), Failure> {
     let found = found(look)?;
-    let (trace, Found { imported, open, gaps, .. }) = (found.trace(), &found);
+    let (trace, Found { list, gaps, .. }) = (found.trace(), &found);
     if json {
-        let others = channels::other_objects(trace, look.check_fcs, imported.dlci);
-        return print(&(report::frame_objects(trace, look, imported, open, gaps) + &others));
+        let others = match list {
+            List::Import(imported, _) => channels::other_objects(trace, look.check_fcs, imported.dlci),
+            List::Link(..) => String::new(),
+        };
+        return print(&(report::frame_objects(trace, look, list, gaps) + &others));
     }
-    let mut findings = report::findings(trace, look, imported, open, "listed");
-    findings += &report::missing(trace, imported, gaps);
-    findings += &others(trace, look, imported);
-    print(&(findings + &report::frames(imported)))
+    let mut findings = report::findings(trace, look, list, "listed");
+    findings += &report::missing(trace, list, gaps);
+    findings += &others(trace, look, list);
+    print(&(findings + &report::frames(list.spans())))
 }
 
 fn run_records(path: &Path, json: bool) -> Result<(), Failure> {
@@ -249,7 +258,8 @@ fn imported_again(trace: &Path, there: &Set) -> Result<Vec<Fault>, Failure> {
         return Ok(vec![Fault::list("it does not say how the set was asked for")]);
     };
     let tolerant = asked.tail == TailRule::Tolerant;
-    let look = Look { trace: trace.to_path_buf(), channel: asked.channel, tolerant, check_fcs: asked.check_fcs };
+    let set::Asked { channel, check_fcs, alone, .. } = asked;
+    let look = Look { trace: trace.to_path_buf(), channel, tolerant, check_fcs, alone };
     let file = source::read(trace).map_err(Failure::Refused)?;
     let mut faults = Vec::new();
     if Some(&*sha256::sum(&file)) != there.fact("trace sha256") {

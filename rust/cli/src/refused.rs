@@ -17,11 +17,13 @@ const CONVERT: &str =
 pub struct Asked {
     pub channel: Option<u8>,
     pub check_fcs: bool,
+    /// Whether one link is asked for.
+    pub alone: bool,
 }
 
 impl From<&Look> for Asked {
     fn from(look: &Look) -> Asked {
-        Asked { channel: look.channel, check_fcs: look.check_fcs }
+        Asked { channel: look.channel, check_fcs: look.check_fcs, alone: look.alone.is_some() }
     }
 }
 
@@ -58,9 +60,12 @@ fn words(trace: Trace, asked: Asked, refusal: Refusal) -> String {
 }
 
 /// What helps, a line each.
-fn hints(trace: Trace, refusal: Refusal) -> Vec<String> {
+fn hints(trace: Trace, asked: Asked, refusal: Refusal) -> Vec<String> {
     let hint = match refusal {
         Refusal::FileLong => "record a shorter log; a file that is trimmed by hand loses frames and does not tell",
+        Refusal::Truncated { .. } if asked.alone => {
+            "--link reads whole files only; without it, lumbryth frames and lumbryth import --tolerant read up to there"
+        }
         Refusal::Truncated { .. } => "--tolerant keeps what was complete before that",
         Refusal::NoStream => "see lumbryth channels, which shows what there is and why it is not taken",
         Refusal::NotPcap if trace.is_pcapng() => CONVERT,
@@ -86,7 +91,7 @@ pub fn refused(path: &Path, asked: Asked, trace: Trace, refusal: Refusal) -> Str
         let lost = trace.gaps(TailRule::Tolerant).unwrap_or_default();
         more.extend(losses::seen(trace, &lost).iter().map(|loss| loss.sentence()));
     }
-    more.extend(hints(trace, refusal));
+    more.extend(hints(trace, asked, refusal));
     let more: String = more.iter().map(|line| format!("\nlumbryth: {line}")).collect();
     format!("refused ({}): {}: {}{more}", refusal.number(), words(trace, asked, refusal), shown(path))
 }

@@ -5,19 +5,33 @@ use std::path::Path;
 
 use crate::args::Look;
 use crate::bytes::{self, In};
+use crate::channels;
+use crate::found::{Alone, List};
 use crate::hints::{self, Hint, Kind};
 use crate::losses;
+use crate::set;
 use crate::time::utc;
 use crate::words::{
     capital, count, datalink, datalink_fields, hex, named, null_or, object, several, shown, string, way, wrong_fcs,
 };
 use crate::write::Done;
-use look::{adapters, Kind as Held, Link, Trace};
-use lumbryth::{unpack, Cut, Direction, Ending, Gaps, Imported, Records, Sizes, Stretch};
+use look::{adapters, Kind as Held, Trace};
+use lumbryth::{unpack, Cut, Direction, Ending, Gaps, Imported, LinkList, Records, Sizes, Span, Stretch};
 
 /// How many spans do not unpack.
-pub fn broken(imported: &Imported) -> usize {
-    imported.spans.iter().filter(|span| unpack(&span.wire).is_err()).count()
+pub fn broken(spans: &[Span]) -> usize {
+    spans.iter().filter(|span| unpack(&span.wire).is_err()).count()
+}
+
+/// How many spans there are, and whether they unpack. A report calls each of them a frame.
+fn how_many(spans: &[Span]) -> String {
+    let unpack = match broken(spans) {
+        0 if spans.is_empty() => return "No frame".to_string(),
+        0 if spans.len() == 1 => "which unpacks".to_string(),
+        0 => "all of which unpack".to_string(),
+        n => count(n, "of which does not unpack", "of which do not unpack"),
+    };
+    format!("{}, {unpack}", count(spans.len(), "frame", "frames"))
 }
 
 /// How much of the record in which a file ends is there.
@@ -68,21 +82,16 @@ pub fn sentence(words: &str) -> String {
     capital(words) + "."
 }
 
-/// The connection of a stretch.
-fn link(stretch: &Stretch) -> Link {
-    Link { adapter: stretch.adapter, handle: stretch.handle }
-}
-
 /// The open stretches, a sentence each, by adapter, handle and direction.
 fn unfinished(open: &[Stretch], several: bool) -> Vec<String> {
     let mut open = open.to_vec();
     open.sort_by_key(|stretch| {
-        (link(stretch), stretch.direction == Direction::Rx, stretch.cid, stretch.sessions, stretch.links)
+        (stretch.link(), stretch.direction == Direction::Rx, stretch.cid, stretch.sessions, stretch.links)
     });
     let sentence = |stretch: &Stretch| {
         format!(
             "Unfinished on {}, {}, DLCI {}: {} held without an end marker.",
-            named(link(stretch), several),
+            named(stretch.link(), several),
             if stretch.direction == Direction::Rx { "received" } else { "sent" },
             stretch.dlci,
             count(stretch.held, "byte is", "bytes are"),
@@ -91,22 +100,57 @@ fn unfinished(open: &[Stretch], several: bool) -> Vec<String> {
     open.iter().map(sentence).collect()
 }
 
-/// What an import found, by how it was asked for. `open` are the stretches that hold bytes at the end, and `place` is where the
-/// frames are: among the fixtures, or listed.
-pub fn findings(trace: Trace, look: &Look, imported: &Imported, open: &[Stretch], place: &str) -> String {
-    let mut text = format!(
-        "{}, {}: DLCI {}, channel {}.\n",
-        count(imported.frames, "frame", "frames"),
-        match broken(imported) {
-            0 if imported.frames == 1 => "which unpacks".to_string(),
-            0 => "all of which unpack".to_string(),
-            n => count(n, "of which does not unpack", "of which do not unpack"),
-        },
-        imported.dlci,
-        imported.dlci / 2,
-    );
+/// How the file ends, and where that is more than at a record's end, what it means for so many frames, which have their place among the
+/// fixtures or are listed.
+fn at_the_end(trace: Trace, frames: usize, place: &str) -> String {
+    let (words, seen) = end_of(trace).unwrap_or_default();
+    let mut text = format!("{}\n", sentence(&words));
+    if seen {
+        let _ = writeln!(text, "Kept: {}, complete before that.", count(frames, "frame", "frames"));
+        let _ = writeln!(text, "Missing: whatever was not complete before that, or came later.");
+        let _ = writeln!(text, "A reply that is not {place} may have been sent all the same.");
+    }
+    text
+}
+
+/// What was found, by how it was asked for. `place` is where the frames are: among the fixtures, or listed.
+pub fn findings(trace: Trace, look: &Look, list: &List, place: &str) -> String {
+    match list {
+        List::Import(imported, open) => import_findings(trace, look, imported, open, place),
+        List::Link(alone, list) => link_findings(trace, *alone, list, place),
+    }
+}
+
+/// What was found of one link and DLCI. Its list may be empty, or have nothing that unpacks; then it is said what that means.
+fn link_findings(trace: Trace, alone: Alone, list: &LinkList, place: &str) -> String {
+    let (spans, link) = (&list.spans, named(alone.link, true));
+    let mut text = format!("{}: {alone}.\n", how_many(spans));
+    text += "Other links are not in this list and do not change it; other DLCIs are not in it.\n";
+    if broken(spans) == spans.len() {
+        if !look::links(trace).contains(&alone.link) {
+            let _ = writeln!(text, "The trace has no whole packet with data of {link}.");
+        }
+        let so = if spans.is_empty() { "be empty" } else { "have no frame that unpacks" };
+        let _ = writeln!(
+            text,
+            "The list of one link may {so}, and is not refused for that; lumbryth channels shows which links and \
+             DLCIs have frames."
+        );
+    }
+    let held = match list.unfinished {
+        0 => "nothing is held without an end marker".to_string(),
+        n => count(n, "frame is begun and has no end marker", "frames are begun and have no end marker"),
+    };
+    let _ = writeln!(text, "Unfinished on {alone}: {held}.");
+    text + &at_the_end(trace, spans.len(), place)
+}
+
+/// What an import found. `open` are the stretches that hold bytes at the end.
+fn import_findings(trace: Trace, look: &Look, imported: &Imported, open: &[Stretch], place: &str) -> String {
+    let (dlci, channel) = (imported.dlci, imported.dlci / 2);
+    let mut text = format!("{}: DLCI {dlci}, channel {channel}.\n", how_many(&imported.spans));
     if look.check_fcs {
-        let _ = writeln!(text, "{}", wrong_fcs(imported.dlci, imported.wrong_fcs));
+        let _ = writeln!(text, "{}", wrong_fcs(dlci, imported.wrong_fcs));
     }
     let adapters = adapters(trace).len();
     if adapters > 1 {
@@ -116,40 +160,42 @@ pub fn findings(trace: Trace, look: &Look, imported: &Imported, open: &[Stretch]
              which does not tell the adapters apart."
         );
     }
+    if let Some(line) = channels::links_line(trace, look.check_fcs, imported) {
+        let _ = writeln!(text, "{line}");
+    }
     let went = bytes::words(&imported.bytes, In::Frames);
-    let _ = writeln!(text, "{}", bytes::line(imported.dlci, &went));
-    bytes::reasons(imported.dlci, &imported.bytes).iter().for_each(|sentence| text += &format!("{sentence}\n"));
+    let _ = writeln!(text, "{}", bytes::line(dlci, &went));
+    bytes::reasons(dlci, &imported.bytes).iter().for_each(|sentence| text += &format!("{sentence}\n"));
     let unfinished = unfinished(open, adapters > 1);
     if unfinished.is_empty() {
-        let _ = writeln!(text, "Unfinished on DLCI {}: nothing is held without an end marker.", imported.dlci);
+        let _ = writeln!(text, "Unfinished on DLCI {dlci}: nothing is held without an end marker.");
     }
     unfinished.iter().for_each(|sentence| text += &format!("{sentence}\n"));
-    let (words, seen) = end_of(trace).unwrap_or_default();
-    let _ = writeln!(text, "{}", sentence(&words));
-    if seen {
-        let _ = writeln!(text, "Kept: {}, complete before that.", count(imported.frames, "frame", "frames"));
-        let _ = writeln!(text, "Missing: whatever was not complete before that, or came later.");
-        let _ = writeln!(text, "A reply that is not {place} may have been sent all the same.");
-    }
+    text += &at_the_end(trace, imported.frames, place);
     if look.channel.is_none() {
-        let channel = imported.dlci / 2;
         let _ = writeln!(text, "What is proved of a cut is for a channel that is asked for, here --channel {channel}.");
     }
     text
 }
 
 /// The hints that the frames give. That the end may be missing is none where the file tells it.
-fn hints_of(trace: Trace, imported: &Imported) -> Vec<Hint> {
+fn hints_of(trace: Trace, spans: &[Span]) -> Vec<Hint> {
     let told = end_of(trace).is_some_and(|(_, seen)| seen);
-    hints::hints(&imported.spans).into_iter().filter(|hint| hint.kind != Kind::End || !told).collect()
+    hints::hints(spans).into_iter().filter(|hint| hint.kind != Kind::End || !told).collect()
 }
 
-/// What is not in the trace: the signs of it that are seen, then hints.
-pub fn missing(trace: Trace, imported: &Imported, gaps: &Gaps) -> String {
-    let mut text = losses::lines(trace, gaps);
-    let hints = hints_of(trace, imported);
-    if !hints.is_empty() && several(trace) {
-        text += "Hints go by the one list of frames: they may take a frame of one adapter for one of another.\n";
+/// What is not in the trace: the signs of it that are seen, then hints. The signs are of all links, and so are the hints, unless one link
+/// was asked for.
+pub fn missing(trace: Trace, list: &List, gaps: &Gaps) -> String {
+    let (mut text, hints) = (losses::lines(trace, gaps), hints_of(trace, list.spans()));
+    match list {
+        List::Link(alone, _) if !text.is_empty() && look::links(trace).iter().any(|link| *link != alone.link) => {
+            text.insert_str(0, "What follows of losses is of the whole file, and may be of another link.\n");
+        }
+        List::Import(..) if !hints.is_empty() && several(trace) => {
+            text += "Hints go by the one list of frames: they may take a frame of one adapter for one of another.\n";
+        }
+        _ => {}
     }
     text + &hints::lines(&hints)
 }
@@ -159,14 +205,16 @@ pub fn written(done: &Done, dir: &Path) -> String {
     let mut text = format!("{} written", count(done.written, "fixture", "fixtures"));
     if done.there > 0 {
         text += &format!(", {} there already with the same bytes", count(done.there, "was", "were"));
+    } else if done.written == 0 {
+        text += &format!(", for the set has none, only its list, {}", set::NAME);
     }
     format!("{text}: {}\n", shown(dir))
 }
 
 /// The list of frames, a line each.
-pub fn frames(imported: &Imported) -> String {
+pub fn frames(spans: &[Span]) -> String {
     let mut text = String::new();
-    for (counter, span) in (1..).zip(&imported.spans) {
+    for (counter, span) in (1..).zip(spans) {
         let counter: usize = counter;
         let (way, bytes, time) = (way(span.direction), count(span.wire.len(), "byte", "bytes"), utc(span.ms));
         let _ = match unpack(&span.wire) {
@@ -209,20 +257,47 @@ pub fn end_fields(trace: Trace) -> Vec<(&'static str, String)> {
     fields
 }
 
+/// What was found as a whole, as fields of an object: of an import, or of one link.
+fn found_fields(trace: Trace, look: &Look, list: &List) -> Vec<(&'static str, String)> {
+    let dlci = ("dlci", list.dlci().to_string());
+    let (frames, unfinished) =
+        (("frames", list.spans().len().to_string()), ("unfinished", list.unfinished().to_string()));
+    match list {
+        List::Import(imported, _) => {
+            let links = channels::links(trace, look.check_fcs, imported.dlci);
+            let links: Vec<String> = links.iter().map(|link| string(&link.to_string())).collect();
+            vec![
+                ("kind", string("import")),
+                dlci,
+                ("channel", (imported.dlci / 2).to_string()),
+                frames,
+                unfinished,
+                ("check_fcs", look.check_fcs.to_string()),
+                ("wrong_fcs", null_or(look.check_fcs.then_some(imported.wrong_fcs))),
+                bytes::field(imported.bytes),
+                ("links", format!("[{}]", links.join(","))),
+            ]
+        }
+        List::Link(Alone { link, .. }, _) => vec![
+            ("kind", string("link")),
+            ("link", string(&link.to_string())),
+            ("adapter", link.adapter.to_string()),
+            ("handle", link.handle.to_string()),
+            dlci,
+            frames,
+            unfinished,
+        ],
+    }
+}
+
 /// What `findings`, `missing` and `frames` say, an object a line.
-pub fn frame_objects(trace: Trace, look: &Look, imported: &Imported, open: &[Stretch], gaps: &Gaps) -> String {
-    let numbers =
-        [("dlci", imported.dlci as usize), ("channel", imported.dlci as usize / 2), ("frames", imported.frames)];
-    let mut fields = vec![("kind", string("import"))];
-    fields.extend(numbers.map(|(name, number)| (name, number.to_string())));
-    fields.push(("unfinished", imported.unfinished.to_string()));
-    fields.push(("check_fcs", look.check_fcs.to_string()));
-    fields.push(("wrong_fcs", null_or(look.check_fcs.then_some(imported.wrong_fcs))));
-    fields.push(bytes::field(imported.bytes));
+pub fn frame_objects(trace: Trace, look: &Look, list: &List, gaps: &Gaps) -> String {
+    let mut fields = found_fields(trace, look, list);
     fields.push(("adapters", adapters(trace).len().to_string()));
     fields.extend(end_fields(trace));
     fields.push(("losses", losses::fields(trace, gaps)));
     let mut text = object(&fields);
+    let open = if let List::Import(_, open) = list { &open[..] } else { &[] };
     for stretch in open {
         text += &object(&[
             ("kind", string("unfinished")),
@@ -233,8 +308,8 @@ pub fn frame_objects(trace: Trace, look: &Look, imported: &Imported, open: &[Str
             ("held", stretch.held.to_string()),
         ]);
     }
-    text += &hints::objects(&hints_of(trace, imported));
-    for (counter, span) in (1..).zip(&imported.spans) {
+    text += &hints::objects(&hints_of(trace, list.spans()));
+    for (counter, span) in (1..).zip(list.spans()) {
         let mut fields = vec![
             ("kind", string("frame")),
             ("counter", counter.to_string()),

@@ -5,13 +5,14 @@
 
 use std::collections::{BTreeMap, BTreeSet};
 
-use crate::args::{is_name, Look};
+use crate::args::{is_name, read_dlci, read_link, Look};
 use crate::bytes::{self, In};
+use crate::found::{Alone, List};
 use crate::losses;
 use crate::sha256::sum;
 use crate::words::{datalink, shown};
 use look::Trace;
-use lumbryth::{fixture_name, Container, Ending, Fixture, Gaps, Imported, TailRule};
+use lumbryth::{fixture_name, Container, Ending, Fixture, Gaps, TailRule};
 
 /// The list's name. A reader of fixtures takes only names with -rx. or -tx. that end with .bin.
 pub const NAME: &str = "fixtures.sha256";
@@ -19,6 +20,9 @@ pub const NAME: &str = "fixtures.sha256";
 /// Whether UIH frames with a wrong FCS were passed over. A list that does not say it is of an import that did not look.
 pub const CHECKED: &str = "checked";
 const NOT_CHECKED: &str = "not checked";
+
+/// The link, as `--link` takes it, if the set is of one link and DLCI alone.
+pub const ONE_LINK: &str = "one link";
 
 const TITLE: &str = "# lumbryth fixture set 1";
 const LAST: &str = "# lines above sha256: ";
@@ -44,6 +48,7 @@ pub struct Asked {
     pub tail: TailRule,
     pub check_fcs: bool,
     pub exclude: Vec<String>,
+    pub alone: Option<Alone>,
 }
 
 /// The command in a fixture's name.
@@ -73,41 +78,39 @@ fn container(trace: Trace) -> String {
 }
 
 impl Set {
-    /// The list of an import and the fixtures planned from it.
-    pub fn of(
-        trace: Trace,
-        look: &Look,
-        exclude: &[String],
-        imported: &Imported,
-        gaps: &Gaps,
-        fixtures: &[Fixture],
-    ) -> Set {
+    /// The list of what was found and the fixtures planned from it.
+    pub fn of(trace: Trace, look: &Look, exclude: &[String], list: &List, gaps: &Gaps, fixtures: &[Fixture]) -> Set {
         let fixtures: BTreeMap<String, String> =
             fixtures.iter().map(|fixture| (fixture.name.clone(), sum(&fixture.wire))).collect();
         let name = look.trace.file_name().unwrap_or(look.trace.as_os_str());
         let mut facts = vec![
-            ("bytes", bytes::words(&imported.bytes, In::Frames)),
-            ("channel", look.channel.map_or("any".to_string(), |channel| channel.to_string())),
             ("container", container(trace)),
-            ("dlci", imported.dlci.to_string()),
+            ("dlci", list.dlci().to_string()),
             ("end", end(trace)),
             ("fcs", if look.check_fcs { CHECKED } else { NOT_CHECKED }.to_string()),
             ("fixtures", fixtures.len().to_string()),
-            ("frames", imported.frames.to_string()),
-            ("tail offset", imported.tail.to_string()),
+            ("frames", list.spans().len().to_string()),
             ("tail rule", if look.tolerant { "tolerant" } else { "strict" }.to_string()),
             ("trace length", trace.file.len().to_string()),
             ("trace name", shown(name)),
             ("trace sha256", sum(trace.file)),
-            ("unfinished", imported.unfinished.to_string()),
+            ("unfinished", list.unfinished().to_string()),
         ];
+        match list {
+            List::Import(imported, _) => {
+                facts.push(("bytes", bytes::words(&imported.bytes, In::Frames)));
+                facts.push(("channel", look.channel.map_or("any".to_string(), |channel| channel.to_string())));
+                facts.push(("tail offset", imported.tail.to_string()));
+                facts.extend(look.check_fcs.then(|| ("wrong fcs", imported.wrong_fcs.to_string())));
+            }
+            List::Link(alone, _) => facts.push((ONE_LINK, alone.link.to_string())),
+        }
         facts.extend(exclude.iter().map(|name| ("exclude", name.clone())));
         if exclude.is_empty() {
             facts.push(("exclude", "none".to_string()));
         }
         facts.extend(losses::facts(trace, gaps).into_iter().map(|loss| ("losses", loss)));
-        facts.extend(look.check_fcs.then(|| ("wrong fcs", imported.wrong_fcs.to_string())));
-        for (counter, span) in (1..).zip(&imported.spans) {
+        for (counter, span) in (1..).zip(list.spans()) {
             let reason = match fixture_name(span.ms, counter, span.direction, &span.wire) {
                 Ok(name) if fixtures.contains_key(&name) => continue,
                 Ok(name) => format!("excluded, {}", command_in(&name)),
@@ -174,12 +177,13 @@ impl Set {
         self.facts.iter().filter(|fact| fact.0 == name).map(|fact| &*fact.1).collect()
     }
 
+    /// The link and DLCI that the set is of, if it is of one link alone.
+    pub fn alone(&self) -> Option<Alone> {
+        Some(Alone { link: read_link(self.fact(ONE_LINK)?)?, dlci: read_dlci(self.fact("dlci")?)? })
+    }
+
     /// How the set was asked for, if the list says it.
     pub fn asked(&self) -> Option<Asked> {
-        let channel = match self.fact("channel")? {
-            "any" => None,
-            number => Some(number.parse().ok()?),
-        };
         let tail = match self.fact("tail rule")? {
             "strict" => TailRule::Strict,
             "tolerant" => TailRule::Tolerant,
@@ -190,9 +194,16 @@ impl Set {
             NOT_CHECKED => false,
             _ => return None,
         };
+        let (channel, alone) = match (self.fact("channel"), self.fact(ONE_LINK)) {
+            (Some("any"), None) => (None, None),
+            (Some(number), None) => (Some(number.parse().ok()?), None),
+            // One link is read by the strict rule, with the FCS not checked.
+            (None, Some(_)) if tail == TailRule::Strict && !check_fcs => (None, Some(self.alone()?)),
+            _ => return None,
+        };
         let names = self.all("exclude").into_iter().filter(|name| *name != "none");
         let exclude: Vec<String> = names.map(String::from).collect();
-        exclude.iter().all(|name| is_name(name)).then_some(Asked { channel, tail, check_fcs, exclude })
+        exclude.iter().all(|name| is_name(name)).then_some(Asked { channel, tail, check_fcs, exclude, alone })
     }
 
     /// What became of UIH frames with a wrong FCS.

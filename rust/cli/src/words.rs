@@ -4,8 +4,8 @@ use std::ffi::OsStr;
 use std::fmt::{Display, Write};
 use std::os::unix::ffi::OsStrExt;
 
-use look::{Link, Trace};
-use lumbryth::{Container, Direction};
+use look::Trace;
+use lumbryth::{Container, Direction, Link};
 
 /// A number and what it counts.
 pub fn count(n: usize, one: &str, more: &str) -> String {

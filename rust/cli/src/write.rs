@@ -209,27 +209,36 @@ fn other(found: &Set, set: &Set) -> Option<String> {
         let name = found.fact("trace name").unwrap_or("of no name");
         return Some(format!("the directory has the set of another trace, {name}"));
     }
+    if let Some(links) = of_links(found).filter(|there| of_links(set).as_ref() != Some(there)) {
+        return Some(format!("give another directory to --out, for this one has a set of this trace of {links}"));
+    }
     let (there, here) = found.differences(set);
     if there.is_empty() && here.is_empty() && found.fixtures == set.fixtures {
         return None;
     }
-    let asked: Vec<&str> = ["exclude", "channel", "tail rule", "fcs"]
+    let asked = ["exclude", "channel", "tail rule", "fcs"]
         .into_iter()
         .filter(|name| {
             let of = |facts: &[String]| facts.iter().any(|fact| fact.starts_with(&format!("{name}: ")));
             of(&there) || of(&here)
         })
-        .collect();
-    Some(match asked.first() {
-        Some(name) => {
-            let values = if *name == "fcs" { vec![found.fcs()] } else { found.all(name) };
-            format!(
-                "the directory has a set of this trace that was asked for otherwise, with {name} {}",
-                values.join(" ")
-            )
-        }
+        .map(|name| (name, if name == "fcs" { vec![found.fcs()] } else { found.all(name) }))
+        .find(|(_, values)| !values.is_empty());
+    Some(match asked {
+        Some((name, values)) => format!(
+            "the directory has a set of this trace that was asked for otherwise, with {name} {}",
+            values.join(" ")
+        ),
         None => "the directory has a set of this trace whose list says something else".to_string(),
     })
+}
+
+/// Of which links a set is, if its list says it.
+fn of_links(set: &Set) -> Option<String> {
+    match set.fact(set::ONE_LINK) {
+        None => Some("all links".to_string()),
+        Some(_) => set.alone().map(|alone| alone.to_string()),
+    }
 }
 
 /// Writes files to a directory of their own, and waits once until they are on the disk.

@@ -94,12 +94,15 @@ fn the_example_in_words() {
         DLCI 18 on adapter 0, handle 6: 4 frames, 4 spans, 4 pieces, 0 unfinished.\n\
         DLCI 18 on adapter 1, handle 6: 6 frames, 6 spans, 7 pieces, 1 unfinished.\n\
         Bytes on DLCI 18: 116 taken in, 108 in spans, 8 left without an end marker.\n\
-        DLCI 18: import takes it, with --channel 9 or without.\n";
+        DLCI 18: import takes it, with --channel 9 or without.\n\
+        DLCI 18 on adapter 0, handle 6: import --link 0:6 --dlci 18 takes it alone.\n\
+        DLCI 18 on adapter 1, handle 6: import --link 1:6 --dlci 18 takes it alone.\n";
     assert_eq!(said("channels", &trace), channels);
 
     let found = format!(
         "10 frames, all of which unpack: DLCI 18, channel 9.\n\
         {LIST_SENTENCE}\n\
+        The frames are of 2 links. For one alone: --link 0:6 --dlci 18, or --link 1:6 --dlci 18.\n\
         Bytes on DLCI 18: 116 taken in, 108 in frames, 8 left without an end marker.\n\
         Unfinished on adapter 1, handle 6, received, DLCI 18: 8 bytes are held without an end marker.\n\
         The file ends at a record's end, so whether more was recorded cannot be seen.\n\
@@ -142,7 +145,7 @@ fn the_example_in_objects() {
     let losses = r#""end":"record","losses":{"open":{"count":1,"first":752,"adapter":0}}}"#;
     let text = objects("frames", &trace);
     let lines: Vec<&str> = text.lines().collect();
-    let import = r#"{"kind":"import","dlci":18,"channel":9,"frames":10,"unfinished":1,"check_fcs":false,"wrong_fcs":null,"bytes":{"taken_in":116,"in_spans":108,"dropped":0,"cleared":0,"left":8},"adapters":2,"#;
+    let import = r#"{"kind":"import","dlci":18,"channel":9,"frames":10,"unfinished":1,"check_fcs":false,"wrong_fcs":null,"bytes":{"taken_in":116,"in_spans":108,"dropped":0,"cleared":0,"left":8},"links":["0:6","1:6"],"adapters":2,"#;
     assert_eq!(lines[0], format!("{import}{losses}"));
     assert_eq!(lines[1], r#"{"kind":"unfinished","adapter":1,"handle":6,"direction":"rx","dlci":18,"held":8}"#);
     assert_eq!(lines.len(), 12);
@@ -163,8 +166,8 @@ fn the_example_in_objects() {
     assert_eq!(lines[6..8], told);
     let told = [
         r#"{"kind":"dlci","dlci":18,"channel":9,"pieces":11,"spans":10,"frames":10,"unfinished":1,"wrong_fcs":0,"bytes":{"taken_in":116,"in_spans":108,"dropped":0,"cleared":0,"left":8},"asked_by":9}"#,
-        r#"{"kind":"share","dlci":18,"adapter":0,"handle":6,"pieces":4,"spans":4,"frames":4,"unfinished":0,"bytes":{"taken_in":43,"in_spans":43,"dropped":0,"cleared":0,"left":0}}"#,
-        r#"{"kind":"share","dlci":18,"adapter":1,"handle":6,"pieces":7,"spans":6,"frames":6,"unfinished":1,"bytes":{"taken_in":73,"in_spans":65,"dropped":0,"cleared":0,"left":8}}"#,
+        r#"{"kind":"share","dlci":18,"link":"0:6","adapter":0,"handle":6,"pieces":4,"spans":4,"frames":4,"unfinished":0,"bytes":{"taken_in":43,"in_spans":43,"dropped":0,"cleared":0,"left":0}}"#,
+        r#"{"kind":"share","dlci":18,"link":"1:6","adapter":1,"handle":6,"pieces":7,"spans":6,"frames":6,"unfinished":1,"bytes":{"taken_in":73,"in_spans":65,"dropped":0,"cleared":0,"left":8}}"#,
     ];
     assert_eq!(lines[11..], told);
 }
@@ -371,14 +374,20 @@ fn one_adapter_is_not_named() {
         assert_eq!(listed(&plain), listed(&fs::read(example(name)).unwrap()));
         for adapter in [1, 3, 0xFFFF] {
             let file = as_monitored(name, adapter);
-            assert_eq!(all_said(&place, &file), expected, "{name}, adapter {adapter}");
+            // What --link takes has the index all the same.
+            let said = all_said(&place, &file);
+            let said: Vec<_> =
+                said.iter().map(|text| text.replace(&format!("--link {adapter}:"), "--link 0:")).collect();
+            assert_eq!(said, expected, "{name}, adapter {adapter}");
             // Objects tell it all the same, and that there is one.
             for command in COMMANDS {
                 let text = objects(command, &place.join("trace"));
                 assert!(text.lines().next().unwrap().contains(r#""adapters":1,"#), "{text}");
                 let changed = text.replace(&format!(r#""adapter":{adapter},"#), r#""adapter":0,"#);
+                let changed = changed.replace(&format!(r#""links":["{adapter}:6"]"#), r#""links":["0:6"]"#);
+                let changed = changed.replace(&format!(r#""link":"{adapter}:6""#), r#""link":"0:6""#);
                 assert_eq!(changed, objects(command, &place.file("plain", &plain)));
-                assert_eq!(changed != text, command != "frames" || name == "cut.btsnoop");
+                assert_ne!(changed, text);
             }
         }
     }

@@ -13,9 +13,9 @@ use std::os::unix::ffi::OsStrExt;
 use std::process::{Command, Stdio};
 
 use common::*;
-use look::{look, Link, Seen};
+use look::{look, Seen};
 use lumbryth::Direction::{self, Rx, Tx};
-use lumbryth::{import_stretches_with, import_with, pack, unpack, Refusal, TailRule};
+use lumbryth::{import_stretches_with, import_with, pack, unpack, Link, Refusal, TailRule};
 use trace::pcap::{twin, FORMS};
 use trace::{control, pdu, signal, uih, Trace};
 
@@ -70,6 +70,7 @@ fn shipped_traces() {
         DLCI 18, channel 9: 30 frames, 31 spans, 32 pieces, 0 unfinished.\n\
         Bytes on DLCI 18: 493 taken in, all in spans.\n\
         DLCI 18: import takes it, with --channel 9 or without.\n\
+        DLCI 18 on handle 6: import --link 0:6 --dlci 18 takes it alone.\n\
         DLCI 18: 1 span does not unpack, refusal 17, the frame's checksum is 70 where its bytes give B0.\n";
     assert_eq!(text("headset.btsnoop"), headset);
     let cut = "1 handle, 4 channels, 1 DLCI: datalink 1002.\n\
@@ -84,7 +85,8 @@ fn shipped_traces() {
         DLCI 18, channel 9: 28 frames, 29 spans, 30 pieces, 1 unfinished.\n\
         Bytes on DLCI 18: 478 taken in, 470 in spans, 8 left without an end marker.\n\
         DLCI 18: import --tolerant takes it, with --channel 9 or without.\n\
-        DLCI 18: 1 span does not unpack, refusal 17, the frame's checksum is 70 where its bytes give B0.\n";
+        DLCI 18: 1 span does not unpack, refusal 17, the frame's checksum is 70 where its bytes give B0.\n\
+        Import --link refuses the trace (5), for it reads whole files only.\n";
     assert_eq!(text("cut.btsnoop"), cut);
 }
 
@@ -125,16 +127,20 @@ fn a_second_channel_and_dlcis() {
             "DLCI 18, channel 9: 1 frame, 1 span, 1 piece, 0 unfinished.",
             "Bytes on DLCI 18: 11 taken in, all in spans.",
             "DLCI 18: import takes it, with --channel 9 or without.",
+            "DLCI 18 on handle 6: import --link 0:6 --dlci 18 takes it alone.",
             "DLCI 40, channel 20: 2 frames, 4 spans, 5 pieces, 1 unfinished.",
             "Bytes on DLCI 40: 46 taken in, 44 in spans, 2 left without an end marker.",
             "DLCI 40: import --channel 20 takes it.",
+            "DLCI 40 on handle 6: import --link 0:6 --dlci 40 takes it alone.",
             "DLCI 40: 2 spans do not unpack, refusal 17, the first: the frame's checksum is 30 where its bytes give 70.",
             "DLCI 19, channel 9: 1 frame, 1 span, 1 piece, 0 unfinished.",
             "Bytes on DLCI 19: 11 taken in, all in spans.",
             "DLCI 19: no channel asks for it, for import --channel 9 takes DLCI 18, which comes first.",
+            "DLCI 19 on handle 6: import --link 0:6 --dlci 19 takes it alone.",
             "DLCI 62, channel 31: 0 frames, 1 span, 1 piece, 0 unfinished.",
             "Bytes on DLCI 62: 11 taken in, all in spans.",
             "DLCI 62: import does not take it, for no span unpacks.",
+            "DLCI 62 on handle 6: import --link 0:6 --dlci 62 takes it alone.",
             "DLCI 62: 1 span does not unpack, refusal 17, the frame's checksum is 30 where its bytes give 70.",
             "DLCI 63, channel 31: 0 frames, 0 spans, 1 piece, 0 unfinished.",
             "Bytes on DLCI 63: 3 taken in, 3 dropped before a start marker or for want of one.",
@@ -205,8 +211,12 @@ fn two_handles() {
         "CID 0x0001 tx, signals, 1 PDU, handle 6.",
         "CID 0x0041 rx, admitted, PSM 0x0003, 1 PDU, handle 6.",
         "DLCI 18, channel 9: 3 frames, 3 spans, 3 pieces, 0 unfinished.",
+        "DLCI 18 on handle 64: 2 frames, 2 spans, 2 pieces, 0 unfinished.",
+        "DLCI 18 on handle 6: 1 frame, 1 span, 1 piece, 0 unfinished.",
         "Bytes on DLCI 18: 33 taken in, all in spans.",
         "DLCI 18: import takes it, with --channel 9 or without.",
+        "DLCI 18 on handle 64: import --link 0:64 --dlci 18 takes it alone.",
+        "DLCI 18 on handle 6: import --link 0:6 --dlci 18 takes it alone.",
     ];
     shows(&file, "2 handles, 4 channels, 1 DLCI: datalink 1002.", &lines);
 }
@@ -235,6 +245,7 @@ fn a_cid_for_another_psm() {
         "DLCI 18, channel 9: 2 frames, 2 spans, 2 pieces, 0 unfinished.",
         "Bytes on DLCI 18: 22 taken in, all in spans.",
         "DLCI 18: import takes it, with --channel 9 or without.",
+        "DLCI 18 on handle 6: import --link 0:6 --dlci 18 takes it alone.",
     ];
     shows(&file, "1 handle, 5 channels, 1 DLCI: datalink 1002.", &lines);
     agrees(&file);
@@ -252,6 +263,7 @@ fn guessed_and_passed_over() {
         "DLCI 18, channel 9: 2 frames, 2 spans, 2 pieces, 0 unfinished.",
         "Bytes on DLCI 18: 22 taken in, all in spans.",
         "DLCI 18: import takes it, with --channel 9 or without.",
+        "DLCI 18 on handle 6: import --link 0:6 --dlci 18 takes it alone.",
     ];
     shows(&guessed, "1 handle, 3 channels, 1 DLCI: datalink 1002.", &lines);
     agrees(&guessed);
@@ -276,6 +288,7 @@ fn guessed_and_passed_over() {
         "DLCI 20, channel 10: 1 frame, 1 span, 1 piece, 0 unfinished.",
         "Bytes on DLCI 20: 11 taken in, all in spans.",
         "DLCI 20: import takes it, with --channel 10 or without.",
+        "DLCI 20 on handle 6: import --link 0:6 --dlci 20 takes it alone.",
     ];
     shows(&later, "1 handle, 5 channels, 1 DLCI: datalink 1002.", &lines);
     agrees(&later);
@@ -369,7 +382,12 @@ fn a_cut_file_is_looked_at_up_to_there() {
             let inside = format!("\nThe file ends inside the record that starts at byte {start}: ");
             assert_eq!(text.contains(&inside), start < n, "cut at {n}: {text}");
             assert_eq!(text.contains("\nWhatever came later is missing.\n"), start < n, "cut at {n}: {text}");
-            let last = text.lines().last().unwrap();
+            // Of what has a span nothing is taken by --link, and else nothing is said of it.
+            let refused = text.strip_suffix("Import --link refuses the trace (5), for it reads whole files only.\n");
+            let spans = looked(file).unwrap().dlcis.iter().any(|dlci| dlci.all.spans > 0);
+            assert_eq!(refused.is_some(), start < n && spans, "cut at {n}: {text}");
+            assert_eq!(refused.unwrap_or(&text).contains("--link"), start == n && spans, "cut at {n}: {text}");
+            let last = refused.unwrap_or(&text).lines().last().unwrap();
             assert!(start == n || last.contains("mport --tolerant ") || last.contains("unpack"), "cut at {n}: {text}");
         }
     }
@@ -487,7 +505,7 @@ fn an_object_a_line() {
     assert_eq!(lines[6], told);
     let told = [
         r#"{"kind":"dlci","dlci":40,"channel":20,"pieces":5,"spans":4,"frames":2,"unfinished":1,"wrong_fcs":0,"bytes":{"taken_in":46,"in_spans":44,"dropped":0,"cleared":0,"left":2},"asked_by":20}"#,
-        r#"{"kind":"share","dlci":40,"adapter":0,"handle":6,"pieces":5,"spans":4,"frames":2,"unfinished":1,"bytes":{"taken_in":46,"in_spans":44,"dropped":0,"cleared":0,"left":2}}"#,
+        r#"{"kind":"share","dlci":40,"link":"0:6","adapter":0,"handle":6,"pieces":5,"spans":4,"frames":2,"unfinished":1,"bytes":{"taken_in":46,"in_spans":44,"dropped":0,"cleared":0,"left":2}}"#,
         r#"{"kind":"refused","dlci":40,"refusal":17,"spans":2,"reason":"the frame's checksum is 30 where its bytes give 70"}"#,
         r#"{"kind":"dlci","dlci":19,"channel":9,"pieces":1,"spans":1,"frames":1,"unfinished":0,"wrong_fcs":0,"bytes":{"taken_in":11,"in_spans":11,"dropped":0,"cleared":0,"left":0},"asked_by":null}"#,
     ];

@@ -389,7 +389,7 @@ fn objects_a_line() {
     let text = out(&output);
     let lines: Vec<&str> = text.lines().collect();
     assert_eq!(lines.len(), 31);
-    let first = r#"{"kind":"import","dlci":18,"channel":9,"frames":29,"unfinished":1,"check_fcs":false,"wrong_fcs":null,"bytes":{"taken_in":478,"in_spans":470,"dropped":0,"cleared":0,"left":8},"adapters":1,"end":"cut","offset":2453,"present":30,"missing":13,"losses":{}}"#;
+    let first = r#"{"kind":"import","dlci":18,"channel":9,"frames":29,"unfinished":1,"check_fcs":false,"wrong_fcs":null,"bytes":{"taken_in":478,"in_spans":470,"dropped":0,"cleared":0,"left":8},"links":["0:6"],"adapters":1,"end":"cut","offset":2453,"present":30,"missing":13,"losses":{}}"#;
     assert_eq!(lines[0], first);
     assert_eq!(lines[1], r#"{"kind":"unfinished","adapter":0,"handle":6,"direction":"rx","dlci":18,"held":8}"#);
     let frame = r#"{"kind":"frame","counter":9,"direction":"tx","ms":1715679000195,"wire":"3e0c000000000222003"#;

@@ -115,6 +115,7 @@ fn the_example_in_channels() {
         "DLCI 18, channel 9: 10 frames, 11 spans, 13 pieces, 0 unfinished.",
         "Bytes on DLCI 18: 129 taken in, all in spans.",
         "DLCI 18: import takes it, with --channel 9 or without.",
+        "DLCI 18 on handle 6: import --link 0:6 --dlci 18 takes it alone.",
         "DLCI 18: 3 UIH frames have a wrong FCS, and import --check-fcs passes them over.",
         "DLCI 18: 1 span does not unpack, refusal 17, the frame's checksum is A2 where its bytes give 6A.",
         "DLCI 22, channel 11: 0 frames, 0 spans, 1 piece, 0 unfinished.",
@@ -140,9 +141,9 @@ fn the_example_in_channels() {
 #[test]
 fn the_example_in_objects() {
     let first = |args: &[&str]| out(&asked(args, &example("noisy.btsnoop"))).lines().next().unwrap().to_string();
-    let told = r#"{"kind":"import","dlci":18,"channel":9,"frames":10,"unfinished":0,"check_fcs":true,"wrong_fcs":3,"bytes":{"taken_in":110,"in_spans":110,"dropped":0,"cleared":0,"left":0},"adapters":1,"end":"record","losses":{}}"#;
+    let told = r#"{"kind":"import","dlci":18,"channel":9,"frames":10,"unfinished":0,"check_fcs":true,"wrong_fcs":3,"bytes":{"taken_in":110,"in_spans":110,"dropped":0,"cleared":0,"left":0},"links":["0:6"],"adapters":1,"end":"record","losses":{}}"#;
     assert_eq!(first(&["frames", "--json", "--check-fcs"]), told);
-    let told = r#"{"kind":"import","dlci":18,"channel":9,"frames":11,"unfinished":0,"check_fcs":false,"wrong_fcs":null,"bytes":{"taken_in":129,"in_spans":129,"dropped":0,"cleared":0,"left":0},"adapters":1,"end":"record","losses":{}}"#;
+    let told = r#"{"kind":"import","dlci":18,"channel":9,"frames":11,"unfinished":0,"check_fcs":false,"wrong_fcs":null,"bytes":{"taken_in":129,"in_spans":129,"dropped":0,"cleared":0,"left":0},"links":["0:6"],"adapters":1,"end":"record","losses":{}}"#;
     assert_eq!(first(&["frames", "--json"]), told);
 }
 

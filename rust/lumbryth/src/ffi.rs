@@ -87,6 +87,21 @@ extern "C" {
         values: *mut u64,
         values_len: usize,
     ) -> u32;
+    fn lumbryth_one_link_with(
+        file: *const u8,
+        file_len: usize,
+        work: *mut u8,
+        work_len: usize,
+        out: *mut u8,
+        out_len: usize,
+        index: u16,
+        handle: u16,
+        dlci: u8,
+        options: *const u64,
+        options_len: usize,
+        values: *mut u64,
+        values_len: usize,
+    ) -> u32;
     fn lumbryth_import_stretches(
         file: *const u8,
         file_len: usize,
@@ -257,6 +272,36 @@ pub fn sizes_with(file: &[u8], work: &mut [u8], options: &[u64], values: &mut [u
             file.len(),
             work.as_mut_ptr(),
             work.len(),
+            options.as_ptr(),
+            options.len(),
+            values.as_mut_ptr(),
+            values.len(),
+        )
+    }
+}
+
+/// The link is an adapter's index and a handle.
+pub fn one_link_with(
+    file: &[u8],
+    work: &mut [u8],
+    out: &mut [u8],
+    link: (u16, u16),
+    dlci: u8,
+    options: &[u64],
+    values: &mut [u64],
+) -> u32 {
+    // Safety: as for `import_with`; numbers may be any.
+    unsafe {
+        lumbryth_one_link_with(
+            file.as_ptr(),
+            file.len(),
+            work.as_mut_ptr(),
+            work.len(),
+            out.as_mut_ptr(),
+            out.len(),
+            link.0,
+            link.1,
+            dlci,
             options.as_ptr(),
             options.len(),
             values.as_mut_ptr(),

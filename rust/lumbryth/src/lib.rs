@@ -49,6 +49,18 @@
 //! assert_eq!((imported.dlci, imported.frames, imported.wrong_fcs), (18, 10, 3));
 //! # Ok::<(), Box<dyn std::error::Error>>(())
 //! ```
+//!
+//! Where two headsets share a desk, one file has both, and an import gives them in one list. [`one_link`] gives the spans of one of
+//! them, by the adapter's index, the handle and the DLCI.
+//!
+//! ```
+//! use lumbryth::{one_link, Link};
+//!
+//! let file = std::fs::read("../../examples/two-adapters.btsnoop")?;
+//! let list = one_link(&file, Link { adapter: 1, handle: 6 }, 18)?;
+//! assert_eq!((list.spans.len(), list.unfinished), (6, 1));
+//! # Ok::<(), Box<dyn std::error::Error>>(())
+//! ```
 
 #![deny(missing_docs)]
 #![deny(unsafe_code)]
@@ -59,6 +71,8 @@ mod ffi;
 mod items;
 mod kind;
 mod refusal;
+
+use std::fmt;
 
 pub use container::Container;
 pub use kind::FrameType;
@@ -326,6 +340,11 @@ pub struct Stretch {
 }
 
 impl Stretch {
+    /// Its connection.
+    pub fn link(&self) -> Link {
+        Link { adapter: self.adapter, handle: self.handle }
+    }
+
     /// A stretch as the library tells it: its way is 2 * link + direction, and link is 4096 * adapter + handle.
     fn of(raw: &ffi::Stretch) -> Stretch {
         let link = raw.way / 2;
@@ -340,6 +359,37 @@ impl Stretch {
             held: raw.held as usize,
         }
     }
+}
+
+/// A connection: an adapter's index and a handle, since two adapters may use the same handle. It is written `INDEX:HANDLE`.
+///
+/// ```
+/// use lumbryth::Link;
+///
+/// assert_eq!(Link { adapter: 1, handle: 6 }.to_string(), "1:6");
+/// ```
+#[derive(Debug, Clone, Copy, PartialEq, Eq, PartialOrd, Ord, Hash)]
+pub struct Link {
+    /// The adapter's index, by which a trace of datalink 2001 tells adapters apart; 0 for 1001, 1002 and pcap.
+    pub adapter: u16,
+    /// The handle, 0 to 4095.
+    pub handle: u16,
+}
+
+impl fmt::Display for Link {
+    fn fmt(&self, f: &mut fmt::Formatter<'_>) -> fmt::Result {
+        write!(f, "{}:{}", self.adapter, self.handle)
+    }
+}
+
+/// What [`one_link`] found.
+#[derive(Debug, Clone, PartialEq, Eq, Hash)]
+#[non_exhaustive]
+pub struct LinkList {
+    /// The spans of the link and DLCI, in the order in which they were complete, also those that do not unpack. There may be none.
+    pub spans: Vec<Span>,
+    /// How many stretches and directions of the link and DLCI held bytes without an end marker, 3C, at the end.
+    pub unfinished: usize,
 }
 
 /// A file to write: a frame with its name.
@@ -572,7 +622,7 @@ pub fn capture_order<N: AsRef<[u8]>>(names: &[N]) -> Result<Vec<Vec<u8>>, Refusa
 ///
 /// A trace of datalink 2001 may be of several adapters. Connections are told apart by the
 /// adapter's index and the handle. The spans of all of them come in one list, which does not
-/// tell whose they are.
+/// tell whose they are; [`one_link`] gives those of one connection.
 ///
 /// ```
 /// use lumbryth::{import, Refusal, TailRule};
@@ -676,6 +726,66 @@ fn sizes_in(file: &[u8], work: &mut [u8], options: &[u64]) -> Result<Sizes, Refu
         }),
         number => Err(Refusal::of(number, &values)),
     }
+}
+
+/// The spans of one connection and one DLCI of a btsnoop file, as of one of two headsets at one desk. The DLCI is 1 to 63, and not a
+/// channel: 18 and 19 are two lists.
+///
+/// The file is read by the strict rule, and the FCS is not checked. Nothing has to unpack, and the list may be empty: a connection
+/// that has no packet in the file has an empty list, and is not refused. Refuses as [`import`] does by the strict rule, but for
+/// [`Refusal::NoStream`], and with [`Refusal::NoLink`].
+///
+/// What is given depends on that connection's own ACL packets alone, which is proved: two files that are not refused and hold the
+/// same ones, with the same times, directions and order, give the same, whatever else differs.
+///
+/// ```
+/// use lumbryth::{import, one_link, Link, Refusal, TailRule};
+///
+/// // Two adapters with a headset each, which both have handle 6.
+/// let file = std::fs::read("../../examples/two-adapters.btsnoop")?;
+/// let one = one_link(&file, Link { adapter: 0, handle: 6 }, 18)?;
+/// assert_eq!((one.spans.len(), one.unfinished), (4, 0));
+/// let other = one_link(&file, Link { adapter: 1, handle: 6 }, 18)?;
+/// assert_eq!((other.spans.len(), other.unfinished), (6, 1));
+///
+/// // An import has both in one list.
+/// let imported = import(&file, None, TailRule::Strict)?;
+/// assert_eq!((imported.dlci, imported.frames, imported.unfinished), (18, 10, 1));
+///
+/// assert_eq!(one_link(&file, Link { adapter: 2, handle: 6 }, 18)?.spans, []);
+/// assert_eq!(one_link(&file, Link { adapter: 0, handle: 4096 }, 18), Err(Refusal::NoLink));
+/// # Ok::<(), Box<dyn std::error::Error>>(())
+/// ```
+pub fn one_link(file: &[u8], link: Link, dlci: u8) -> Result<LinkList, Refusal> {
+    one_link_with(file, link, dlci, &Options::default())
+}
+
+/// The spans of one connection and one DLCI of a btsnoop or a pcap file, as [`one_link`] gives them. Of the options, only the
+/// container is looked at.
+///
+/// ```
+/// use lumbryth::{one_link_with, Container, Link, Options};
+///
+/// let file = std::fs::read("../../examples/headset.pcap")?;
+/// let pcap = Options::default().with_container(Container::Pcap);
+/// let list = one_link_with(&file, Link { adapter: 0, handle: 6 }, 18, &pcap)?;
+/// assert_eq!((list.spans.len(), list.unfinished), (31, 0));
+///
+/// // In pcap all packets are of index 0.
+/// assert_eq!(one_link_with(&file, Link { adapter: 1, handle: 6 }, 18, &pcap)?.spans, []);
+/// # Ok::<(), Box<dyn std::error::Error>>(())
+/// ```
+pub fn one_link_with(file: &[u8], link: Link, dlci: u8, options: &Options) -> Result<LinkList, Refusal> {
+    let (link, options) = ((link.adapter, link.handle), options.numbers());
+    link_list(file, |work, list, values| ffi::one_link_with(file, work, list, link, dlci, &options, values))
+}
+
+/// Runs a call that gives one link's list with work and exactly as much output as the list takes. An empty output asks for that, and
+/// is enough for an empty list.
+fn link_list(file: &[u8], mut call: impl FnMut(&mut [u8], &mut [u8], &mut [u64]) -> u32) -> Result<LinkList, Refusal> {
+    let mut work = vec![0; 8 * lent(file)];
+    let (list, values) = with_output(0, |list, values| call(&mut work, list, values))?;
+    Ok(LinkList { spans: items::spans(&list), unfinished: values[1] as usize })
 }
 
 /// Imports as [`import`] does, and tells the stretches of the DLCI that hold bytes at the end, as many
@@ -995,7 +1105,7 @@ pub fn ending_with(file: &[u8], options: &Options) -> Result<Ending, Refusal> {
 
 #[cfg(test)]
 mod tests {
-    use super::{ffi, imported, sizes_with, with_list, Container, Options, Refusal, TailRule, VALUES};
+    use super::{ffi, imported, link_list, sizes_with, with_list, Container, Options, Refusal, TailRule, VALUES};
 
     /// An import is lent its work once, and exactly as much output as its list takes; with a byte less it is refused.
     #[test]
@@ -1027,6 +1137,31 @@ mod tests {
             let spans = imported(&list, &values).spans;
             assert_eq!(spans.iter().map(|span| 14 + span.wire.len()).sum::<usize>(), needed);
         }
+    }
+
+    /// One link's list is asked for with no output, and then lent exactly what it takes; an empty list is there at once.
+    #[test]
+    fn one_link_is_lent_what_it_needs() {
+        let file = include_bytes!("../../../examples/two-adapters.btsnoop");
+        let options = Options::default().numbers();
+        for (link, needed) in [((0, 6), 99), ((1, 6), 149), ((2, 6), 0)] {
+            let mut lent = Vec::new();
+            let list = link_list(file, |work, list, values| {
+                lent.push((work.len(), list.len()));
+                ffi::one_link_with(file, work, list, link, 18, &options, values)
+            })
+            .unwrap();
+            assert_eq!(list.spans.iter().map(|span| 14 + span.wire.len()).sum::<usize>(), needed);
+            let outputs = if needed == 0 { vec![0] } else { vec![0, needed] };
+            assert_eq!(lent, outputs.into_iter().map(|n| (8 * file.len(), n)).collect::<Vec<_>>());
+        }
+        // What is refused is asked for once.
+        let mut asked = 0;
+        let refused = link_list(file, |work, list, values| {
+            asked += 1;
+            ffi::one_link_with(file, work, list, (0, 6), 64, &options, values)
+        });
+        assert_eq!((refused, asked), (Err(Refusal::NoLink), 1));
     }
 
     /// What the sizes refuse is not imported, and no output is lent for it.

@@ -81,12 +81,14 @@ pub enum Refusal {
     NotPcap,
     /// 22: of a pcap file, in the place of 4: a link type other than 201. All 4 bytes of the field count.
     LinkType(u32),
+    /// 23: of what is asked for of one link, right after 5: a handle over 4095, or a DLCI that is not 1 to 63.
+    NoLink,
     /// A number that this crate does not know: the library that is linked is not the one that it was written for.
     Unknown(u32),
 }
 
 impl Refusal {
-    /// The refusal's number, 1 to 22 if it is known.
+    /// The refusal's number, 1 to 23 if it is known.
     pub fn number(self) -> u32 {
         match self {
             Refusal::FileLong => 1,
@@ -109,6 +111,7 @@ impl Refusal {
             Refusal::NamesIll { .. } => 20,
             Refusal::NotPcap => 21,
             Refusal::LinkType(_) => 22,
+            Refusal::NoLink => 23,
             Refusal::Unknown(number) => number,
         }
     }
@@ -136,6 +139,7 @@ impl Refusal {
             20 => Refusal::NamesIll { offset: values[0] as usize },
             21 => Refusal::NotPcap,
             22 => Refusal::LinkType(values[0] as u32),
+            23 => Refusal::NoLink,
             other => Refusal::Unknown(other),
         }
     }
@@ -184,6 +188,9 @@ impl fmt::Display for Refusal {
             Refusal::LinkType(n) => {
                 write!(f, "the trace has link type {n}, and only 201, Bluetooth HCI H4 with direction, can be read")
             }
+            Refusal::NoLink => {
+                write!(f, "there is no such handle or no such DLCI: a handle is 0 to 4095, a DLCI 1 to 63")
+            }
             Refusal::Unknown(number) => {
                 write!(f, "the linked library refused with {number}, which this program does not know")
             }
@@ -202,7 +209,7 @@ mod tests {
         for number in 0..300 {
             let refusal = Refusal::of(number, &[1, 2, 3, 4, 5]);
             assert_eq!(refusal.number(), number);
-            let known = matches!(number, 1..=7 | 10..=22);
+            let known = matches!(number, 1..=7 | 10..=23);
             assert_eq!(refusal == Refusal::Unknown(number), !known, "{number}");
             assert!(!refusal.to_string().is_empty());
         }

@@ -1,5 +1,5 @@
 //! The calls by document 01's examples: each refusal with its number, values and words, and what is empty, long or full. Then the
-//! same of pcap files, imports that check the FCS, and sizes.
+//! same of pcap files, imports that check the FCS, sizes, and one link's list.
 
 #[allow(dead_code)]
 #[path = "../../../examples/trace/mod.rs"]
@@ -7,9 +7,9 @@ mod trace;
 
 use lumbryth::{
     capture_order, cut, cut_with, ending, ending_with, fixture_name, gaps, gaps_with, import, import_stretches,
-    import_stretches_with, import_with, is_command_name, pack, plan, records, records_with, sizes, sizes_with, unpack,
-    Container, Direction, Ending, Fixture, Frame, FrameType, Gap, Gaps, Options, Records, Refusal, Sizes, Span,
-    TailRule,
+    import_stretches_with, import_with, is_command_name, one_link, one_link_with, pack, plan, records, records_with,
+    sizes, sizes_with, unpack, Container, Direction, Ending, Fixture, Frame, FrameType, Gap, Gaps, Link, LinkList,
+    Options, Records, Refusal, Sizes, Span, TailRule,
 };
 use trace::pcap::{twin, Form, FORMS, PLAIN};
 use trace::{control, uih, Trace};
@@ -1114,4 +1114,172 @@ fn sizes_of_full_files() {
     let options = Options::default().with_tail(tail);
     assert_eq!((n, sized(&file, &options)), (31, Ok([23 + 32 * 16_000 * 16, 33, 33, 33])));
     sizes_fit(&file, &options);
+}
+
+/// The link of document 01's example.
+const LINK: Link = Link { adapter: 0, handle: 0x40 };
+
+/// Directions and wires of one link's list, and how many buffers are unfinished; the same of the file's packets in pcap.
+#[track_caller]
+fn listed(file: &[u8], link: Link, dlci: u8) -> (Vec<(Direction, Vec<u8>)>, usize) {
+    let list = one_link(file, link, dlci).unwrap();
+    if file[12..16] != 2001_u32.to_be_bytes() {
+        for form in FORMS {
+            assert_eq!(one_link_with(&twin(file, form), link, dlci, &strict()).as_ref(), Ok(&list), "{form:?}");
+        }
+    }
+    (list.spans.into_iter().map(|span| (span.direction, span.wire)).collect(), list.unfinished)
+}
+
+#[test]
+fn one_link_refused() {
+    let none = Link { handle: 4096, ..LINK };
+    refused(one_link(&[0; 1_048_577], none, 0), Refusal::FileLong, 1, &["1048576"]);
+    refused(one_link(&[], none, 0), Refusal::NotBtsnoop, 3, &["btsnoop"]);
+    let mut other = EXAMPLE;
+    other[15] = 0xEB;
+    refused(one_link(&other, none, 0), Refusal::Datalink(1003), 4, &["1003"]);
+    for n in 17..62 {
+        refused(one_link(&EXAMPLE[..n], none, 0), Refusal::Truncated { offset: 16 }, 5, &["byte 16"]);
+        refused(one_link(&EXAMPLE[..n], LINK, 18), Refusal::Truncated { offset: 16 }, 5, &["byte 16"]);
+    }
+    for handle in [4096, 4096 + 0x40, 0xFFFF] {
+        let link = Link { handle, ..LINK };
+        refused(one_link(&EXAMPLE, link, 18), Refusal::NoLink, 23, &["0 to 4095", "1 to 63"]);
+        refused(one_link(&EXAMPLE[..16], link, 18), Refusal::NoLink, 23, &[]);
+    }
+    for dlci in [0, 64, 64 + 18, 255] {
+        refused(one_link(&EXAMPLE, LINK, dlci), Refusal::NoLink, 23, &[]);
+    }
+    // The container is asked for; of other options none counts.
+    let file = twin(&EXAMPLE, PLAIN);
+    refused(one_link(&file, LINK, 18), Refusal::NotBtsnoop, 3, &[]);
+    refused(one_link_with(&EXAMPLE, LINK, 18, &strict()), Refusal::NotPcap, 21, &[]);
+    refused(one_link_with(&file, none, 18, &strict()), Refusal::NoLink, 23, &[]);
+    refused(one_link_with(&file[..65], none, 18, &tolerant()), Refusal::Truncated { offset: 24 }, 5, &[]);
+    let mut other = file.clone();
+    other[20] = 187;
+    refused(one_link_with(&other, none, 0, &strict()), Refusal::LinkType(187), 22, &["187"]);
+    let list = one_link_with(&file, LINK, 18, &tolerant().with_channel(3).with_check_fcs(true));
+    assert_eq!(list, one_link(&EXAMPLE, LINK, 18));
+}
+
+#[test]
+fn one_link_of_the_example() {
+    let frame = (vec![(Direction::Rx, EXAMPLE[52..61].to_vec())], 0);
+    assert_eq!(listed(&EXAMPLE, LINK, 18), frame);
+    assert_eq!(one_link(&EXAMPLE, LINK, 18).unwrap().spans[0].ms, 0);
+    // Another handle, another index or another DLCI has nothing, and a file without records neither.
+    let empty = (Vec::new(), 0);
+    for (link, dlci) in [
+        (Link { handle: 0x41, ..LINK }, 18),
+        (Link { handle: 0, ..LINK }, 18),
+        (Link { adapter: 1, ..LINK }, 18),
+        (Link { adapter: 0xFFFF, handle: 4095 }, 18),
+        (LINK, 19),
+        (LINK, 9),
+        (LINK, 1),
+        (LINK, 63),
+    ] {
+        assert_eq!(listed(&EXAMPLE, link, dlci), empty, "{link}, DLCI {dlci}");
+    }
+    assert_eq!(listed(&EXAMPLE[..16], LINK, 18), empty);
+    assert_eq!(
+        (LINK.to_string(), Link { adapter: 0xFFFF, handle: 4095 }.to_string()),
+        ("0:64".into(), "65535:4095".into())
+    );
+}
+
+/// What is listed: all spans of the DLCI, in order of completion, whether they unpack or not and whatever their FCS.
+#[test]
+fn what_one_link_lists() {
+    use Direction::{Rx, Tx};
+    let wire = |seq| pack(0x01, seq, &[]).unwrap();
+    let file = frames_of(&[
+        (Rx, uih(18, false, None, &wire(1)[..4])),
+        (Tx, uih(18, true, None, &[&[0x3C], &wire(2)[..], &[0x3E, 0x3C, 0x3E]].concat())),
+        (Rx, uih(19, false, None, &wire(3))),
+        (Rx, wrong(uih(18, false, None, &wire(1)[4..]))),
+        (Rx, uih(40, false, None, &[0x3E, 0x00, 0x3C])),
+        (Rx, uih(63, false, None, &[0x3E])),
+        (Rx, uih(1, false, Some(3), &wire(4))),
+        (Rx, uih(0, false, None, &wire(5))),
+    ]);
+    let lists = [
+        (18, vec![(Tx, wire(2)), (Tx, vec![0x3E, 0x3C]), (Rx, wire(1))], 1),
+        (19, vec![(Rx, wire(3))], 0),
+        (40, vec![(Rx, vec![0x3E, 0x00, 0x3C])], 0),
+        (63, vec![], 1),
+        (1, vec![(Rx, wire(4))], 0),
+        (20, vec![], 0),
+    ];
+    for (dlci, spans, unfinished) in lists {
+        assert_eq!(listed(&file, LINK, dlci), (spans, unfinished), "DLCI {dlci}");
+    }
+    // A SABM begins a link, also by a wrong FCS; what is held before it stays, and is unfinished.
+    let opened = frames_of(&[
+        (Rx, uih(18, false, None, &[0x3E])),
+        (Tx, wrong(control(18, true, 0x3F))),
+        (Rx, uih(18, false, None, &[0x3E, 0x3C, 0x3E])),
+        (Tx, control(0, true, 0x2F)),
+        (Rx, uih(18, false, None, &[0x3E])),
+    ]);
+    assert_eq!(listed(&opened, LINK, 18), (vec![(Rx, vec![0x3E, 0x3C])], 3));
+}
+
+/// Two links with one handle, and one with another: each as if the others were not there.
+#[test]
+fn links_apart() {
+    use Direction::{Rx, Tx};
+    let wire = |seq| pack(0x01, seq, &[]).unwrap();
+    let piece = |wire: &[u8]| trace::pdu(0x41, &uih(18, false, None, wire));
+    let whole = |seq| piece(&wire(seq));
+    let mut trace = Trace::new(2001);
+    let mut send = |adapter, handle, direction, first, data: &[u8]| {
+        trace.adapter = adapter;
+        trace.fragment(direction, 0, handle, first, data);
+    };
+    // Between the fragments and pieces of one: fragments of another, names of its channel for another service, a session asked
+    // for, a link opened.
+    send(0, 6, Rx, true, &whole(1)[..9]);
+    send(1, 6, Rx, true, &whole(2)[..5]);
+    send(0, 7, Rx, true, &whole(3));
+    send(0, 6, Rx, false, &whole(1)[9..]);
+    send(1, 6, Rx, false, &whole(2)[5..]);
+    send(0, 6, Rx, true, &piece(&wire(4)[..3]));
+    send(1, 6, Tx, true, &trace::signal(2, 1, &[3, 0x50]));
+    send(1, 6, Rx, true, &trace::pdu(0x41, &control(18, true, 0x3F)));
+    send(0, 7, Tx, true, &trace::signal(2, 1, &[0x1001, 0x41]));
+    send(0, 6, Rx, true, &piece(&wire(4)[3..]));
+    send(1, 6, Rx, true, &piece(&wire(5)[..3]));
+    let spans = |seqs: &[u8]| seqs.iter().map(|seq| (Rx, wire(*seq))).collect::<Vec<_>>();
+    let file = trace.file;
+    let list = |adapter, handle| listed(&file, Link { adapter, handle }, 18);
+    assert_eq!(list(0, 6), (spans(&[1, 4]), 0));
+    assert_eq!(list(1, 6), (spans(&[2]), 1));
+    // It is named for another service, by its own request alone.
+    assert_eq!(list(0, 7), (vec![], 0));
+    let imported = import(&file, None, TailRule::Strict).unwrap();
+    assert_eq!((imported.frames, imported.unfinished), (3, 1));
+}
+
+/// The longest list: spans of two bytes take eight times as much.
+#[test]
+fn one_link_of_a_full_file() {
+    let information = [0x3E, 0x3C].repeat(16_000);
+    let mut trace = Trace::new(1002);
+    while trace.file.len() < 1_010_000 {
+        trace.fragment(Direction::Rx, 0, 64, true, &trace::pdu(0x41, &uih(18, false, None, &information)));
+    }
+    let LinkList { spans, unfinished, .. } = one_link(&trace.file, LINK, 18).unwrap();
+    assert_eq!((spans.len(), unfinished), (16_000 * trace.starts.len(), 0));
+    assert_eq!(one_link(&trace.file, LINK, 18).unwrap().spans.len() * 16, 8_192_000);
+    assert!(spans.iter().all(|span| span.wire == [0x3E, 0x3C] && span.direction == Direction::Rx));
+    assert_eq!(listed(&trace.file, Link { adapter: 0, handle: 65 }, 18), (vec![], 0));
+    // A cleared buffer is not unfinished; what follows is dropped up to a start marker.
+    let long = |n: usize| uih(18, false, None, &vec![0x3E; n]);
+    let frames: Vec<_> = [30_000, 30_000, 5_536].map(|n| (Direction::Rx, long(n))).to_vec();
+    assert_eq!(listed(&frames_of(&frames), LINK, 18), (vec![], 1));
+    let frames: Vec<_> = [30_000, 30_000, 5_537].map(|n| (Direction::Rx, long(n))).to_vec();
+    assert_eq!(listed(&frames_of(&frames), LINK, 18), (vec![], 0));
 }

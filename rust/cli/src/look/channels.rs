@@ -2,10 +2,11 @@
 
 use std::collections::HashMap;
 
-use crate::packets::{Link, Packet};
+use crate::packets::Packet;
 use crate::pdus::Pdu;
 use crate::signals::{signals, Key, Signal, RFCOMM, SIGNALS};
 use lumbryth::Direction::{self, Rx};
+use lumbryth::Link;
 
 /// How many there are each way.
 #[derive(Debug, Clone, Copy, PartialEq, Eq, Default)]

@@ -17,7 +17,6 @@ mod signals;
 mod trace;
 
 pub use channels::{Channel, Handle, Standing, Ways};
-pub use packets::Link;
 pub use records::{Kind, Record};
 pub use rfcomm::{Dlci, Refused, Share};
 pub use trace::Trace;
@@ -25,7 +24,7 @@ pub use trace::Trace;
 use std::collections::BTreeSet;
 
 use channels::Channels;
-use lumbryth::Refusal;
+use lumbryth::{Link, Refusal};
 use packets::Held;
 use pdus::Joining;
 use rfcomm::Lines;
@@ -63,14 +62,19 @@ impl Seen {
     }
 }
 
-/// The adapters of a trace that have a packet with data, recorded whole; none if the trace is refused.
-pub fn adapters(trace: Trace) -> BTreeSet<u16> {
+/// The connections of a trace that have a packet with data, recorded whole; none if the trace is refused.
+pub fn links(trace: Trace) -> BTreeSet<Link> {
     let Ok(found) = trace.records() else { return BTreeSet::new() };
-    let adapter = |held| match held {
-        Held::Packet(packet) => Some(packet.link.adapter),
+    let link = |held| match held {
+        Held::Packet(packet) => Some(packet.link),
         Held::Short | Held::Other => None,
     };
-    packets::each(trace, &found.starts).filter_map(adapter).collect()
+    packets::each(trace, &found.starts).filter_map(link).collect()
+}
+
+/// The adapters of those.
+pub fn adapters(trace: Trace) -> BTreeSet<u16> {
+    links(trace).iter().map(|link| link.adapter).collect()
 }
 
 /// Looks inside a trace, up to where it ends if that is inside a record. With `check_fcs`, UIH frames with a wrong FCS are passed

@@ -2,15 +2,7 @@
 
 use crate::records::Kind;
 use crate::trace::Trace;
-use lumbryth::Direction;
-
-/// A connection: an adapter's index and a handle, which two adapters may have in common.
-#[derive(Debug, Clone, Copy, PartialEq, Eq, PartialOrd, Ord, Hash)]
-pub struct Link {
-    /// 0 but for datalink 2001.
-    pub adapter: u16,
-    pub handle: u16,
-}
+use lumbryth::{Direction, Link};
 
 /// A packet: a fragment of a PDU.
 pub struct Packet<'a> {

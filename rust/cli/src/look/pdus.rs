@@ -2,8 +2,8 @@
 
 use std::collections::HashMap;
 
-use crate::packets::{le16, Link, Packet};
-use lumbryth::Direction;
+use crate::packets::{le16, Packet};
+use lumbryth::{Direction, Link};
 
 /// A PDU.
 pub struct Pdu {

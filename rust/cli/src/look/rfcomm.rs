@@ -2,10 +2,9 @@
 
 use std::collections::HashMap;
 
-use crate::packets::Link;
 use crate::pdus::Pdu;
 use crate::signals::{asks_session, Key};
-use lumbryth::{unpack, Account, Refusal};
+use lumbryth::{unpack, Account, Link, Refusal};
 
 /// The most bytes that wait for their end marker.
 const HELD_MAX: usize = 65_536;

@@ -1,0 +1,9 @@
+pub mod Independence
+pub mod Signalled
+pub mod Filtered
+pub mod Found
+pub mod Merged
+pub mod OwnRecords
+pub mod Made
+pub mod Examples
+pub mod Captured
