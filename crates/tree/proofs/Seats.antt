@@ -129,6 +129,17 @@ module _ (w : List ℕ) (t : Table) (k i : ℕ) (p : SeekPre w t) (e : find_in w
       (front_put (4 * t.at.rows) w (t.at.rows + 4 * i + 2) y (omega arith))
       (length_put w (t.at.rows + 4 * i + 2) y))
 
+  -- both
+  pub valued_both : (y z : ℕ) (v u : List ℕ) → v ≡ put_word w (t.at.rows + 4 * i + 2) y → u ≡ put_word v (t.at.rows + 4 * i + 3) z → Valued w t k i y z u
+  valued_both y z v u ev eu = rw (eu, ev) (valued y z (put_word m (t.at.rows + 4 * i + 3) z)
+      (word_put_other m (t.at.rows + 4 * i + 3) z (t.at.rows + 4 * i + 2) (λ q. omega arith) ∙ word_put_same w (t.at.rows + 4 * i + 2) y (omega (arith, less, p.stands.rows, p.stands.room)))
+      (word_put_same m (t.at.rows + 4 * i + 3) z (rw (length_put w (t.at.rows + 4 * i + 2) y) (omega (arith, less, p.stands.rows, p.stands.room))))
+      (λ j a b. word_put_other m (t.at.rows + 4 * i + 3) z j b ∙ word_put_other w (t.at.rows + 4 * i + 2) y j a)
+      (front_then (4 * t.at.rows) _ m w (front_put (4 * t.at.rows) m (t.at.rows + 4 * i + 3) z (omega arith)) (front_put (4 * t.at.rows) w (t.at.rows + 4 * i + 2) y (omega arith)))
+      (length_put m (t.at.rows + 4 * i + 3) z ∙ length_put w (t.at.rows + 4 * i + 2) y)) where
+        m : List ℕ
+        m = put_word w (t.at.rows + 4 * i + 2) y
+
 -- ---- after seat
 
 module _ (w : List ℕ) (t : Table) (row : Row) (u : List ℕ) (r : Seating) (s : Seated w t row u r) where
@@ -171,3 +182,6 @@ module _ (w : List ℕ) (t : Table) (row : Row) (u : List ℕ) (r : Seating) (s 
 
     pub seat_first : (y : ℕ) (v : List ℕ) → v ≡ put_word u (t.at.rows + 4 * r.at + 2) y → Entered w t (record { key = row.key; a = y; b = word u (t.at.rows + 4 * r.at + 3) }) v r.rows
     seat_first y v e = seated_valued y (word u (t.at.rows + 4 * r.at + 3)) v (valued_first u (record { at = t.at; count = r.rows }) row.key r.at seated_seek s.own y v e)
+
+    pub seat_both : (y z : ℕ) (m v : List ℕ) → m ≡ put_word u (t.at.rows + 4 * r.at + 2) y → v ≡ put_word m (t.at.rows + 4 * r.at + 3) z → Entered w t (record { key = row.key; a = y; b = z }) v r.rows
+    seat_both y z m v em ev = seated_valued y z v (valued_both u (record { at = t.at; count = r.rows }) row.key r.at seated_seek s.own y z m v em ev)
