@@ -1,5 +1,5 @@
 -- Where escaping is first broken: pair by pair, part by part, and what unescaping says of it.
-use Rattle.std.proofs.Common.{◌≡◌, ℕ, zero, suc, ◌+◌, ◌-◌, ◌%◌, ◌<◌, ◌≤◌, Bool, true, false, cond, not, eqb, List, [], ◌∷◌, length, get_or, take, drop, sym, refl, ap, ◌∙◌, subst, arith, length-drop, length-take-le, take-take, take-append-drop, append-nil, eq-eqb, ne_eqb, eqb-true}
+use Rattle.std.proofs.Common.{◌≡◌, ℕ, zero, suc, ◌+◌, ◌-◌, ◌%◌, ◌<◌, ◌≤◌, Bool, true, false, cond, not, eqb, List, [], ◌∷◌, length, get_or, take, drop, sym, refl, ap, ◌∙◌, subst, arith, length-drop, length-take-le, take-take, drop-drop, take-append-drop, append-nil, eq-eqb, ne_eqb, eqb-true}
 use lib.Seq.{take-nil, take-length}
 use Rattle.std.proofs.lemmas.List.{take_rest}
 use borrow.Author.Tests.{eqb-false}
@@ -9,7 +9,7 @@ use Rattle.laws.specs.Answers.{refused, Outcome, gives, refuses}
 use Rattle.mdr.specs.Escape.{within, escapee, push, unescape}
 use Rattle.mdr.proofs.Escaping.{within_range}
 use Rattle.blocks.specs.Blocks.{Tallied}
-use Rattle.unescaping.specs.Flaws.{sentries, Measured, is_breach, breaches, breaches_after, flaw_of, FrontPart, KeptIf, LastPart, SoundIf, ScannedIs}
+use Rattle.unescaping.specs.Flaws.{sentries, Measured, is_breach, breaches, breaches_after, flaw_of, FrontPart, KeptIf, LastPart, SoundIf, EndOf, ScannedIs}
 use Rattle.unescaping.specs.Places.{bytes_of}
 use Rattle.blocks.specs.declared.Totals.{Totals}
 use Rattle.unescaping.specs.declared.Scanned.{Scanned}
@@ -232,12 +232,34 @@ module _ (l : List ℕ) (hits : ℕ) (p : LastPart l hits) where
 pub sound_unknown : (l : List ℕ) → SoundIf l false
 sound_unknown l = record { is = λ z. no_way z refl }
 
+-- ---- what is left
+
+end_all : (s : List ℕ) → EndOf s s
+end_all s = let e : length s - length s ≡ 0 = omega arith in record { few = omega arith; is = rw e }
+
+end_less : (s rest : List ℕ) → EndOf s rest → (k : ℕ) → k ≤ length rest → EndOf s (drop k rest)
+end_less s rest p k h =
+    let n = length-drop k rest in
+    let e : length s - length rest + k ≡ length s - length (drop k rest) = omega (arith, n, p.few) in record {
+      few = omega (arith, n, p.few);
+      is = ap (drop k) p.is ∙ drop-drop k (length s - length rest) s ∙ ap (λ (i : ℕ). drop i s) e;
+    }
+
 -- ---- the scan
 
 pub record Scanning (s : List ℕ) (sum hits : ℕ) (rest : List ℕ) : Type 0 where
   pub left : 1 ≤ length rest
   pub tallies : Tallying s 0x3D 0x3D sum hits rest
+  pub part : EndOf s rest
   pub clean : flaw_of rest ≡ flaw_of s
+
+pub scan_start : (s : List ℕ) → 7 ≤ length s → Scanning s 0 0 s
+scan_start s h = record {
+  left = omega arith;
+  tallies = record { most = omega arith; small = omega arith; summed = omega arith; counted = omega arith };
+  part = end_all s;
+  clean = refl;
+}
 
 -- a part of k bytes, looked at with the byte after it
 front_part : (rest : List ℕ) (k : ℕ) → k < length rest → k < 256 → (t : Totals) → Tallied (take k rest) 0x3D 0x3D t → FrontPart (take (suc k) rest) t.hits
@@ -265,11 +287,13 @@ module _ (s : List ℕ) (sum hits : ℕ) (rest : List ℕ) (v : Scanning s sum h
       rw take_rest (record {
         left = omega (arith, length-drop 192 rest);
         tallies = tally_part s 0x3D 0x3D sum hits rest v.tallies (take 192 rest) (drop 192 rest) (sym (take-append-drop 192 rest)) t w sum' p;
+        part = end_less s rest v.part 192 (omega arith);
         clean = sym (clean_over rest 192 h (u.none z)) ∙ v.clean;
       })
 
   pub scan_broken : (y : Bool) → KeptIf (take 193 rest) y → y ≡ false → (r : Scanned) → r.rest.now ≡ rest → ScannedIs s r
   scan_broken y u z r e = record {
+    part = rw e v.part;
     clean = rw e v.clean;
     counts = λ f.
         let m : breaches (take 193 rest) ≡ 0 = sound_breaches rest 193 (v.clean ∙ f) in
@@ -286,4 +310,8 @@ module _ (s : List ℕ) (sum hits : ℕ) (rest : List ℕ) (v : Scanning s sum h
       → (r : Scanned) → r.sum ≡ (sum + t.sum) % 256 → r.hits ≡ hits + t.hits → r.rest.now ≡ take (length rest - length rest) (drop (length rest) rest) → ScannedIs s r
   scan_sound t w h y u z r p q e =
       let n : r.rest.now ≡ [] = e ∙ take_rest rest (length rest) ∙ drop_end rest (length rest) (omega arith) in
-      record { clean = rw n (none_flaw ∙ sym (u.is z)) ∙ v.clean; counts = λ x. last_part t w h r p q }
+      let m : r.rest.now ≡ drop (length rest) rest = e ∙ take_rest rest (length rest) in record {
+        part = rw m (end_less s rest v.part (length rest) (omega arith));
+        clean = rw n (none_flaw ∙ sym (u.is z)) ∙ v.clean;
+        counts = λ x. last_part t w h r p q;
+      }

@@ -1,5 +1,5 @@
 -- Where escaping is first broken, and what a first look at an escaped part tells.
-use Rattle.std.specs.Prelude.{◌≡◌, ℕ, ◌+◌, ◌-◌, ◌%◌, ◌≤◌, Bool, true, false, cond, List, [], ◌∷◌, length, take, ◌==◌, Result, Ok, Err}
+use Rattle.std.specs.Prelude.{◌≡◌, ℕ, ◌+◌, ◌-◌, ◌%◌, ◌≤◌, Bool, true, false, cond, List, [], ◌∷◌, length, take, drop, ◌==◌, Result, Ok, Err}
 use Rattle.mdr.specs.Sum.{total}
 use Rattle.mdr.specs.Escape.{escapee}
 use Rattle.mdr.specs.Escaping.{count_in}
@@ -57,6 +57,12 @@ pub record LastPart (l : List ℕ) (hits : ℕ) : Type 0 where
 pub record SoundIf (l : List ℕ) (sound : Bool) : Type 0 where
   pub is : sound ≡ true → flaw_of l ≡ Ok tt
 
+-- what is left of a list
+pub record EndOf (s rest : List ℕ) : Type 0 where
+  pub few : length rest ≤ length s
+  pub is : rest ≡ drop (length s - length rest) s
+
 pub record ScannedIs (s : List ℕ) (r : Scanned) : Type 0 where
+  pub part : EndOf s r.rest.now
   pub clean : flaw_of r.rest.now ≡ flaw_of s
   pub counts : flaw_of s ≡ Ok tt → Measured s r.sum r.hits

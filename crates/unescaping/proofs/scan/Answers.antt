@@ -1,6 +1,9 @@
-use Rattle.unescaping.proofs.Flaws.{part_long, scan_front, scan_kept, scan_broken, scan_fits, scan_sound}
+use Rattle.unescaping.proofs.Flaws.{scan_start, part_long, scan_front, scan_kept, scan_broken, scan_fits, scan_sound}
 use Rattle.std.proofs.Common.{sym, refl, arith}
 use Rattle.unescaping.proofs.scan.Goals as goal
+
+pub loop-rest-init : goal.loop-rest-init
+loop-rest-init c = search scan_start
 
 pub slice_bounds-tally_few-end : goal.slice_bounds-tally_few-end
 slice_bounds-tally_few-end c = sym (part_long _ c.loop-rest-test.true)
