@@ -3,24 +3,23 @@
 
 ghost use Rattle.std.specs.Prelude.{◌≡◌, true};
 
-use rerun::run;
+use rerun::{NO_CALL, run};
 use samples::{Case, UNTOUCHED, fill, is_answer};
 
 // Whether the call of a case answers what the case says, and leaves what it does not write. A case that does not lie in the
-// sample, or wants more space or work, is not the same.
+// sample, or wants more space, is not the same; one whose call is not run has the number NO_CALL, and writes nothing.
 pub fn is_same(case: Case, work: &mut [u8], space: &mut [u8]) -> bool
     ensures { result ≡ true → case.entry.whole ≡ true }
 {
     if !case.whole {
         return false;
     }
-    let Some(out) = space.get_mut(..case.answer.lent) else {
+    if space.len() < case.answer.lent {
         return false;
-    };
+    }
+    let out = &mut space[..case.answer.lent];
     fill(out);
     let mut values = [UNTOUCHED; 12];
-    match run(case.call, work, out, &mut values) {
-        Some(number) => is_answer(case.answer, number, &values, out),
-        None => false,
-    }
+    let number = run(case.call, work, out, &mut values).unwrap_or(NO_CALL);
+    is_answer(case.answer, number, &values, out)
 }

@@ -5,6 +5,9 @@ ghost use Rattle.std.specs.Prelude.{None, ◌≡◌};
 
 use samples::{Call, Op, byte, long, word};
 
+// The number of a case whose call is not run: no call returns it.
+pub const NO_CALL: u32 = 4294967295;
+
 // The work that the import of a file is lent: 8 times the file's length, with what earlier cases left in it, for no answer
 // depends on that.
 fn lend<'a>(work: &'a mut [u8], file: &[u8]) -> Option<&'a mut [u8]> {

@@ -276,8 +276,8 @@ fn untouched(i: usize) -> u8
 pub fn fill(out: &mut [u8])
     ensures { Fresh out.new }
 {
-    for (i, b) in out.iter_mut().enumerate() {
-        *b = untouched(i);
+    for i in 0..out.len() {
+        out[i] = untouched(i);
     }
 }
 
@@ -297,10 +297,12 @@ fn has_values(given: &[u8], values: &[u64]) -> bool {
 fn is_untouched(out: &[u8], from: usize) -> bool
     ensures { result ≡ true → Untouched from out.now }
 {
-    out.iter()
-        .enumerate()
-        .skip(from)
-        .all(|(i, &b)| b == untouched(i))
+    for i in from..out.len() {
+        if out[i] != untouched(i) {
+            return false;
+        }
+    }
+    true
 }
 
 // Whether the output starts with the bytes written, and the rest of it is untouched.
