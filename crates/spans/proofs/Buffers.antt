@@ -1,12 +1,12 @@
 -- The next span of a buffer, and the loops that count and write spans.
 use Rattle.std.specs.Prelude.{Option, Some, None}
 use Rattle.std.specs.Borrow.{Bor}
-use Prim.Native.Nat.{ℕ, suc, ◌+◌, ◌*◌, ◌<◌, ◌≤◌}
+use Prim.Native.Nat.{ℕ, suc, ◌+◌, ◌-◌, ◌*◌, ◌<◌, ◌≤◌}
 use mathlib.Core.Path.{◌≡◌, refl, sym, ap, ◌∙◌}
 use mathlib.Core.Bool.{true, false}
 use mathlib.Core.List.{List, ◌++◌}
 use native.Mathlib.Omega.{arith}
-use lib.ListN.{length, take, drop, length-drop}
+use lib.ListN.{length, take, drop, length-drop, take-append-drop}
 use lib.Seq.{length-take-le}
 use borrow.Author.Tests.{lt-ltb, le-ltb}
 use Rattle.laws.specs.Stores.{Writes, Emitting}
@@ -30,6 +30,9 @@ module _ (b c : List ℕ) (s e : ℕ) (p : Sought b 0x3E s) (k : c ≡ drop s b)
   within : length c ≤ length b
   within = omega (arith, ap length k, length-drop s b)
 
+  last : (n : ℕ) → n ≡ length c → c ≡ drop (length b - n) b
+  last n i = k ∙ ap (λ z. drop z b) (omega (arith, ap length k, length-drop s b, p.most))
+
   span_is : e < length c → SpanAt b (take (e + 1) c) (drop (e + 1) c)
   span_is h =
       let t : ended c ≡ true = lt-ltb (seek 0x3C c) (length c) (omega (arith, q.at)) in
@@ -40,13 +43,14 @@ module _ (b c : List ℕ) (s e : ℕ) (p : Sought b 0x3E s) (k : c ≡ drop s b)
         rest = rw (rest_more b u) (rw (← begins, z));
         some = omega (arith, length-take-le (e + 1) c (omega arith));
         fits = omega (arith, within, length-take-le (e + 1) c (omega arith), length-drop (e + 1) c);
+        stands = take-append-drop (e + 1) c ∙ last (length (take (e + 1) c) + length (drop (e + 1) c)) (omega (arith, length-take-le (e + 1) c (omega arith), length-drop (e + 1) c));
       }
 
   rest_is : e ≡ length c → RestAt b c
   rest_is h =
       let t : ended c ≡ false = le-ltb (seek 0x3C c) (length c) (omega (arith, q.at)) in
       let u : ended (begun b) ≡ false = rw begins at t in
-      record { spans = spans_none b u; rest = rest_none b u ∙ sym begins; fits = within }
+      record { spans = spans_none b u; rest = rest_none b u ∙ sym begins; fits = within; stands = last (length c) refl }
 
   pub next_is_span : (e ≡ length c → ⊥) → (w : Bor (List ℕ)) → w.now ≡ take (e + 1) c → (f : List ℕ) → f ≡ drop (e + 1) c → NextIs b (Some w) f
   unfolding After

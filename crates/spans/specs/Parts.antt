@@ -1,5 +1,5 @@
 -- What the functions over one buffer promise.
-use Rattle.std.specs.Prelude.{Option, Some, None, ℕ, ◌+◌, ◌*◌, ◌<◌, ◌≤◌, ◌≡◌, Bool, cond, eqb, List, [], ◌∷◌, map, length}
+use Rattle.std.specs.Prelude.{Option, Some, None, ℕ, ◌+◌, ◌-◌, ◌*◌, ◌<◌, ◌≤◌, ◌≡◌, Bool, cond, eqb, List, [], ◌∷◌, ◌++◌, map, length, drop}
 use Rattle.std.specs.Borrow.{Bor}
 use Rattle.laws.specs.Stores.{Writes}
 use Rattle.items.specs.Items.{Span, span_list}
@@ -9,18 +9,20 @@ use Rattle.spans.specs.declared.Tally.{Tally}
 use Rattle.spans.specs.declared.Counted.{Counted}
 use Rattle.spans.specs.declared.Wrote.{Wrote}
 
--- ---- the walk: a buffer b, the next span and what is then to be looked at
+-- ---- the walk: a buffer b, the next span, which stands in b, and what is then to be looked at: all that stands behind it
 
 pub record SpanAt (b w e : List ℕ) : Type 0 where
   pub spans : spans_of b ≡ w ∷ spans_of e
   pub rest : rest_of b ≡ rest_of e
   pub some : 0 < length w
   pub fits : length w + length e ≤ length b
+  pub stands : w ++ e ≡ drop (length b - (length w + length e)) b
 
 pub record RestAt (b e : List ℕ) : Type 0 where
   pub spans : spans_of b ≡ []
   pub rest : rest_of b ≡ e
   pub fits : length e ≤ length b
+  pub stands : e ≡ drop (length b - length e) b
 
 unfoldable pub After : List ℕ → Option (Bor (List ℕ)) → List ℕ → Type 0
 After b (Some w) e = SpanAt b w.now e
