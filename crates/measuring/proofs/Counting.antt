@@ -1,14 +1,14 @@
 -- The walk that counts.
 use Prim.Native.Nat.{ℕ, ◌+◌, ◌-◌, ◌*◌, ◌<◌, ◌≤◌}
 use mathlib.Core.Path.{◌≡◌, refl, sym, ap, ◌∙◌, fun_ext}
-use mathlib.Core.Bool.{Bool, true, ◌||◌}
+use mathlib.Core.Bool.{Bool, true, cond}
 use mathlib.Core.List.{List, [], ◌∷◌, ◌++◌, append-nil, append_assoc, map}
 use native.Mathlib.Omega.{arith}
 use native.Mathlib.Numerals.{add-one}
 use native.Mathlib.Nat.{zero-add, add-zero}
 use lib.ListN.{length, take, drop, length-append}
-use lib.Dec.{ltb}
-use borrow.Author.Tests.{eq-eqb, ne_eqb, lt-ltb, ltb-true}
+use lib.Dec.{eqb, ltb}
+use borrow.Author.Tests.{eq-eqb, ne_eqb, ltb-true}
 use Rattle.laws.proofs.Choice.{split_b, split≡, no_way}
 use Rattle.laws.specs.Keyed.{step, run, after}
 use Rattle.laws.specs.Count.{nub}
@@ -23,7 +23,7 @@ use Rattle.spans.specs.Scan.{spans_of, rest_of}
 use Rattle.search.specs.Seek.{seek}
 use Rattle.search.proofs.Searching.{seek_le}
 use Rattle.spans.specs.Spans.{scanner, emptied, spans, unfinished}
-use Rattle.spans.specs.Parts.{tagged, tally_one, tally_all, Room, CountedIs}
+use Rattle.spans.specs.Parts.{tagged, bit, tally_one, tally_all, Room, CountedIs}
 use Rattle.spans.specs.Bytewise.{AllQuiet}
 use Rattle.spans.proofs.Bytewise.{quiet_emptied}
 use Rattle.spans.specs.Scans.{ScanPre, ScannedIs}
@@ -71,14 +71,14 @@ unfolding tally_spans tally_one
 tally_bytes t [] = rw spans_none (omega arith)
 tally_bytes t (s ∷ ss) = tally_bytes (tally_one t s.wire) ss ∙ rw (spans_more s ss) (omega (arith, length-append (span_item s) (span_list ss), length_span s))
 
-tally_frame : (t : Tally) (ss : List Span) → ltb 0 (tally_spans t ss).frames ≡ (ltb 0 t.frames || any (λ s. unpacks_of s.wire) ss)
+tally_frame : (t : Tally) (ss : List Span) → (tally_spans t ss).frames ≡ cond (eqb t.frames 0) (bit (any (λ s. unpacks_of s.wire) ss)) t.frames
 unfolding tally_spans tally_one any
-tally_frame t [] = split_b (ltb 0 t.frames) (λ e. rw e) (λ e. rw e)
+tally_frame t [] = split≡ t.frames 0 (λ e. rw (eq-eqb t.frames 0 e) e) (λ e. rw (ne_eqb t.frames 0 e))
 tally_frame t (s ∷ ss) =
     tally_frame (tally_one t s.wire) ss
     ∙ split≡ t.frames 0
-    (λ e. rw (eq-eqb t.frames 0 e) (rw e (split_b (unpacks_of s.wire) (λ g. rw g) (λ g. rw g))))
-    (λ e. rw (ne_eqb t.frames 0 e) (rw (lt-ltb 0 t.frames (omega arith))))
+    (λ e. rw (eq-eqb t.frames 0 e) (split_b (unpacks_of s.wire) (λ g. rw g) (λ g. rw g)))
+    (λ e. rw (ne_eqb t.frames 0 e) (rw (ne_eqb t.frames 0 e)))
 
 -- ---- a piece
 
@@ -385,7 +385,7 @@ module _ (f w₀ : List ℕ) (p : Plan) (w : List ℕ) (i : ℕ) (s : Sums) (v :
         record {
           count = ap (λ (x : Tally). x.count) t ∙ tally_count nothing (spans (all f w₀ p)) ∙ omega arith;
           bytes = ap (λ (x : Tally). x.bytes) t ∙ tally_bytes nothing (spans (all f w₀ p)) ∙ omega arith;
-          frame = ap (λ (x : Tally). ltb 0 x.frames) t ∙ tally_frame nothing (spans (all f w₀ p));
+          frame = ap (λ (x : Tally). x.frames) t ∙ tally_frame nothing (spans (all f w₀ p));
           live = v.sums.live ∙ held_end sign ∙ sym (count_total (λ k. ltb 0 (length (after scanner emptied (all f w₀ p) k))) (nub (map (λ x. x.key) (all f w₀ p))));
           takes = sym (add-zero s.taken) ∙ rw none at v.takes;
           clears = sym (add-zero s.cleared) ∙ rw none at v.clears;

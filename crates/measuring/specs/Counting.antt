@@ -12,7 +12,7 @@ use Rattle.spans.specs.Scan.{spans_of, rest_of}
 use Rattle.search.specs.Seek.{seek}
 use Rattle.spans.specs.Spans.{spans, unfinished}
 use Rattle.spans.specs.Account.{cleared_of, cleared, left, taken_in}
-use Rattle.spans.specs.Parts.{tally_all, Room}
+use Rattle.spans.specs.Parts.{bit, tally_all, Room}
 use Rattle.spans.specs.Bytewise.{Quiet, AllQuiet}
 use Rattle.spans.specs.declared.Tally.{Tally}
 use Rattle.spans.specs.declared.Scanned.{Scanned}
@@ -128,7 +128,7 @@ pub record Stepped (f w : List ℕ) (p : Plan) (i : ℕ) (s : Sums) (u : List �
 pub record CountIs (f w : List ℕ) (p : Plan) (u : List ℕ) (r : Sums) : Type 0 where
   pub count : r.tally.count ≡ length (spans (all f w p))
   pub bytes : r.tally.bytes ≡ length (span_list (spans (all f w p)))
-  pub frame : ltb 0 r.tally.frames ≡ any (λ s. unpacks_of s.wire) (spans (all f w p))
+  pub frame : r.tally.frames ≡ bit (any (λ s. unpacks_of s.wire) (spans (all f w p)))
   pub live : r.unfinished ≡ unfinished (all f w p)
   pub takes : r.taken ≡ taken_in (all f w p)
   pub clears : r.cleared ≡ cleared (all f w p)

@@ -17,6 +17,7 @@ use Rattle.words.proofs.Front.{front_refl, front_then, front_word}
 use Rattle.rfcomm.specs.Pieces.{Piece}
 use Rattle.rfcomm.specs.PieceTable.{piece_at, pieces_from, Within}
 use Rattle.rfcomm.proofs.PieceRows.{pieces_front}
+use Rattle.spans.specs.Parts.{bit}
 use Rattle.spans.specs.Spans.{on_dlci}
 use Rattle.split.specs.Rows.{all, tail_at, key_at, Linked, Laid}
 use Rattle.split.proofs.Fronts.{laid_front}
@@ -102,6 +103,11 @@ untried zero e = refl
 untried (suc n) zero = refl
 untried (suc n) (suc e) = untried n e
 
+-- a bit is over 0 where it says yes
+ltb_bit : (b : Bool) → ltb 0 (bit b) ≡ b
+ltb_bit true = refl
+ltb_bit false = refl
+
 pub choosing_start : (f w : List ℕ) (n : ℕ) (channel : Channel) → Choosing f w n channel w (replicate {0} {A = Bool} 64 false) 0
 unfolding chosen
 choosing_start f w n channel =
@@ -154,9 +160,12 @@ module _ (f w₀ : List ℕ) (n : ℕ) (channel : Channel) (w : List ℕ) (tried
           choosing_laid = laid_later f w₀ n t w v.front v.long p d ep
 
           module _ (u : List ℕ) (s : Sums) (c : CountIs f w p u s) where
-            has_is : ltb 0 s.tally.frames ≡ has_frame (table_pieces f w₀ n) d
+            has_bit : s.tally.frames ≡ bit (has_frame (table_pieces f w₀ n) d)
             unfolding has_frame
-            has_is = rw (all_same f w₀ n t w v.front p d ep) at c.frame
+            has_bit = rw (all_same f w₀ n t w v.front p d ep) at c.frame
+
+            has_is : ltb 0 s.tally.frames ≡ has_frame (table_pieces f w₀ n) d
+            has_is = ap (ltb 0) has_bit ∙ ltb_bit (has_frame (table_pieces f w₀ n) d)
 
             has_not : s.tally.frames ≤ 0 → has_frame (table_pieces f w₀ n) d ≡ false
             has_not g = sym has_is ∙ le-ltb 0 s.tally.frames g
