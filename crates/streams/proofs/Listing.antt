@@ -8,7 +8,7 @@ use lib.ListN.{length}
 use Rattle.laws.specs.Answers.{gives, refuses}
 use Rattle.laws.specs.Stores.{Writes}
 use Rattle.words.specs.Front.{Front}
-use Rattle.words.proofs.Front.{front_refl, front_less}
+use Rattle.words.proofs.Front.{front_refl, front_then, front_less}
 use Rattle.items.specs.Items.{span_list}
 use Rattle.rfcomm.specs.Pieces.{Piece}
 use Rattle.rfcomm.specs.PieceTable.{infos_of}
@@ -76,7 +76,7 @@ module _ (f w : List ℕ) (n : ℕ) (t : Ready f w n) (channel : Channel) (u : L
   }
 
   chooses_stream : ChoosesStream f w n channel u c
-  chooses_stream = record { chooses = q.chooses; left = leaves; small = q.small }
+  chooses_stream = record { chooses = q.chooses; front = front_less (24 * (length f / 4)) (below f n) u w (omega arith) q.front; left = leaves; small = q.small }
 
 -- ---- the list written
 
@@ -136,10 +136,10 @@ module _ (f w : List ℕ) (n : ℕ) (t : Tabled f w n) (p : Plan) (ep : p ≡ pl
         }
 
     pub link_chooses : length u ≡ length w → (channel : Channel) (v : List ℕ) (c : Choice) → Chooses f u n channel v c → length v ≡ length u → ChoosesStream f w n channel v c
-    link_chooses e channel v c q k = let y = chooses_stream f u n (link_ready e) channel v c q k in record { chooses = rw same at y.chooses; left = rw same at y.left; small = y.small }
+    link_chooses e channel v c q k = let y = chooses_stream f u n (link_ready e) channel v c q k in record { chooses = rw same at y.chooses; front = front_then (24 * (length f / 4)) v u w y.front front; left = rw same at y.left; small = y.small }
 
     pub link_counts : (d : ℕ) (v : List ℕ) (x : Stream) → CountsStream f u n d v x → CountsStream f w n d v x
-    link_counts d v x y = record { counts = rw same at y.counts; pieces = rw same at y.pieces; kept = y.kept }
+    link_counts d v x y = record { counts = rw same at y.counts; pieces = rw same at y.pieces; front = front_then (24 * (length f / 4)) v u w y.front front; kept = y.kept }
 
 -- ---- those of a DLCI counted then
 
@@ -158,6 +158,7 @@ module _ (f w : List ℕ) (n : ℕ) (r : Ready f w n) (d : ℕ) (small : d < 256
         record {
           counts = e ∙ stream_summed_law f w p u s c (table_pieces f w n) d (all_same f w n r w (front_refl (below f n) w) p d ep);
           pieces = all_same f w n r u g (plan_of (length f / 4) n d) d refl;
+          front = front_less (24 * (length f / 4)) (below f n) u w (omega arith) g;
           kept = record {
             laid = laid_later f w n r u g k (plan_of (length f / 4) n d) d refl;
             told = rw ep at c.told;

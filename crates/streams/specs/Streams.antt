@@ -109,6 +109,7 @@ pub record Leaves (f : List ℕ) (ps : List Piece) (channel : Option ℕ) (n : �
 -- the choice by the definition; where a DLCI is chosen, work has what its list is written by
 pub record ChoosesStream (f w : List ℕ) (n : ℕ) (channel : Channel) (u : List ℕ) (r : Choice) : Type 0 where
   pub chooses : r ≡ choice_of (table_pieces f w n) (chosen (channel_of channel) (table_pieces f w n))
+  pub front : Front (24 * (length f / 4)) u w
   pub left : (s : Stream) → r ≡ Some s → Leaves f (table_pieces f w n) (channel_of channel) n u s.dlci
   pub small : (s : Stream) → r ≡ Some s → s.dlci < 64
 
@@ -118,6 +119,7 @@ pub record ChoosesStream (f w : List ℕ) (n : ℕ) (channel : Channel) (u : Lis
 pub record CountsStream (f w : List ℕ) (n d : ℕ) (u : List ℕ) (r : Stream) : Type 0 where
   pub counts : r ≡ stream_of (table_pieces f w n) d
   pub pieces : all f u (plan_of (length f / 4) n d) ≡ on_dlci d (table_pieces f w n)
+  pub front : Front (24 * (length f / 4)) u w
   pub kept : Kept f u n d
 
 -- ---- the list

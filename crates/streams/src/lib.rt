@@ -72,7 +72,7 @@ fn stream_of(dlci: u32, s: Sums) -> Stream
 }
 
 // The first DLCI seen, on the channel, that has a span which unpacks.
-fn choose_dlci(file: &[u8], w: &mut [u8], n: usize, channel: Option<u8>) -> Option<Stream>
+pub fn choose_dlci(file: &[u8], w: &mut [u8], n: usize, channel: Option<u8>) -> Option<Stream>
     requires { Ready file.now w.old n }
     ensures { Chooses file.now w.old n channel w.new result }
 {
