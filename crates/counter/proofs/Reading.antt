@@ -1,22 +1,19 @@
 -- Laws of the functions that read a name's counter.
 use Rattle.std.specs.Prelude.{Option, Some, None}
 use Rattle.std.specs.Option.{MatchOption}
-use mathlib.Core.Path.{◌≡◌, refl, sym, ap, ◌∙◌}
+use mathlib.Core.Path.{◌≡◌, refl, sym, ◌∙◌}
 use mathlib.Core.Logic.{◌≢◌}
-use mathlib.Core.Bool.{Bool, true, false}
+use mathlib.Core.Bool.{true, false}
 use mathlib.Core.List.{List, [], ◌∷◌}
 use Prim.Native.Nat.{ℕ, suc, ◌+◌, ◌-◌, ◌*◌, ◌<◌, ◌≤◌}
 use native.Mathlib.Omega.{arith}
 use lib.Dec.{eqb}
 use denote.Bor.{Bor}
 use lib.Pointwise.{pointwise}
-use lib.ListN.{length, get_or, take, drop, length-take}
-use lib.Seq.{drop-cons, get_or-take}
+use lib.ListN.{length, get_or, take, drop}
 use borrow.Author.Tests.{eq-eqb, ne_eqb, le-leb, lt-leb}
 use Rattle.laws.proofs.Choice.{split_b, split≡, split≤}
 use Rattle.laws.specs.Keys.{eq_k}
-use Rattle.laws.proofs.Keys.{eq_k_true, eq_eq_k, ne_eq_k}
-use Rattle.laws.specs.Numbers.{le32}
 use Rattle.laws.proofs.Lists.{drop_step, drop_end}
 use Rattle.search.specs.Seek.{seek}
 use Rattle.search.specs.Steps.{Sought}
@@ -151,6 +148,17 @@ module _ (s : List ℕ) (r : Option (Bor (List ℕ)))
   pub marked : (x : Bor (List ℕ)) → r ≡ Some x → within (signed (to_hyphen (after_hyphen x.now))) ≡ counter s
   unfolding counter mark
   marked x e = let k = (rw e at m) in rw (k.1, sym (same_bytes (take 11 s) mark) ∙ k.0)
+
+-- a name that does not begin as the mark does
+pub counter_empty : (s : List ℕ) → length s < 1 → None ≡ counter s
+unfolding counter mark eq_k
+counter_empty [] h = refl
+counter_empty (x ∷ s) h = absurd (omega arith)
+
+pub counter_other : (s : List ℕ) → get_or s 0 0 ≢ 109 → None ≡ counter s
+unfolding counter mark eq_k
+counter_other [] n = refl
+counter_other (x ∷ s) n = rw (ne_eqb x 109 n)
 
 within_most : (c : Option ℕ) → rank (within c) ≤ 4294967296
 unfolding within rank

@@ -58,6 +58,10 @@ fn read_signed(s: &[u8]) -> Option<u32>
 fn counter_of(name: &[u8]) -> Option<u32>
     ensures { result ≡ counter name.now }
 {
+    // The prefix is compared byte by byte: a name that begins otherwise, as most without a counter do, is known by its first.
+    let [b'm', ..] = name else {
+        return None;
+    };
     let rest = name.strip_prefix(b"mdr-packet-")?;
     read_signed(after_hyphen(rest))
 }
