@@ -130,16 +130,11 @@ pub fn name_len(n: Name) -> usize
 }
 
 // Writes a part at a place, and returns the place after it.
-// Stays: words::copy_to tells copies of up to three bytes apart, which few parts are; with it a frame's name takes 52 to 91 instructions
-// more.
 fn put_part(out: &mut [u8], at: usize, p: usize) -> usize
     requires { (p < 63) × (at + length (part_at p) ≤ length out.old) }
     ensures { Writes out.old at (part_at p) result out.new }
 {
-    let part = part(p);
-    let end = at + part.len();
-    out[at..end].copy_from_slice(part);
-    end
+    words::copy_to(part(p), out, at)
 }
 
 // The number of the ending that has no letters.
