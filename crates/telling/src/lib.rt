@@ -20,8 +20,8 @@ use trace::{Refusal, Walked};
 
 // Stores the numbers of a list at the front of values, as many as there is room for. Inlined, so that a few values that fit are
 // stored one by one: how many there are is known where an answer is told.
-// Stays: a branch where they fit, in which the list's length is the copy's. With the lesser of both lengths, which no caller knows before it runs,
-// one copy would be no plainer: both slices would be cut to it.
+// Stays: a branch where they fit, in which the list's length is the copy's. Where they do not, a loop: `copy_from_slice` of a length that is not
+// known is a call of the C library, which a C program that links this one may not have.
 #[inline(always)]
 pub fn store(values: &mut [u64], list: &[u64])
     ensures { values.new ≡ stored list.now values.old }
@@ -32,7 +32,9 @@ pub fn store(values: &mut [u64], list: &[u64])
         values[..n].copy_from_slice(list);
         return;
     }
-    values.copy_from_slice(&list[..room]);
+    for i in 0..room {
+        values[i] = list[i];
+    }
 }
 
 // Stores the values of an answer, and returns its number.
