@@ -237,7 +237,7 @@ fn take_pdus(file: &[u8], w: &mut [u8], made: usize, rows: usize, fcs: bool) -> 
 }
 
 // Reads the pieces of all PDUs into their table, with FCS checked or not.
-fn read_pieces(file: &[u8], w: &mut [u8], made: usize, rows: usize, fcs: bool) -> Gathered
+pub fn read_pieces(file: &[u8], w: &mut [u8], made: usize, rows: usize, fcs: bool) -> Gathered
     requires { PiecesPre file.now w.old made rows }
     ensures { ReadPieces fcs file.now w.old made w.new result }
 {
