@@ -3,8 +3,9 @@ use mathlib.Core.Path.{◌≡◌, refl}
 use mathlib.Core.List.{List, [], ◌∷◌}
 use Prim.Native.Nat.{ℕ, zero, suc, ◌+◌, ◌-◌, ◌/◌, ◌%◌, ◌<◌, ◌≤◌}
 use native.Mathlib.Omega.{arith}
-use lib.ListN.{set}
+use lib.ListN.{length, get_or, set, drop}
 use Rattle.laws.specs.Numbers.{le}
+use Rattle.laws.proofs.Lists.{drop_step, drop_end}
 use Rattle.laws.specs.Stores.{Writes, Emitting}
 use Rattle.laws.proofs.Stores.{emit_start, emit_turn, emit_end}
 use Rattle.words.specs.Copies.{Numbering}
@@ -12,6 +13,18 @@ use Rattle.words.specs.Copies.{Numbering}
 -- one store of a loop that writes
 pub emit_one : (out₀ : List ℕ) (at₀ : ℕ) (all out : List ℕ) (at b : ℕ) (rest rest' : List ℕ) → Emitting out₀ at₀ all out at rest → rest ≡ b ∷ rest' → Emitting out₀ at₀ all (set out at b) (at + 1) rest'
 emit_one out₀ at₀ all out at b rest rest' s e = emit_turn out₀ at₀ all out at rest s (b ∷ []) rest' (at + 1) (set out at b) e (record { next = refl; writes = refl })
+
+-- a slice, byte by byte
+module _ (src out₀ : List ℕ) (at : ℕ) (out : List ℕ) (i : ℕ) (s : Emitting out₀ at src out (at + i) (drop i src)) where
+  pub few_turn : i < length src → Emitting out₀ at src (set out (at + i) (get_or src i 0)) (at + (i + 1)) (drop (i + 1) src)
+  few_turn h =
+      let n : at + i + 1 ≡ at + (i + 1) = omega arith in
+      rw n at (emit_one out₀ at src out (at + i) (get_or src i 0) (drop i src) (drop (i + 1) src) s (drop_step src i h))
+
+  pub few_end : length src ≤ i → i ≤ length src → Writes out₀ at src (at + length src) out
+  few_end h g =
+      let z : i ≡ length src = omega arith in
+      rw z at (emit_end out₀ at src out (at + i) (drop i src) s (drop_end src i h))
 
 pub numbering_start : (v width : ℕ) (out : List ℕ) (at : ℕ) → Numbering v width out at out (at + 0) v
 numbering_start v width out at =

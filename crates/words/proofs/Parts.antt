@@ -1,13 +1,16 @@
 -- A list copied by parts, which may overlap.
-use mathlib.Core.Path.{◌≡◌, refl, sym, ◌∙◌}
+use mathlib.Core.Path.{◌≡◌, refl, sym, ap, ◌∙◌}
 use mathlib.Core.List.{List, [], ◌∷◌}
 use mathlib.Core.Logic.{inl, inr, ⊎_elim}
 use Prim.Native.Nat.{ℕ, zero, suc, ◌+◌, ◌-◌, ◌*◌, ◌<◌, ◌≤◌}
 use native.Mathlib.Omega.{arith}
 use native.Mathlib.Nat.{add-zero}
-use lib.ListN.{length, get_or, set, length-set}
-use lib.Seq.{sets, length-sets, get_or-set_same, get_or-set_other, ext_get_or}
-use Rattle.laws.proofs.Choice.{split≡, split≤}
+use lib.ListN.{length, get_or, set, take, drop, length-set}
+use lib.Seq.{sets, length-sets, get_or-set_same, get_or-set_other, ext_get_or, get_or-take}
+use Rattle.std.proofs.lemmas.List.{get_or-drop, length-drop, length-take-le}
+use borrow.Rule.Slice.PartMut.{put_mid}
+use Rattle.laws.proofs.Stores.{copied, writes_long}
+use Rattle.laws.proofs.Choice.{split≤}
 use Rattle.laws.specs.Stores.{Writes}
 use Rattle.words.specs.Copies.{PartPre, Part}
 
@@ -29,41 +32,22 @@ sets_in (v ∷ vs) d at (suc k) r h =
     let l : length (set d at v) ≡ length d = length-set d at v in
     rw e (sets_in vs (set d at v) (suc at) k (omega arith) (omega arith))
 
--- ---- one part, of which i bytes are done
-
-pub record Copying (s : List ℕ) (start n : ℕ) (d : List ℕ) (to : ℕ) (e : List ℕ) (i : ℕ) : Type 0 where
-  pub within : i ≤ n
-  pub done : Part s start i d to e
+-- ---- one part
 
 part_none : (s : List ℕ) (start : ℕ) (d : List ℕ) (to : ℕ) → Part s start 0 d to d
 part_none s start d to = record { long = refl; here = λ k h. absurd (omega arith); apart = λ k h. refl }
 
-pub copying_start : (s : List ℕ) (start n : ℕ) (d : List ℕ) (to : ℕ) → Copying s start n d to d 0
-copying_start s start n d to = record { within = omega arith; done = part_none s start d to }
-
-module _ (s : List ℕ) (start n : ℕ) (d : List ℕ) (to : ℕ) (p : PartPre s start n d to) (e : List ℕ) (i : ℕ) (v : Copying s start n d to e i) where
-  c : Part s start i d to e
-  c = v.done
-
-  pub copying_room : i < n → to + i < length e
-  copying_room l = omega (arith, p.room, c.long)
-
-  pub copying_turn : i < n → Copying s start n d to (set e (to + i) (get_or s (start + i) 0)) (i + 1)
-  copying_turn l = record {
-    within = omega arith;
-    done = record {
-      long = length-set e (to + i) (get_or s (start + i) 0) ∙ c.long;
-      here = λ k h. split≡ k i
-          (λ q. rw q (get_or-set_same e (to + i) (get_or s (start + i) 0) 0 (copying_room l)))
-          (λ q. get_or-set_other e (to + i) (to + k) (get_or s (start + i) 0) 0 (λ z. q (omega arith)) ∙ c.here k (before k h q));
-      apart = λ k h. get_or-set_other e (to + i) k (get_or s (start + i) 0) 0 (λ z. ⊎_elim (λ a. omega arith) (λ a. omega arith) h) ∙ c.apart k (⊎_elim (λ a. inl a) (λ a. inr (omega arith)) h);
-    };
-  } where
-    before : (k : ℕ) → k < i + 1 → (k ≡ i → ⊥) → k < i
-    before k h q = split≤ i k (λ a. absurd (q (omega arith))) (λ a. a)
-
-  pub copying_end : n ≤ i → Part s start n d to e
-  copying_end h = let z : i ≡ n = omega (arith, v.within) in rw z at c
+pub part_copied : (s : List ℕ) (start n : ℕ) (d : List ℕ) (to : ℕ) → PartPre s start n d to → (p : List ℕ) → p ≡ take (start + n - start) (drop start s) → Part s start n d to (put_mid to (to + n - to) d p)
+part_copied s start n d to q p e =
+    let k : start + n - start ≡ n = omega arith in
+    let f : p ≡ take n (drop start s) = rw k at e in
+    let l : length p ≡ n = rw f (length-take-le n (drop start s) (omega (arith, q.source, length-drop start s))) in
+    let w : Writes d to p (to + n) (put_mid to (to + n - to) d p) = rw l at (copied d p to (omega (arith, q.room))) in
+    record {
+      long = writes_long d to p (to + n) (put_mid to (to + n - to) d p) w;
+      here = λ k h. rw w.writes (sets_in p d to k (omega (arith, q.room)) (omega arith) ∙ ap (λ (x : List ℕ). get_or x k 0) f ∙ get_or-take n (drop start s) k 0 h ∙ get_or-drop start s k 0);
+      apart = λ k h. rw w.writes (⊎_elim (λ a. sets_below p d to k a) (λ a. sets_behind p d to k (omega arith)) h);
+    }
 
 -- ---- part after part
 

@@ -6,6 +6,3 @@ returns-then-n-lt16 c = search all_parts
 
 pub returns-then-n-lt48 : goal.returns-then-n-lt48
 returns-then-n-lt48 c = search all_parts
-
-pub returns : goal.returns
-returns c = search all_parts
