@@ -21,7 +21,7 @@ use trace::{Refusal, Walked};
 // Stores the numbers of a list at the front of values, as many as there is room for. Inlined, so that a few values that fit are
 // stored one by one: how many there are is known where an answer is told.
 // Stays: a branch where they fit, in which the list's length is the copy's. Where they do not, a loop: `copy_from_slice` of a length that is not
-// known is a call of the C library, which a C program that links this one may not have.
+// known is a call of `memmove`, and a C program that links the library without a C library has none. Of the loop at most a `memcpy` is made.
 #[inline(always)]
 pub fn store(values: &mut [u64], list: &[u64])
     ensures { values.new ≡ stored list.now values.old }
