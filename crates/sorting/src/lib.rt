@@ -48,7 +48,8 @@ pub fn head_of(names: &[u8], place: u32) -> Head
     }
 }
 
-// Whether the name a comes before b, or equals it.
+// Whether the name a comes before b, or equals it. Not inlined: in a step of the merge it takes half a kilobyte of stack more, and time.
+#[inline(never)]
 pub fn is_first(names: &[u8], a: Head, b: Head) -> bool
     ensures { result ≡ first_of names.now a b }
 {
