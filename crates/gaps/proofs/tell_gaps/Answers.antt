@@ -1,0 +1,5 @@
+use borrow.Author.Rules.{rules}
+use Rattle.gaps.proofs.tell_gaps.Goals as goal
+
+pub returns : goal.returns
+returns c = search rules
