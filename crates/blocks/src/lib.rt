@@ -109,6 +109,8 @@ pub fn checksum(bytes: &[u8]) -> u8
 // Stays: a slice of 16, here and in packing, and of 32 in unescaping. first_chunk gives an Option and try_into a Result: unescaping::fill_block and
 // packing::escape_mixed know of the bytes, and would have a case that cannot come. packing::escape_at asks for 16 first, and goes on over the rest
 // by as many as were used, 16 or more, so that the tail of split_first_chunk would serve one of its two ways.
+// Inlined always: where the length is known, a copy is one move.
+#[inline(always)]
 pub fn copy_block(part: &[u8], out: &mut [u8], at: usize) -> usize
     requires part_len { length part.now ≡ 16 }
     requires at_in_bounds { at + 16 ≤ length out.old }
